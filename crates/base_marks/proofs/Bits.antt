@@ -5,18 +5,10 @@
 --     bit-some                a word with a bit is not 0
 --     trailing-in, trailing-before     the lowest bit that is set
 --     power                   the shift loses nothing
--- Assumes nothing.
-use mathlib.Core.Path.{_≡_, refl, ap, _∙_}
-use mathlib.Core.Bool.{Bool, true, false, not}
-use Prim.Native.Nat.{ℕ, zero, suc, _+_, _*_, _/_, _%_, _^_, _<_, max}
-use native.Mathlib.Nat.{pow-suc}
-use native.Mathlib.Omega.{arith}
-use lib.Bits.{bitOr, bitXor, or-step, xor-step, differ, or-zero-r, xor-zero-r, or-lt, xor-lt}
-use lib.Count.{trailingZeros, under}
-use lib.Dec.{eqb}
-use lib.Pow.{pow-lt, shl-exact}
-use borrow.Author.Tests.{eq-eqb, ne-eqb}
-use Rattle.model.specs.Base.{bit}
+use Rattle.base.specs.{_≡_, refl, ap, _∙_, Bool, true, false, not, ℕ, zero, suc, _+_, _*_, _/_, _%_, _^_, _<_, max, pow-suc, arith, bitOr}
+use Rattle.base.specs.{bitXor, or-step, xor-step, differ, or-zero-r, xor-zero-r, or-lt, xor-lt, trailingZeros, under, eqb, pow-lt}
+use Rattle.base.specs.{shl-exact, eq-eqb, ne-eqb}
+use Rattle.model.specs.{bit}
 
 pub power : (j : ℕ) → j < 64 → 1 * 2 ^ j % 2 ^ 64 ≡ 2 ^ j
 power j h = shl-exact 1 j 64 (omega arith) (omega arith) ∙ omega arith

@@ -3,22 +3,15 @@
 --     add-..         v is in the set with v, and the other numbers as before
 --     remove-..      v is not in the set without v, and the other numbers as before
 --     lowest-..      the lowest is in the set, and nothing below it is
--- Assumes nothing.
-use mathlib.Core.Path.{_≡_, refl, sym, ap, _∙_, subst}
-use mathlib.Core.Bool.{Bool, true, false, cond, not}
-use mathlib.Core.List.{List}
-use Prim.Native.Nat.{ℕ, _+_, _*_, _/_, _%_, _^_, _≤_, _<_}
-use native.Mathlib.Omega.{arith}
-use lib.Bits.{bitOr, bitXor}
-use lib.Count.{trailingZeros}
-use lib.Dec.{eqb, leb}
-use lib.ListN.{length, getD, set, length-set, replicate, length-replicate, getD-replicate, List·getD-eq-default}
-use lib.Seq.{getD-set-same, getD-set-other, set-getD}
-use borrow.Author.Tests.{eq-eqb, ne-eqb, leb-true, leb-false}
-use Rattle.model.specs.Base.{bit}
-use Rattle.theory_graph.proofs.Lists.{by-eqb}
-use Rattle.base_marks.specs.Marks.{has, Marks, added, removed, lowestIn, lowestOf}
-use Rattle.base_marks.proofs.Bits.{or-same, or-other, or-small, xor-same, xor-other, xor-small, zero-bit, bit-some, trailing-in, trailing-before}
+use Rattle.base.specs.{_≡_, refl, sym, ap, _∙_, subst, Bool, true, false, cond, not, List, ℕ, _+_, _*_, _/_, _%_, _^_, _≤_, _<_, arith}
+use Rattle.base.specs.{bitOr, bitXor, trailingZeros, eqb, leb, length, getD, set, length-set, replicate, length-replicate, getD-replicate}
+use Rattle.base.specs.{List·getD-eq-default, getD-set-same, getD-set-other, set-getD, eq-eqb, ne-eqb, leb-true, leb-false}
+use Rattle.model.specs.{bit}
+use Rattle.theory_graph.proofs.{by-eqb}
+use Rattle.base_marks.specs.{has, added, removed, lowestIn, lowestOf}
+use Rattle.base_marks.specs.Marks.{Marks}
+use Rattle.base_marks.proofs.Bits.{or-same, or-other, or-small, xor-same, xor-other, xor-small, zero-bit, bit-some, trailing-in}
+use Rattle.base_marks.proofs.Bits.{trailing-before}
 
 -- an order, by its test
 pub by-leb {ℓ} : {X : Type ℓ} (a b : ℕ) → (a ≤ b → X) → (b < a → X) → X

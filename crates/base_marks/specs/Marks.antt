@@ -1,14 +1,6 @@
 -- A set of numbers below 4,096 in 65 words: bit v % 64 of word v / 64 says that v is in it, and bit i of the last word that word i is not 0.
--- Assumes nothing.
-use mathlib.Core.Path.{_≡_}
-use mathlib.Core.Bool.{Bool, cond, not}
-use mathlib.Core.List.{List}
-use Prim.Native.Nat.{ℕ, _+_, _*_, _/_, _%_, _^_, _<_}
-use lib.Bits.{bitOr, bitXor}
-use lib.Count.{trailingZeros}
-use lib.Dec.{eqb}
-use lib.ListN.{length, getD, set}
-use Rattle.model.specs.Base.{bit}
+use Rattle.base.specs.{_≡_, Bool, cond, not, List, ℕ, _+_, _*_, _/_, _%_, _^_, _<_, bitOr, bitXor, trailingZeros, eqb, length, getD, set}
+use Rattle.model.specs.{bit}
 
 -- v is in the set
 unfoldable pub has : List ℕ → ℕ → Bool

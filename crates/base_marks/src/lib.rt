@@ -1,11 +1,7 @@
 // A set of numbers below 4,096: a bit for each, and a bit for each word of those that says whether any of its bits is set, so that the lowest
 // number is found by counting zeros twice.
-ghost use mathlib.Core.Path.{_≡_};
-ghost use Prim.Native.Nat.{_^_, _<_};
-ghost use lib.Bits.{bitOr, bitXor};
-ghost use lib.Count.{trailingZeros};
-ghost use lib.ListN.{replicate};
-ghost use Rattle.base_marks.specs.Marks.{added, removed, lowestOf};
+ghost use Rattle.base.specs.{_≡_, _^_, _<_, bitOr, bitXor, trailingZeros, replicate};
+ghost use Rattle.base_marks.specs.{added, removed, lowestOf};
 
 // 64 words of 64 bits, and the word about them.
 pub const WORDS: usize = 65;

@@ -3,24 +3,15 @@
 --     fields-at     the line there has k + 1 fields just where a space stands behind each of the first k and a line's end behind the last
 --     past-at       and then the place past them is the place past the line
 --     field-ten     a line of one field that byte 10 alone ends
--- Assumes nothing.
-use Prim.Native.Nat.{ℕ, zero, suc, _+_, _≤_, _<_}
-use native.Mathlib.Nat.{zero-add}
-use native.Mathlib.Omega.{arith}
-use mathlib.Core.Path.{_≡_, refl, sym, ap, _∙_, subst}
-use mathlib.Core.Bool.{Bool, true, false, cond, _&&_}
-use mathlib.Core.Option.{Option, none, some}
-use mathlib.Core.List.{List, [], _∷_, _++_, reverse, append-nil, reverse-cons}
-use lib.Dec.{eqb, ltb, eqb·suc-suc}
-use lib.ListN.{length, drop, getD, length-append, length-drop, drop-of-length-le}
-use lib.Seq.{append-snoc, getD-append-seam, drop-append-add, drop-drop, drop-at, getD-drop, drop-cons}
-use borrow.Author.Tests.{ne-eqb, eqb-true, lt-ltb, le-ltb}
-use Rattle.model.specs.Base.{andThen, only}
-use Rattle.model.specs.Text.{onto, split, Line, ended, closing, linesFrom, fields}
-use Rattle.base_text.specs.Fields.{pickN, headIs, endOf, stops, wordOf, wordAt, endAt, isByte}
+use Rattle.base.specs.{ℕ, zero, suc, _+_, _≤_, _<_, zero-add, arith, _≡_, refl, sym, ap, _∙_, subst, Bool, true, false, cond, _&&_, Option}
+use Rattle.base.specs.{none, some, List, [], _∷_, _++_, reverse, append-nil, reverse-cons, eqb, ltb, eqb·suc-suc, length, drop, getD}
+use Rattle.base.specs.{length-append, length-drop, drop-of-length-le, append-snoc, getD-append-seam, drop-append-add, drop-drop, drop-at}
+use Rattle.base.specs.{getD-drop, drop-cons, ne-eqb, eqb-true, lt-ltb, le-ltb}
+use Rattle.model.specs.{andThen, only, onto, split, Line, ended, closing, linesFrom, fields}
+use Rattle.base_text.specs.{pickN, headIs, endOf, stops, wordOf, wordAt, endAt, isByte, lineOf, endingOf, endedOf, lineAt, pastLine}
+use Rattle.base_text.specs.{wordsAt, sepsAt, afterAt}
 use Rattle.base_text.proofs.Bytes.{and-left, and-right, and-false}
 use Rattle.base_text.proofs.Words.{word-stop}
-use Rattle.base_text.specs.Lines.{lineOf, endingOf, endedOf, lineAt, pastLine, wordsAt, sepsAt, afterAt}
 
 -- ---- lines
 

@@ -1,21 +1,11 @@
 -- Laws of numbers in decimal:
 --     dec-small, dec-big      the digits of a number, by its last one
 --     number-..               what a field is as a number, by what the reader met in it
--- Assumes nothing.
-use Prim.Native.Nat.{ℕ, zero, suc, _+_, _-_, _*_, _/_, _%_, _^_, _≤_, _<_}
-use native.Mathlib.Nat.{not-suc-le-zero, pow-suc}
-use native.Mathlib.Numerals.{add-one}
-use native.Mathlib.Omega.{arith}
-use mathlib.Core.Path.{_≡_, refl, sym, ap, _∙_, subst}
-use mathlib.Core.Bool.{Bool, true, false, not, cond}
-use mathlib.Core.Option.{none, some}
-use mathlib.Core.List.{List, [], _∷_, _++_, append-nil}
-use lib.Dec.{T, ltb, nltb→le}
-use lib.ListN.{length, length-append, drop, getD, drop-of-length-le}
-use lib.Seq.{append-snoc, drop-cons}
-use borrow.Author.Tests.{ltb-true, ltb-false, lt-ltb, le-ltb, le-leb, lt-leb}
-use Rattle.model.specs.Base.{same, only}
-use Rattle.model.specs.Text.{digits, decimal, asDigits, number}
+use Rattle.base.specs.{ℕ, zero, suc, _+_, _-_, _*_, _/_, _%_, _^_, _≤_, _<_, not-suc-le-zero, pow-suc, add-one, arith, _≡_, refl, sym, ap}
+use Rattle.base.specs.{_∙_, subst, Bool, true, false, not, cond, none, some, List, [], _∷_, _++_, append-nil, T, ltb, nltb→le, length}
+use Rattle.base.specs.{length-append, drop, getD, drop-of-length-le, append-snoc, drop-cons, ltb-true, ltb-false, lt-ltb, le-ltb, le-leb}
+use Rattle.base.specs.{lt-leb}
+use Rattle.model.specs.{same, only, digits, decimal, asDigits, number}
 use Rattle.base_text.proofs.Bytes.{same-refl, not-same, and-false}
 
 -- ---- the digits of a number, by its last one

@@ -3,22 +3,12 @@
 --     differs-one, differs-two       its one byte, or its two
 --     differs-long     more than two
 --     differs-found, differs-broken  what the crate model reads there: the difference, or 20
--- Assumes nothing.
-use Prim.Native.Nat.{ℕ, suc, _+_, _-_, _*_, _≤_, _<_}
-use native.Mathlib.Numerals.{add-one}
-use native.Mathlib.Omega.{arith}
-use mathlib.Core.Path.{_≡_, refl, sym, ap, _∙_}
-use mathlib.Core.Bool.{Bool, true, false, cond}
-use mathlib.Core.List.{List, [], _∷_}
-use lib.Dec.{ltb}
-use lib.ListN.{length, drop, getD, drop-of-length-le}
-use lib.Seq.{drop-cons}
-use borrow.Author.Tests.{lt-ltb, le-ltb, ltb-true, ltb-false}
-use Rattle.model.specs.Reading.{Read, holds, fault, unless}
-use Rattle.model.specs.GraphText.{Passed, difference}
+use Rattle.base.specs.{ℕ, suc, _+_, _-_, _*_, _≤_, _<_, add-one, arith, _≡_, refl, sym, ap, _∙_, Bool, true, false, cond, List, [], _∷_}
+use Rattle.base.specs.{ltb, length, drop, getD, drop-of-length-le, drop-cons, lt-ltb, le-ltb, ltb-true, ltb-false}
+use Rattle.model.specs.{Read, holds, fault, unless, Passed, difference}
 use Rattle.base_text.specs.declared.Cursor.{Cursor}
 use Rattle.base_text.specs.declared.Number.the-variants.{Value as Found, Broken as NoNumber}
-use Rattle.base_text.specs.Fields.{passedOf, differenceAt}
+use Rattle.base_text.specs.{passedOf, differenceAt}
 
 module _ (s : List ℕ) (at : ℕ) where
   pub differs-none : length s ≤ at → differenceAt s at ≡ NoNumber

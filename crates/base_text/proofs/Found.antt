@@ -1,14 +1,9 @@
 -- A field and the byte behind it, at places that do not hang on what was found before. A reader of a line of fields is shown by these to be a function of
 -- what stands in each field and behind it (the crate library's Forms).
--- Assumes nothing.
-use Prim.Native.Nat.{ℕ, zero, suc, _+_}
-use mathlib.Core.Path.{_≡_, refl}
-use mathlib.Core.Bool.{Bool, true, false}
-use mathlib.Core.Option.{Option, none, some}
-use mathlib.Core.List.{List}
-use lib.ListN.{drop}
-use Rattle.model.specs.Text.{number, hexTable}
-use Rattle.base_text.specs.Fields.{endOf, stops, wordAt, endAt, isByte, byteAt, lineEndAt, numberOf, numberAt, tableAt, thenByte, thenEnd, numberThen, numberEnd, tableThen}
+use Rattle.base.specs.{ℕ, zero, suc, _+_, _≡_, refl, Bool, true, false, Option, none, some, List, drop}
+use Rattle.model.specs.{number, hexTable}
+use Rattle.base_text.specs.{endOf, stops, wordAt, endAt, isByte, byteAt, lineEndAt, numberOf, numberAt, tableAt, thenByte, thenEnd}
+use Rattle.base_text.specs.{numberThen, numberEnd, tableThen}
 
 -- the place of the next field
 abbrev pub past : List ℕ → ℕ → ℕ

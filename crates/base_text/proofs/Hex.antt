@@ -1,18 +1,10 @@
--- Laws of hexadecimal digits: two of them, and four by two pairs. Assumes nothing.
-use Prim.Native.Nat.{ℕ, _+_, _-_, _*_, _<_}
-use native.Mathlib.Omega.{arith}
-use mathlib.Core.Path.{_≡_, refl, sym, ap, _∙_}
-use mathlib.Core.Bool.{Bool, true, false, cond, _&&_}
-use mathlib.Core.Option.{Option, none, some}
-use mathlib.Core.List.{List, [], _∷_}
-use lib.Dec.{leb}
-use lib.ListN.{length, getD}
-use borrow.Author.Tests.{eq-eqb, ne-eqb, leb-true}
-use Rattle.model.specs.Base.{andThen, only}
-use Rattle.model.specs.Text.{between, hexDigit, hexFrom, hexTable}
+-- Laws of hexadecimal digits: two of them, and four by two pairs.
+use Rattle.base.specs.{ℕ, _+_, _-_, _*_, _<_, arith, _≡_, refl, sym, ap, _∙_, Bool, true, false, cond, _&&_, Option, none, some, List, []}
+use Rattle.base.specs.{_∷_, leb, length, getD, eq-eqb, ne-eqb, leb-true}
+use Rattle.model.specs.{andThen, only, between, hexDigit, hexFrom, hexTable}
 use Rattle.base_text.specs.declared.Value.{Value}
 use Rattle.base_text.specs.declared.Value.the-variants.{Is, Broken as NoValue}
-use Rattle.base_text.specs.Fields.{valueOf}
+use Rattle.base_text.specs.{valueOf}
 
 -- what the code's value says of the definition's
 pub value-is : (o : Option ℕ) (v : Value) (n : ℕ) → v ≡ valueOf o → v ≡ Is n → o ≡ some n

@@ -12,3 +12,15 @@ pub mod Numbers
 pub mod Spans
 pub mod Differences
 pub mod Progress
+pub use Bytes.{all-end, all-step, and-false, and-left, and-right, and-true, not-same, or-true, same-eq, same-refl}
+pub use Decimal.{dec-below, dec-big, dec-big-length, dec-small, dec-small-length}
+pub use Hex.{value-is, value-none}
+pub use Names.{name-fits, name-taken}
+pub use Words.{end-fits, end-from, end-le, part-is}
+pub use Found.{found, foundEnd, nth, number-end-is, number-is, past, pastEnd, table-is, thenO}
+pub use Bridge.{fields-at, lines-at, lines-none, past-at}
+unfoldable pub use Bridge.{lineFields, ofLength}
+pub use Numbers.{line-words, numbers-at, numbers-ended, ten-ended, ten-number}
+pub use Spans.{span-contents, span-ended, span-fits, span-from, span-long, span-next, span-out}
+pub use Differences.{differs-broken, differs-found}
+pub use Progress.{Partly, as-wrote, begin, end, finish, idle, kept, put-front, room, step}

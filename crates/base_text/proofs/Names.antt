@@ -1,18 +1,8 @@
--- Laws of names, by what the reader met in a field. Assumes nothing.
-use Prim.Native.Nat.{ℕ, zero, suc, _-_, _≤_, _<_}
-use native.Mathlib.Nat.{zero-add}
-use native.Mathlib.Omega.{arith}
-use mathlib.Core.Path.{_≡_, refl, ap, _∙_}
-use mathlib.Core.Bool.{true, false, _&&_}
-use mathlib.Core.List.{List, [], _∷_}
-use lib.Dec.{leb}
-use lib.ListN.{length, take, getD, drop, replicate}
-use lib.Seq.{take-append-seam}
-use borrow.Author.Tests.{leb-true, le-leb, lt-leb}
-use Rattle.model.specs.Base.{all}
-use Rattle.model.specs.Text.{isLetter, isNameByte, isName}
-use Rattle.model.specs.LibraryText.{nameBytes}
-use Rattle.base_words.specs.Put.{putAt, zeros}
+-- Laws of names, by what the reader met in a field.
+use Rattle.base.specs.{ℕ, zero, suc, _-_, _≤_, _<_, zero-add, arith, _≡_, refl, ap, _∙_, true, false, _&&_, List, [], _∷_, leb, length}
+use Rattle.base.specs.{take, getD, drop, replicate, take-append-seam, leb-true, le-leb, lt-leb}
+use Rattle.model.specs.{all, isLetter, isNameByte, isName, nameBytes}
+use Rattle.base_words.specs.{putAt, zeros}
 use Rattle.base_text.proofs.Bytes.{and-false, and-true, and-right}
 
 pub name-empty : (w : List ℕ) → length w ≡ 0 → isName w ≡ false

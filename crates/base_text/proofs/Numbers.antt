@@ -3,22 +3,13 @@
 --     numbers-at     its fields are numbers just where each number is found with the right byte behind it
 --     numbers-ended  and then the place past them is the place past the line
 --     ten-number, ten-ended  the same for a line of one number that byte 10 alone ends
--- Assumes nothing.
-use Prim.Native.Nat.{ℕ, zero, suc, _+_}
-use native.Mathlib.Omega.{arith}
-use mathlib.Core.Path.{_≡_, refl, sym, ap, _∙_}
-use mathlib.Core.Bool.{Bool, true, false, _&&_}
-use mathlib.Core.Option.{Option, none, some}
-use mathlib.Core.List.{List, [], _∷_}
-use lib.Dec.{eqb, ltb}
-use lib.ListN.{length, drop, getD}
-use borrow.Author.Tests.{eqb-true, ltb-true}
-use Rattle.model.specs.Base.{andThen, only}
-use Rattle.model.specs.Text.{ended, endedByTen, fields, number, numbers}
+use Rattle.base.specs.{ℕ, zero, suc, _+_, arith, _≡_, refl, sym, ap, _∙_, Bool, true, false, _&&_, Option, none, some, List, [], _∷_, eqb}
+use Rattle.base.specs.{ltb, length, drop, getD, eqb-true, ltb-true}
+use Rattle.model.specs.{andThen, only, ended, endedByTen, fields, number, numbers}
 use Rattle.base_text.specs.declared.Cursor.{Cursor}
 use Rattle.base_text.specs.declared.Number.the-variants.{Value as Found}
-use Rattle.base_text.specs.Fields.{endOf, stops, wordAt, endAt, isByte, onNumber, numberOf, numberThen}
-use Rattle.base_text.specs.Lines.{lineAt, pastLine, wordsAt, sepsAt, afterAt, numbersAt}
+use Rattle.base_text.specs.{endOf, stops, wordAt, endAt, isByte, onNumber, numberOf, numberThen, lineAt, pastLine, wordsAt, sepsAt}
+use Rattle.base_text.specs.{afterAt, numbersAt}
 use Rattle.base_text.proofs.Found.{past, pastEnd, thenO, number-is, number-end-is}
 use Rattle.base_text.proofs.Bridge.{lineFields, ofLength, fields-at, past-at, field-ten}
 use Rattle.base_text.proofs.Bytes.{and-left, and-right}

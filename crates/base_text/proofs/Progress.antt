@@ -1,16 +1,11 @@
 -- Writers one after the other: what is written of a text, and what is left of it.
 --     begin, step, end        nothing is written; one part more; all of it
 --     room, kept              the next part has room, and no byte comes or goes
--- Assumes nothing.
-use mathlib.Core.Path.{_≡_, refl, sym, ap, _∙_}
-use mathlib.Core.List.{List, [], _++_, append-assoc, append-nil}
-use Prim.Native.Nat.{ℕ, _+_, _≤_}
-use native.Mathlib.Nat.{add-zero}
-use native.Mathlib.Omega.{arith}
-use lib.ListN.{length, drop, length-append}
-use Rattle.base_words.specs.Put.{putAt}
-use Rattle.base_words.proofs.Putting.{length-put, put-none, put-append}
-use Rattle.base_text.specs.Writing.{Wrote}
+use Rattle.base.specs.{_≡_, refl, sym, ap, _∙_, List, [], _++_, append-assoc, append-nil, ℕ, _+_, _≤_, add-zero, arith, length, drop}
+use Rattle.base.specs.{length-append}
+use Rattle.base_words.specs.{putAt}
+use Rattle.base_words.proofs.{length-put, put-none, put-append}
+use Rattle.base_text.specs.{Wrote}
 
 -- of `whole`, all but `rest` is written from `at` on, up to `next`
 pub record Partly (before now : List ℕ) (at next : ℕ) (whole rest : List ℕ) : Type 0 where

@@ -3,24 +3,14 @@
 --     run-..           what the next byte makes of it
 --     zero-first, low-first     a field that begins with a zero or with no digit
 --     whole-..         a field that is all of a text
--- Assumes nothing.
-use mathlib.Core.Path.{_≡_, refl, sym, ap, _∙_}
-use mathlib.Core.Bool.{Bool, true, false}
-use mathlib.Core.Option.{Option, none, some}
-use mathlib.Core.List.{List, [], _∷_}
-use Prim.Native.Nat.{ℕ, suc, _+_, _-_, _*_, _≤_, _<_}
-use native.Mathlib.Numerals.{add-one}
-use native.Mathlib.Omega.{arith}
-use lib.Dec.{eqb}
-use lib.ListN.{length, drop, getD, length-drop}
-use lib.Seq.{drop-cons, take-all}
-use borrow.Author.Count.{below-more}
-use borrow.Author.Tests.{eqb-true, eqb-false, ne-eqb}
-use Rattle.model.specs.Text.{asDigits, number}
+use Rattle.base.specs.{_≡_, refl, sym, ap, _∙_, Bool, true, false, Option, none, some, List, [], _∷_, ℕ, suc, _+_, _-_, _*_, _≤_, _<_}
+use Rattle.base.specs.{add-one, arith, eqb, length, drop, getD, length-drop, drop-cons, take-all, below-more, eqb-true, eqb-false, ne-eqb}
+use Rattle.model.specs.{asDigits, number}
 use Rattle.base_text.specs.declared.Cursor.{Cursor}
 use Rattle.base_text.specs.declared.Number.the-variants.{Value as Found, Broken as NoNumber}
-use Rattle.base_text.specs.Fields.{pickBytes, endOf, stops, wordOf, wordAt, endAt, numberOf, numberAt, closedAt}
-use Rattle.base_text.proofs.Decimal.{number-other, number-large, number-all, number-empty, value-step, value-end, zero-alone, zero-leads}
+use Rattle.base_text.specs.{pickBytes, endOf, stops, wordOf, wordAt, endAt, numberOf, numberAt, closedAt}
+use Rattle.base_text.proofs.Decimal.{number-other, number-large, number-all, number-empty, value-step, value-end, zero-alone}
+use Rattle.base_text.proofs.Decimal.{zero-leads}
 use Rattle.base_text.proofs.Words.{end-other, word-step, word-space, word-line, word-out, end-le, part-is}
 
 -- ---- a field that ends at a place, and one that goes on

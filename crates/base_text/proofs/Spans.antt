@@ -1,18 +1,8 @@
--- The line at a place, byte by byte: where its contents stop, and where the next line begins. Assumes nothing.
-use Prim.Native.Nat.{ℕ, suc, _+_, _-_, _≤_, _<_}
-use native.Mathlib.Numerals.{add-one}
-use native.Mathlib.Nat.{add-zero, zero-add}
-use native.Mathlib.Omega.{arith}
-use mathlib.Core.Path.{_≡_, refl, sym, ap, _∙_}
-use mathlib.Core.Bool.{Bool, true, false}
-use mathlib.Core.List.{List, [], _∷_}
-use lib.Dec.{ltb}
-use lib.ListN.{length, take, drop, getD, drop-of-length-le, length-drop}
-use lib.Seq.{drop-cons}
-use borrow.Author.Tests.{lt-ltb, le-ltb, ltb-true, ltb-false}
-use Rattle.model.specs.Text.{ended}
-use Rattle.base_text.specs.Fields.{pickBytes, endOf, stops}
-use Rattle.base_text.specs.Lines.{lineOf, endingOf, lineAt, pastLine, spanAt}
+-- The line at a place, byte by byte: where its contents stop, and where the next line begins.
+use Rattle.base.specs.{ℕ, suc, _+_, _-_, _≤_, _<_, add-one, add-zero, zero-add, arith, _≡_, refl, sym, ap, _∙_, Bool, true, false, List, []}
+use Rattle.base.specs.{_∷_, ltb, length, take, drop, getD, drop-of-length-le, length-drop, drop-cons, lt-ltb, le-ltb, ltb-true, ltb-false}
+use Rattle.model.specs.{ended}
+use Rattle.base_text.specs.{pickBytes, endOf, stops, lineOf, endingOf, lineAt, pastLine, spanAt}
 use Rattle.base_text.proofs.Bridge.{line-stop, ending-stop}
 use Rattle.base_text.proofs.Words.{some-end}
 

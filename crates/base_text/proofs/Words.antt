@@ -1,20 +1,11 @@
--- Laws of the field at a place: where it ends, and its bytes. Assumes nothing.
-use Prim.Native.Nat.{ℕ, zero, suc, _+_, _-_, _≤_, _<_}
-use native.Mathlib.Nat.{add-zero}
-use native.Mathlib.Numerals.{add-one}
-use native.Mathlib.Omega.{arith}
-use mathlib.Core.Path.{_≡_, refl, sym, ap, _∙_}
-use mathlib.Core.Bool.{Bool, true, false, _&&_}
-use mathlib.Core.List.{List, [], _∷_}
-use lib.Dec.{eqb}
-use lib.ListN.{length, take, drop, getD, length-drop, drop-of-length-le}
-use lib.Seq.{drop-cons}
-use borrow.Author.Tests.{eq-eqb, ne-eqb, lt-ltb, ltb-true}
-use mathlib.Core.Option.{Option, none, some}
+-- Laws of the field at a place: where it ends, and its bytes.
+use Rattle.base.specs.{ℕ, zero, suc, _+_, _-_, _≤_, _<_, add-zero, add-one, arith, _≡_, refl, sym, ap, _∙_, Bool, true, false, _&&_, List}
+use Rattle.base.specs.{[], _∷_, eqb, length, take, drop, getD, length-drop, drop-of-length-le, drop-cons, eq-eqb, ne-eqb, lt-ltb, ltb-true}
+use Rattle.base.specs.{Option, none, some}
 use Rattle.base_text.specs.declared.Number.the-variants.{Value as Found, Broken as NoNumber}
 use Rattle.base_text.specs.declared.Step.the-variants.{To, Broken as NoStep}
 use Rattle.base_text.proofs.Bytes.{and-false}
-use Rattle.base_text.specs.Fields.{pickBytes, pickN, endOf, stops, wordOf, wordAt, endAt, numberOf, stepOf}
+use Rattle.base_text.specs.{pickBytes, pickN, endOf, stops, wordOf, wordAt, endAt, numberOf, stepOf}
 
 end-short : (l : List ℕ) → endOf l ≤ length l
 unfolding endOf

@@ -1,13 +1,6 @@
--- What each reader finds at a place of a text, by the crate model's own judgement of a field. Assumes nothing.
-use Prim.Native.Nat.{ℕ, _+_}
-use mathlib.Core.Bool.{Bool, true, false, _&&_}
-use mathlib.Core.Option.{Option, none, some}
-use mathlib.Core.List.{List, [], _∷_}
-use lib.Dec.{eqb, ltb}
-use lib.ListN.{length, drop, getD}
-use Rattle.model.specs.Text.{number, hexTable, isName}
-use Rattle.model.specs.Reading.{Read, holds, fault}
-use Rattle.model.specs.GraphText.{Passed, difference}
+-- What each reader finds at a place of a text, by the crate model's own judgement of a field.
+use Rattle.base.specs.{ℕ, _+_, Bool, true, false, _&&_, Option, none, some, List, [], _∷_, eqb, ltb, length, drop, getD}
+use Rattle.model.specs.{number, hexTable, isName, Read, holds, fault, Passed, difference}
 use Rattle.base_text.specs.declared.Cursor.{Cursor}
 use Rattle.base_text.specs.declared.Value.{Value}
 use Rattle.base_text.specs.declared.Value.the-variants.{Is, Broken as NoValue}

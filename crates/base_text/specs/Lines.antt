@@ -1,12 +1,6 @@
--- A line of a text, and its fields from a place on: what a reader that goes from field to field meets. Assumes nothing.
-use Prim.Native.Nat.{ℕ, zero, suc, _+_}
-use mathlib.Core.Bool.{Bool, true, false, _&&_}
-use mathlib.Core.Option.{Option, none, some}
-use mathlib.Core.List.{List, [], _∷_}
-use lib.Dec.{ltb}
-use lib.ListN.{length, drop}
-use Rattle.model.specs.Base.{andThen}
-use Rattle.model.specs.Text.{Line, nextOf}
+-- A line of a text, and its fields from a place on: what a reader that goes from field to field meets.
+use Rattle.base.specs.{ℕ, zero, suc, _+_, Bool, true, false, _&&_, Option, none, some, List, [], _∷_, ltb, length, drop}
+use Rattle.model.specs.{andThen, Line, nextOf}
 use Rattle.base_text.specs.declared.Span.{Span}
 use Rattle.base_text.specs.Fields.{pickBytes, pickN, endOf, stops, wordAt, endAt, isByte, onNumber, numberThen, numberEnd}
 

@@ -1,18 +1,11 @@
 // Fields, numbers and names in a text of bytes, and numbers written into one.
 // "One space separates fields"; byte 10, or bytes 13 and 10, end a line. "Every reader is a cursor that hands itself on after each number."
 // A field is what stands up to the next space, line's end or end of text; each field is judged whole, by the definition of the crate `model`.
-ghost use mathlib.Core.Path.{_≡_};
-ghost use mathlib.Core.List.{_∷_, []};
-ghost use Prim.Native.Nat.{_+_, _/_, _%_, _≤_, _<_};
-ghost use lib.ListN.{length, getD, drop};
-ghost use Rattle.model.specs.Base.{all, same};
-ghost use Rattle.model.specs.Text.{decimal, number, hexDigit, hexFrom, hexTable, isLetter, isNameByte, isName};
-ghost use Rattle.model.specs.LibraryText.{nameBytes};
-ghost use Rattle.base_words.specs.Put.{putAt};
-ghost use Rattle.base_text.specs.Writing.{Wrote};
-ghost use Rattle.base_text.specs.Fields.{endOf, endAt, valueOf, byteAt, lineEndAt, numberAt, tableAt, nameAt, closedAt, thenByte, thenEnd, numberThen};
-ghost use Rattle.base_text.specs.Fields.{numberEnd, tableThen, differenceAt};
-ghost use Rattle.base_text.specs.Lines.{spanAt};
+ghost use Rattle.base.specs.{_≡_, _∷_, [], _+_, _/_, _%_, _≤_, _<_, length, getD, drop};
+ghost use Rattle.model.specs.{all, same, decimal, number, hexDigit, hexFrom, hexTable, isLetter, isNameByte, isName, nameBytes};
+ghost use Rattle.base_words.specs.{putAt};
+ghost use Rattle.base_text.specs.{Wrote, endOf, endAt, valueOf, byteAt, lineEndAt, numberAt, tableAt, nameAt, closedAt, thenByte};
+ghost use Rattle.base_text.specs.{thenEnd, numberThen, numberEnd, tableThen, differenceAt, spanAt};
 
 // A position in a text. The text itself is a parameter of each method.
 pub struct Cursor {

@@ -1,12 +1,7 @@
--- A table of n rows made from its last row down. Assumes nothing.
-use mathlib.Core.Path.{_≡_, sym, ap, _∙_}
-use mathlib.Core.Bool.{Bool}
-use Prim.Native.Nat.{ℕ, zero, suc, _+_, _-_, _*_, _≤_, _<_}
-use native.Mathlib.Nat.{add-zero, zero-add, add-suc, suc-add}
-use native.Mathlib.Omega.{arith}
-use lib.Pow.{pow-mono}
-use Rattle.model.specs.Base.{one}
-use Rattle.model.specs.Cuts.{tabulate}
+-- A table of n rows made from its last row down.
+use Rattle.base.specs.{_≡_, sym, ap, _∙_, Bool, ℕ, zero, suc, _+_, _-_, _*_, _≤_, _<_, add-zero, zero-add, add-suc, suc-add, arith}
+use Rattle.base.specs.{pow-mono}
+use Rattle.model.specs.{one, tabulate}
 use Rattle.base_truth.proofs.Tables.{tabulate-small, tabulate-same}
 
 -- the rows of f from r on, of n

@@ -6,3 +6,9 @@ pub mod Nets
 pub mod Downward
 pub mod Turning
 pub mod Pairs
+pub use Tested.{at}
+pub use Tables.{one-bit, one-small, power, table-small, tables-same, tabulate-same, tabulate-small, tabulate-value, value-and}
+pub use Tables.{value-complement, value-or, value-pattern, value-shift, value-tabulate}
+pub use Variants.{place-small, places-fit, places-four, rows-agree}
+pub use Nets.{literal-one, nets-get, nets-length, nets-taken, place-below}
+pub use Turning.{or-out, turned-variant}

@@ -3,20 +3,10 @@
 --     nets-length, nets-get       as many as pins, pin j's its leaf in the mask's phase
 --     place-below         a place that fits
 --     nets-taken          leaves past the last place do not matter
--- Assumes nothing.
-use Prim.Native.Nat.{ℕ, zero, suc, _+_, _*_, _≤_, _<_, _/_}
-use native.Mathlib.Nat.{not-suc-le-zero, le-of-suc-le-suc}
-use native.Mathlib.Omega.{arith}
-use mathlib.Core.Path.{_≡_, refl, ap}
-use mathlib.Core.Bool.{Bool, true, false, _&&_}
-use mathlib.Core.List.{List, [], _∷_}
-use lib.Dec.{T, ltb, ltb→lt}
-use lib.ListN.{length, take, getD, length-take}
-use lib.Seq.{getD-take}
-use Rattle.model.specs.Base.{bit, one, all}
-use Rattle.model.specs.Graph.{literal}
-use Rattle.model.specs.Matching.{fedNets}
-use Rattle.base_truth.specs.Variant.{placesBelow, pinNet}
+use Rattle.base.specs.{ℕ, zero, suc, _+_, _*_, _≤_, _<_, _/_, not-suc-le-zero, le-of-suc-le-suc, arith, _≡_, refl, ap, Bool, true, false}
+use Rattle.base.specs.{_&&_, List, [], _∷_, T, ltb, ltb→lt, length, take, getD, length-take, getD-take}
+use Rattle.model.specs.{bit, one, all, literal, fedNets}
+use Rattle.base_truth.specs.{placesBelow, pinNet}
 
 pub literal-one : (b : Bool) (v : ℕ) → literal b v ≡ 2 * v + one b
 unfolding literal one

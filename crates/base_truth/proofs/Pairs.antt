@@ -1,18 +1,10 @@
--- A pair's value in a row, from the row taken apart: two rules of rows, each one test that antt computes. Assumes nothing.
-use mathlib.Core.Path.{_≡_, refl, ap, _∙_}
-use mathlib.Core.Bool.{Bool, true, false, not, cond, _&&_, _||_}
-use mathlib.Core.List.{List, [], _∷_, map}
-use Prim.Native.Nat.{ℕ, zero, suc, _+_, _-_, _/_, _%_, _^_, _≤_, _<_}
-use native.Mathlib.Omega.{arith}
-use lib.Dec.{T, eqb, leb, ltb, le→leb}
-use lib.ListN.{take, drop}
-use mir.Facts.{and-yes, eqb-yes, yes-ltb}
-use borrow.Author.Tests.{lt-ltb, le-ltb, eq-eqb, ne-eqb}
-use Rattle.model.specs.Base.{all, bit, below}
-use Rattle.model.specs.Table.{value, rowOf}
-use Rattle.model.specs.Pairs.{splice, pairPins, pairValue}
+-- A pair's value in a row, from the row taken apart: two rules of rows, each one test that antt computes.
+use Rattle.base.specs.{_≡_, refl, ap, _∙_, Bool, true, false, not, cond, _&&_, _||_, List, [], _∷_, map, ℕ, zero, suc, _+_, _-_, _/_, _%_}
+use Rattle.base.specs.{_^_, _≤_, _<_, arith, T, eqb, leb, ltb, le→leb, take, drop, and-yes, eqb-yes, yes-ltb, lt-ltb, le-ltb, eq-eqb}
+use Rattle.base.specs.{ne-eqb}
+use Rattle.model.specs.{all, bit, below, value, rowOf, splice, pairPins, pairValue}
 use Rattle.model.specs.declared.Cell.{Cell}
-use Rattle.base_truth.specs.Pair.{rootBit, rootRow}
+use Rattle.base_truth.specs.{rootBit, rootRow}
 use Rattle.base_truth.proofs.Tested.{at}
 
 -- where the inner's n pins, from pin on, are among the pair's m and r is a row of these, the rows of inner and root are as they are taken apart

@@ -7,20 +7,10 @@
 --     value-pattern       row r of a leaf's table is the leaf's bit of r
 --     one-bit             a bit of a number by a shift
 --     power               how many rows so many pins have, by a shift
--- Assumes nothing.
-use mathlib.Core.Path.{_≡_, refl, sym, ap, ap₂, _∙_}
-use mathlib.Core.Bool.{Bool, true, false, not, _&&_, _||_}
-use Prim.Native.Nat.{ℕ, zero, suc, _+_, _-_, _*_, _/_, _%_, _^_, _<_, _≤_, min, max}
-use native.Mathlib.Nat.{pow-suc}
-use native.Mathlib.Omega.{arith}
-use lib.Bits.{bitAnd, and-step, bitOr, or-step}
-use lib.Dec.{eqb}
-use lib.Pow.{shr-shr, shl-exact}
-use borrow.Author.Tests.{eqb-true, eqb-false}
-use Rattle.model.specs.Base.{bit, one}
-use Rattle.model.specs.Table.{value}
-use Rattle.model.specs.Cuts.{tabulate}
-use Rattle.base_truth.specs.Variant.{leafTable}
+use Rattle.base.specs.{_≡_, refl, sym, ap, ap₂, _∙_, Bool, true, false, not, _&&_, _||_, ℕ, zero, suc, _+_, _-_, _*_, _/_, _%_, _^_, _<_}
+use Rattle.base.specs.{_≤_, min, max, pow-suc, arith, bitAnd, and-step, bitOr, or-step, eqb, shr-shr, shl-exact, eqb-true, eqb-false}
+use Rattle.model.specs.{bit, one, value, tabulate}
+use Rattle.base_truth.specs.{leafTable}
 
 -- the shift loses nothing
 pub power : (pins : ℕ) → pins ≤ 4 → 1 * 2 ^ pins % 2 ^ 64 ≡ 2 ^ pins

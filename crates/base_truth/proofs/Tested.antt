@@ -1,12 +1,7 @@
 -- A test that passes at all numbers below a bound passes at each of them, and the other way round: so a rule of a table is one test that antt computes.
--- Assumes nothing.
-use mathlib.Core.Path.{_≡_, refl, sym, subst, _∙_}
-use mathlib.Core.Bool.{Bool, true, false, _&&_, Bool·beq}
-use Prim.Native.Nat.{ℕ, zero, suc, _+_, _<_}
-use native.Mathlib.Nat.{add-zero, zero-add, add-suc, suc-add}
-use native.Mathlib.Omega.{arith}
-use lib.Dec.{T}
-use Rattle.model.specs.Base.{all, from, below}
+use Rattle.base.specs.{_≡_, refl, sym, subst, _∙_, Bool, true, false, _&&_, Bool·beq, ℕ, zero, suc, _+_, _<_, add-zero, zero-add, add-suc}
+use Rattle.base.specs.{suc-add, arith, T}
+use Rattle.model.specs.{all, from, below}
 
 and-left : (a b : Bool) → T (a && b) → T a
 and-left true b t = tt

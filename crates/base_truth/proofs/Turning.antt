@@ -1,22 +1,12 @@
 -- The table of a cell under a mask, from that of mask 0.
 --     crossed-rows        what the shifts make is the table with a leaf complemented
 --     turned-variant      a leaf complemented at each pin whose bit is 1: the table under the mask
--- Assumes nothing.
-use Prim.Native.Nat.{ℕ, zero, suc, _+_, _-_, _*_, _/_, _%_, _^_, _≤_, _<_}
-use mathlib.Core.Path.{_≡_, refl, sym, ap, ap₂, _∙_}
-use mathlib.Core.Bool.{Bool, true, false, cond, not, _&&_, _||_, false≢true}
-use mathlib.Core.List.{List}
-use native.Mathlib.Nat.{div-le-self}
-use native.Mathlib.Omega.{arith}
-use lib.Bits.{bitAnd, bitOr, bitXor, and-le-l, and-le-r, or-lt, xor-lt, xor-zero-r, shifted-half, shifted-even}
-use lib.Dec.{T, eqb, ltb, leb}
-use lib.ListN.{length, getD}
-use lib.Pow.{shr-shr, pow-lt, pow-mono}
-use borrow.Author.Tests.{eqb-true, ltb-true, ltb-false, le-ltb, leb-true}
-use Rattle.model.specs.Base.{bit, one, flip, all, below}
-use Rattle.model.specs.Table.{value, orders, pinRow}
-use Rattle.model.specs.Cuts.{tabulate}
-use Rattle.base_truth.specs.Variant.{placesOf, variantTable, crossed, crossedAt, turned, leafTable}
+use Rattle.base.specs.{ℕ, zero, suc, _+_, _-_, _*_, _/_, _%_, _^_, _≤_, _<_, _≡_, refl, sym, ap, ap₂, _∙_, Bool, true, false, cond, not}
+use Rattle.base.specs.{_&&_, _||_, false≢true, List, div-le-self, arith, bitAnd, bitOr, bitXor, and-le-l, and-le-r, or-lt, xor-lt}
+use Rattle.base.specs.{xor-zero-r, shifted-half, shifted-even, T, eqb, ltb, leb, length, getD, shr-shr, pow-lt, pow-mono, eqb-true}
+use Rattle.base.specs.{ltb-true, ltb-false, le-ltb, leb-true}
+use Rattle.model.specs.{bit, one, flip, all, below, value, orders, pinRow, tabulate}
+use Rattle.base_truth.specs.{placesOf, variantTable, crossed, crossedAt, turned, leafTable}
 use Rattle.base_truth.proofs.Tested.{at, pairs, at-pair}
 use Rattle.base_truth.proofs.Tables.{value-shift, value-tabulate, table-small, tables-same, value-and, value-or}
 use Rattle.base_truth.proofs.Variants.{pin-row, places-four, place-small}

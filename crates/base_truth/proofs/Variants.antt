@@ -3,25 +3,12 @@
 --     rows-agree          "in all 16 rows, the cut's function equals the cell's value": it is the cell's table
 --     places-four         an order has four places; `place-small`: each below 4
 --     places-fit          the test of the places depends on the cell's pins only
--- Assumes nothing.
-use mathlib.Core.Path.{_≡_, refl, sym, ap, ap₂, _∙_}
-use mathlib.Core.Bool.{Bool, true, false, Bool·beq}
-use mathlib.Core.Logic.{_↔_}
-use mathlib.Core.List.{List, [], _∷_}
-use Prim.Native.Nat.{ℕ, zero, suc, _+_, _*_, _/_, _%_, _^_, _≤_, _<_}
-use native.Mathlib.Nat.{le-of-suc-le-suc}
-use native.Mathlib.Numerals.{add-one}
-use native.Mathlib.Omega.{arith}
-use lib.Bits.{bitXor, differ, xor-step}
-use lib.Dec.{T, eqb, ltb, eqb→eq, ltb→lt}
-use lib.ListN.{length, getD}
-use lib.Pow.{mod-pow-add}
-use Rattle.model.specs.Base.{bit, one, flip, all, below}
-use Rattle.model.specs.Table.{value, orders, pinRow}
-use Rattle.model.specs.Cuts.{tabulate}
-use Rattle.model.specs.Matching.{placesFit, rowsAgree}
+use Rattle.base.specs.{_≡_, refl, sym, ap, ap₂, _∙_, Bool, true, false, Bool·beq, _↔_, List, [], _∷_, ℕ, zero, suc, _+_, _*_, _/_, _%_, _^_}
+use Rattle.base.specs.{_≤_, _<_, le-of-suc-le-suc, add-one, arith, bitXor, differ, xor-step, T, eqb, ltb, eqb→eq, ltb→lt, length, getD}
+use Rattle.base.specs.{mod-pow-add}
+use Rattle.model.specs.{bit, one, flip, all, below, value, orders, pinRow, tabulate, placesFit, rowsAgree}
 use Rattle.model.specs.declared.Cell.{Cell}
-use Rattle.base_truth.specs.Variant.{placesOf, variantTable, placesBelow}
+use Rattle.base_truth.specs.{placesOf, variantTable, placesBelow}
 use Rattle.base_truth.proofs.Tested.{at, from-at, pairs, at-pair, beq-same, same-beq}
 use Rattle.base_truth.proofs.Tables.{one-small, one-low, half-one, value-tabulate, table-small, tables-same}
 

@@ -1,8 +1,6 @@
--- A row of a pair's pins taken apart: "Its pins are the root's in order, with the inner's, in order, at the fed pin's place." Assumes nothing.
-use Prim.Native.Nat.{ℕ, _+_, _-_, _*_}
-use mathlib.Core.Bool.{Bool, cond}
-use lib.Dec.{eqb, ltb}
-use Rattle.model.specs.Base.{bit, one}
+-- A row of a pair's pins taken apart: "Its pins are the root's in order, with the inner's, in order, at the fed pin's place."
+use Rattle.base.specs.{ℕ, _+_, _-_, _*_, Bool, cond, eqb, ltb}
+use Rattle.model.specs.{bit, one}
 
 -- bit j of the root's row in row r of the pair, where the inner has n pins from pin on and the value b
 unfoldable pub rootBit : ℕ → ℕ → ℕ → Bool → ℕ → Bool

@@ -1,14 +1,6 @@
--- The table of a cell under an order and a mask, the table of a leaf, whether the pins' places are there, and the net of a pin. Assumes nothing.
-use Prim.Native.Nat.{ℕ, _^_}
-use mathlib.Core.Bool.{Bool, cond}
-use mathlib.Core.List.{List, []}
-use lib.Bits.{bitXor}
-use lib.Dec.{ltb}
-use lib.ListN.{take, getD}
-use Rattle.model.specs.Base.{all, bit}
-use Rattle.model.specs.Graph.{literal}
-use Rattle.model.specs.Table.{value, orders, pinRow}
-use Rattle.model.specs.Cuts.{tabulate}
+-- The table of a cell under an order and a mask, the table of a leaf, whether the pins' places are there, and the net of a pin.
+use Rattle.base.specs.{ℕ, _^_, Bool, cond, List, [], bitXor, ltb, take, getD}
+use Rattle.model.specs.{all, bit, literal, value, orders, pinRow, tabulate}
 
 -- the places of an order
 abbrev pub placesOf : ℕ → List ℕ

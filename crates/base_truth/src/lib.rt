@@ -1,17 +1,8 @@
 // Truth tables of up to four inputs, 16 rows each: "bit r is the cell's value in row r, where bit j of r is pin j".
 use model::Cell;
-ghost use mathlib.Core.Path.{_≡_};
-ghost use Prim.Native.Nat.{ℕ, _+_, _*_, _/_, _%_, _^_, _<_, _≤_};
-ghost use mathlib.Core.List.{map};
-ghost use mathlib.Core.Bool.{true};
-ghost use lib.ListN.{getD};
-ghost use Rattle.model.specs.Base.{bit, one, below};
-ghost use Rattle.model.specs.Graph.{literal, opposite};
-ghost use Rattle.model.specs.Table.{value, rowMap};
-ghost use Rattle.model.specs.Matching.{phaseTable};
-ghost use Rattle.model.specs.Pairs.{pairTable};
-ghost use Rattle.base_truth.specs.Pair.{rootBit, rootRow};
-ghost use Rattle.base_truth.specs.Variant.{placesOf, variantTable, crossed, crossedAt, turned, leafTable, pinNet};
+ghost use Rattle.base.specs.{_≡_, ℕ, _+_, _*_, _/_, _%_, _^_, _<_, _≤_, map, true, getD};
+ghost use Rattle.model.specs.{bit, one, below, literal, opposite, value, rowMap, phaseTable, pairTable};
+ghost use Rattle.base_truth.specs.{rootBit, rootRow, placesOf, variantTable, crossed, crossedAt, turned, leafTable, pinNet};
 
 // "A fixed table of 384 rows gives, for each order and row r, the row whose bit j is the bit of r at the order's place j".
 const ROWS: [[u8; 16]; 24] = [

@@ -4,25 +4,16 @@
 --     phase-put, phase-apart      a phase that was stored is loaded, and a store elsewhere leaves it
 --     phase-none                  zeros are no source
 --     needed-put, needed-other    a phase that was marked is needed, and whether another is stays
--- Assumes nothing.
-use mathlib.Core.Path.{_≡_, refl, sym, ap, _∙_}
-use mathlib.Core.Bool.{Bool, true, false}
-use mathlib.Core.List.{List, [], _∷_, _++_}
-use Prim.Native.Nat.{ℕ, _+_, _*_, _/_, _%_, _≤_, _<_}
-use native.Mathlib.Nat.{add-zero}
-use native.Mathlib.Omega.{arith}
-use lib.Dec.{eqb}
-use lib.ListN.{length, getD}
-use borrow.Author.Tests.{eqb-true, eqb-false, eq-eqb}
-use Rattle.model.specs.Choice.{noPhase}
+use Rattle.base.specs.{_≡_, refl, sym, ap, _∙_, Bool, true, false, List, [], _∷_, _++_, ℕ, _+_, _*_, _/_, _%_, _≤_, _<_, add-zero, arith}
+use Rattle.base.specs.{eqb, length, getD, eqb-true, eqb-false, eq-eqb}
+use Rattle.model.specs.{noPhase}
 use Rattle.model.specs.declared.Match.{Match}
 use Rattle.model.specs.declared.Source.{Source}
 use Rattle.model.specs.declared.Source.the-variants.{Input, Cell as Matched, Inverter as Inverted, Nothing}
 use Rattle.model.specs.declared.Phase.{Phase}
-use Rattle.base_words.specs.Put.{putAt}
-use Rattle.base_words.specs.Layout.{Room, kindAddr, leftAddr, rightAddr, neededAt, neededAddr}
-use Rattle.base_words.specs.Record.{putNode}
-use Rattle.base_words.specs.Phases.{MatchFits, SourceFits, PhaseFits, matchWord, sourceWords, arrivalWords, phaseWords, matchOf, kindSource, sourceOf, phaseIn, flagOf, withFlag, isNeeded, putNeeded}
+use Rattle.base_words.specs.{putAt, Room, kindAddr, leftAddr, rightAddr, neededAt, neededAddr, putNode, MatchFits, SourceFits}
+use Rattle.base_words.specs.{PhaseFits, matchWord, sourceWords, arrivalWords, phaseWords, matchOf, kindSource, sourceOf, phaseIn}
+use Rattle.base_words.specs.{flagOf, withFlag, isNeeded, putNeeded}
 use Rattle.base_words.proofs.Putting.{length-put}
 use Rattle.base_words.proofs.Parts.{Apart, OfWords, of-words, read-put, read-apart, word-put, word-apart}
 

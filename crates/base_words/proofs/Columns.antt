@@ -5,18 +5,12 @@
 --     cut-from, cut-to            the words of the cuts lie in the lists
 --     cut-words-apart             and no two of them meet
 --     room-need, room-for         enough words are asked for
--- Assumes nothing.
-use mathlib.Core.Path.{_≡_, refl, sym, ap, subst, _∙_}
-use mathlib.Core.Bool.{Bool, true, false}
-use mathlib.Core.List.{List}
-use Prim.Native.Nat.{ℕ, zero, suc, _+_, _≤_, _<_}
-use native.Mathlib.Omega.{arith}
-use lib.Dec.{eqb, ltb}
-use lib.ListN.{length, getD}
-use borrow.Author.Tests.{eqb-true, eqb-false, ltb-true, ltb-false}
-use Rattle.model.specs.Limits.{cutLimit, need}
-use Rattle.base_words.specs.Layout.{Room, RoomFor, cutAddr, listsFrom, listsTo, outputAddr}
-use Rattle.base_words.specs.Places.{Column, kinds, lefts, rights, order, places, counts, needs, lates, positives, negatives, sizes, firsts, seconds, thirds, fourths, functions, outputs, cutColumn, columns, rank, edge, addressOf, sizeOf, Listed}
+use Rattle.base.specs.{_≡_, refl, sym, ap, subst, _∙_, Bool, true, false, List, ℕ, zero, suc, _+_, _≤_, _<_, arith, eqb, ltb, length, getD}
+use Rattle.base.specs.{eqb-true, eqb-false, ltb-true, ltb-false}
+use Rattle.model.specs.{cutLimit, need}
+use Rattle.base_words.specs.{Room, RoomFor, cutAddr, listsFrom, listsTo, outputAddr, Column, kinds, lefts, rights, order, places}
+use Rattle.base_words.specs.{counts, needs, lates, positives, negatives, sizes, firsts, seconds, thirds, fourths, functions, outputs}
+use Rattle.base_words.specs.{cutColumn, columns, rank, edge, addressOf, sizeOf, Listed}
 use Rattle.base_words.proofs.Parts.{Apart}
 
 -- "124(M+1) + O 16-bit words" are what the columns take

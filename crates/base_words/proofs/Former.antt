@@ -5,22 +5,13 @@
 --     former-cut, former-function "each old cut is found under its old number", and so is its function
 --     former-put-cut              a cut that is stored by columns is stored there under the same number
 --     former-put                  words stored outside the lists are stored there too
--- So one store follows the other from word to word, and what is read of a cut is the same. Assumes nothing.
-use mathlib.Core.Path.{_≡_, refl, sym, ap, _∙_}
-use mathlib.Core.Bool.{Bool, true, false, cond}
-use mathlib.Core.List.{List, [], _∷_}
-use Prim.Native.Nat.{ℕ, zero, suc, _+_, _-_, _*_, _/_, _%_, _≤_, _<_}
-use native.Mathlib.Nat.{add-zero, zero-add, not-suc-le-zero, le-of-suc-le-suc}
-use native.Mathlib.Omega.{arith}
-use lib.Dec.{ltb, eqb}
-use lib.ListN.{length, getD}
-use lib.Seq.{ext-getD}
-use borrow.Author.Tests.{eqb-true, eqb-false, ltb-true, ltb-false, lt-ltb, le-ltb}
-use Rattle.model.specs.Limits.{cutLimit}
+-- So one store follows the other from word to word, and what is read of a cut is the same.
+use Rattle.base.specs.{_≡_, refl, sym, ap, _∙_, Bool, true, false, cond, List, [], _∷_, ℕ, zero, suc, _+_, _-_, _*_, _/_, _%_, _≤_, _<_}
+use Rattle.base.specs.{add-zero, zero-add, not-suc-le-zero, le-of-suc-le-suc, arith, ltb, eqb, length, getD, ext-getD, eqb-true, eqb-false}
+use Rattle.base.specs.{ltb-true, ltb-false, lt-ltb, le-ltb}
+use Rattle.model.specs.{cutLimit}
 use Rattle.model.specs.declared.Cut.{Cut}
-use Rattle.base_words.specs.Put.{putAt, zeros}
-use Rattle.base_words.specs.Layout.{Room, block, cutAddr, functionAddr, listsFrom, listsTo}
-use Rattle.base_words.specs.Record.{cutBy, cutOf, functionOf, putCut}
+use Rattle.base_words.specs.{putAt, zeros, Room, block, cutAddr, functionAddr, listsFrom, listsTo, cutBy, cutOf, functionOf, putCut}
 use Rattle.base_words.proofs.Putting.{length-put, get-put, get-put-below, get-put-above}
 use Rattle.base_words.proofs.Parts.{get-apart, put-same}
 use Rattle.base_words.proofs.Columns.{cut-from, cut-to}

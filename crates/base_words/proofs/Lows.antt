@@ -1,14 +1,8 @@
 -- The laws of the low arrivals in words, which callers of `low` and `set_low` cite:
 --     low-put, low-apart        what was stored is loaded, and every other low arrival stays
 --     low-before, low-behind    so does every word outside the functions
--- Assumes nothing.
-use mathlib.Core.Path.{_≡_, sym, ap, ap₂, _∙_}
-use mathlib.Core.List.{List}
-use Prim.Native.Nat.{ℕ, _+_, _*_, _/_, _%_, _≤_, _<_}
-use native.Mathlib.Omega.{arith}
-use lib.ListN.{length, getD}
-use Rattle.base_words.specs.Put.{putAt}
-use Rattle.base_words.specs.Layout.{Room, listsTo, outputAddr, lowAddr, lowAt, lowWords}
+use Rattle.base.specs.{_≡_, sym, ap, ap₂, _∙_, List, ℕ, _+_, _*_, _/_, _%_, _≤_, _<_, arith, length, getD}
+use Rattle.base_words.specs.{putAt, Room, listsTo, outputAddr, lowAddr, lowAt, lowWords}
 use Rattle.base_words.proofs.Putting.{length-put, get-put, get-put-below, get-put-above}
 use Rattle.base_words.proofs.Parts.{get-apart}
 

@@ -8,18 +8,10 @@
 --     read-put                    it is read out of the words that were put
 --     read-apart                  it is as before, where its words and those do not meet
 --     word-put, word-apart        so for one word
--- Assumes nothing.
-use mathlib.Core.Path.{_≡_, refl, sym, ap, _∙_}
-use mathlib.Core.Bool.{Bool, true, false}
-use mathlib.Core.List.{List, [], _∷_, _++_, append-nil}
-use Prim.Native.Nat.{ℕ, _+_, _-_, _≤_, _<_}
-use native.Mathlib.Nat.{add-zero, zero-add}
-use native.Mathlib.Omega.{arith}
-use lib.Dec.{ltb, leb}
-use borrow.Author.Tests.{ltb-true, ltb-false, leb-true, leb-false}
-use lib.ListN.{length, take, drop, getD, length-take, length-drop, length-replicate, getD-replicate}
-use lib.Seq.{drop-length, getD-take, getD-drop, ext-getD}
-use Rattle.base_words.specs.Put.{putAt, zeros}
+use Rattle.base.specs.{_≡_, refl, sym, ap, _∙_, Bool, true, false, List, [], _∷_, _++_, append-nil, ℕ, _+_, _-_, _≤_, _<_, add-zero}
+use Rattle.base.specs.{zero-add, arith, ltb, leb, ltb-true, ltb-false, leb-true, leb-false, length, take, drop, getD, length-take}
+use Rattle.base.specs.{length-drop, length-replicate, getD-replicate, drop-length, getD-take, getD-drop, ext-getD}
+use Rattle.base_words.specs.{putAt, zeros}
 use Rattle.base_words.proofs.Putting.{length-put, get-put, get-put-below, get-put-above}
 
 pub put-whole : (w vs : List ℕ) → length vs ≡ length w → putAt w 0 vs ≡ vs

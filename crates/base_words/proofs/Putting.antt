@@ -6,16 +6,11 @@
 --     put-zeros, put-taken        such a loop that clears, or copies
 --     put-one                     one store
 --     put-append                  words put right behind others
--- Assumes nothing.
-use mathlib.Core.Path.{_≡_, sym, ap, _∙_}
-use mathlib.Core.List.{List, [], _∷_, _++_, append-assoc}
-use Prim.Native.Nat.{ℕ, suc, _+_, _-_, _≤_, _<_}
-use native.Mathlib.Nat.{add-zero}
-use native.Mathlib.Numerals.{add-one}
-use native.Mathlib.Omega.{arith}
-use lib.ListN.{length, take, drop, getD, set, length-append, length-take, length-drop, take-append-drop, List·getD-append, length-replicate, replicate-append-replicate}
-use lib.Seq.{take-at, getD-append-add, length-take-le, getD-take, getD-drop, set-split, drop-cons, set-at, append-snoc, take-suc, drop-append-add, drop-drop}
-use Rattle.base_words.specs.Put.{putAt, zeros}
+use Rattle.base.specs.{_≡_, sym, ap, _∙_, List, [], _∷_, _++_, append-assoc, ℕ, suc, _+_, _-_, _≤_, _<_, add-zero, add-one, arith, length}
+use Rattle.base.specs.{take, drop, getD, set, length-append, length-take, length-drop, take-append-drop, List·getD-append, length-replicate}
+use Rattle.base.specs.{replicate-append-replicate, take-at, getD-append-add, length-take-le, getD-take, getD-drop, set-split, drop-cons}
+use Rattle.base.specs.{set-at, append-snoc, take-suc, drop-append-add, drop-drop}
+use Rattle.base_words.specs.{putAt, zeros}
 
 module _ (w : List ℕ) (at : ℕ) (vs : List ℕ) (fits : at + length vs ≤ length w) where
   pub length-put : length (putAt w at vs) ≡ length w

@@ -12,21 +12,14 @@
 --     cut-same, cuts-same, sound-same     words that agree in the lists have the same cuts
 --     put-list-..                 what storing a list leaves: the list at its variable, the lists of others, and all words outside the counts and the lists
 --     held-count, held-cut        the cuts of a graph, where the words hold them
--- Assumes nothing.
-use mathlib.Core.Path.{_≡_, refl, sym, ap, _∙_, subst}
-use mathlib.Core.List.{List, [], _∷_, _++_, map}
-use Prim.Native.Nat.{ℕ, zero, suc, _+_, _*_, _≤_, _<_}
-use native.Mathlib.Nat.{add-zero, zero-add, not-suc-le-zero, le-of-suc-le-suc}
-use native.Mathlib.Omega.{arith}
-use lib.ListN.{length, getD, length-append, length-take}
-use Rattle.model.specs.Limits.{cutLimit}
+use Rattle.base.specs.{_≡_, refl, sym, ap, _∙_, subst, List, [], _∷_, _++_, map, ℕ, zero, suc, _+_, _*_, _≤_, _<_, add-zero, zero-add}
+use Rattle.base.specs.{not-suc-le-zero, le-of-suc-le-suc, arith, length, getD, length-append, length-take}
+use Rattle.model.specs.{cutLimit, cutsOf}
 use Rattle.model.specs.Graph.{Graph}
-use Rattle.model.specs.Cuts.{cutsOf}
 use Rattle.model.specs.declared.Cut.{Cut}
-use Rattle.base_words.specs.Put.{putAt}
-use Rattle.base_words.specs.Layout.{Room, countAt, countAddr, countsFrom, countsTo, cutAddr, listsFrom, listsTo}
-use Rattle.base_words.specs.Record.{leavesOf, cutBy, cutIn, cutOf, leavesAt, leavesFrom, cutsAt, padded, cutWords, putFrom, putCut, putCuts, putList, Good, AllGood, Sound}
-use Rattle.base_words.specs.Holding.{HoldsCuts}
+use Rattle.base_words.specs.{putAt, Room, countAt, countAddr, countsFrom, countsTo, cutAddr, listsFrom, listsTo, leavesOf, cutBy}
+use Rattle.base_words.specs.{cutIn, cutOf, leavesAt, leavesFrom, cutsAt, padded, cutWords, putFrom, putCut, putCuts, putList, Good}
+use Rattle.base_words.specs.{AllGood, Sound, HoldsCuts}
 use Rattle.base_words.proofs.Putting.{length-put}
 use Rattle.base_words.proofs.Parts.{word-put, word-apart}
 use Rattle.base_words.proofs.Columns.{cut-from, cut-to, cut-words-apart}

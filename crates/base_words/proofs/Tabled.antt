@@ -4,17 +4,9 @@
 --     functions-none, functions-more      a loop that stores one function a turn
 --     function-same                       words that agree in the functions
 --     function-fits                       a function is a word
--- Assumes nothing.
-use mathlib.Core.Path.{_≡_, sym, ap, _∙_}
-use mathlib.Core.List.{List, [], _∷_}
-use Prim.Native.Nat.{ℕ, _+_, _≤_, _<_}
-use native.Mathlib.Omega.{arith}
-use lib.ListN.{length, take, getD}
-use lib.Seq.{length-take-le}
-use Rattle.model.specs.Limits.{cutLimit}
-use Rattle.base_words.specs.Put.{putAt}
-use Rattle.base_words.specs.Layout.{Room, functionAddr, listsTo, outputAddr}
-use Rattle.base_words.specs.Record.{functionOf, putFunctions}
+use Rattle.base.specs.{_≡_, sym, ap, _∙_, List, [], _∷_, ℕ, _+_, _≤_, _<_, arith, length, take, getD, length-take-le}
+use Rattle.model.specs.{cutLimit}
+use Rattle.base_words.specs.{putAt, Room, functionAddr, listsTo, outputAddr, functionOf, putFunctions}
 use Rattle.base_words.proofs.Putting.{length-put, get-put, get-put-below, get-put-above, put-none, put-one, put-taken}
 use Rattle.base_words.proofs.Parts.{get-apart}
 

@@ -1,14 +1,7 @@
 -- What the lent words hold between the passes, in terms of `model`: the graph, its placing order, its cuts, the chosen phases and the needed ones.
--- Assumes nothing.
-use mathlib.Core.Path.{_≡_}
-use mathlib.Core.List.{List, [], List·Memᴰ}
-use Prim.Native.Nat.{ℕ, _+_, _*_, _≤_, _<_}
-use lib.ListN.{length, getD}
-use Rattle.model.specs.Base.{elem}
-use Rattle.model.specs.Graph.{Graph, node, placingOrder}
-use Rattle.model.specs.Cuts.{cutsOf, cutTable}
-use Rattle.model.specs.Choice.{chosen}
-use Rattle.model.specs.Netlist.{needed}
+use Rattle.base.specs.{_≡_, List, [], List·Memᴰ, ℕ, _+_, _*_, _≤_, _<_, length, getD}
+use Rattle.model.specs.{elem, node, placingOrder, cutsOf, cutTable, chosen, needed}
+use Rattle.model.specs.Graph.{Graph}
 use Rattle.model.specs.declared.Cell.{Cell}
 use Rattle.base_words.specs.Layout.{RoomFor, slotAt, placeAt, lateAt, outputAt}
 use Rattle.base_words.specs.Record.{nodeAt, cutsAt, functionOf}

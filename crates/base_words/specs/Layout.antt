@@ -1,11 +1,9 @@
 -- What lies where in the lent words: a column for each property of a variable, then the cuts by columns, "all sizes together, then all first leaves,
 -- and so on, then all functions", and the outputs.
 -- With W = M + 1 variables a column of one word for each variable takes W words, one of a word for each cut 18 W. No other crate writes a number for an
--- address, and none names the address of a cut or of its function. Assumes nothing.
-use mathlib.Core.List.{List, [], _∷_}
-use Prim.Native.Nat.{ℕ, _+_, _*_, _/_, _%_, _≤_}
-use lib.ListN.{length, getD}
-use Rattle.model.specs.Limits.{cutLimit}
+-- address, and none names the address of a cut or of its function.
+use Rattle.base.specs.{List, [], _∷_, ℕ, _+_, _*_, _/_, _%_, _≤_, length, getD}
+use Rattle.model.specs.{cutLimit}
 use Rattle.model.specs.declared.Header.{Header}
 
 -- ---- the kinds of a node

@@ -1,13 +1,6 @@
--- A phase as four words, and the needed phases of a variable as one. Assumes nothing.
-use mathlib.Core.Bool.{Bool, cond, not, _&&_}
-use mathlib.Core.List.{List, [], _∷_, _++_}
-use Prim.Native.Nat.{ℕ, _+_, _*_, _/_, _%_, _<_}
-use lib.Dec.{eqb}
-use lib.ListN.{getD}
-use Rattle.model.specs.Limits.{cutLimit}
-use Rattle.model.specs.Graph.{varOf, negated}
-use Rattle.model.specs.Choice.{Phases, phaseOf, absent}
-use Rattle.model.specs.Netlist.{isOwn}
+-- A phase as four words, and the needed phases of a variable as one.
+use Rattle.base.specs.{Bool, cond, not, _&&_, List, [], _∷_, _++_, ℕ, _+_, _*_, _/_, _%_, _<_, eqb, getD}
+use Rattle.model.specs.{cutLimit, varOf, negated, Phases, phaseOf, absent, isOwn}
 use Rattle.model.specs.declared.Match.{Match}
 use Rattle.model.specs.declared.Source.{Source}
 use Rattle.model.specs.declared.Source.the-variants.{Input, Cell as Matched, Inverter as Inverted, Nothing}

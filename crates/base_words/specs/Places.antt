@@ -1,10 +1,8 @@
--- The layout as a whole: the columns in the order in which they stand, and the address and the size of every record. Assumes nothing.
-use mathlib.Core.List.{List, [], _∷_}
-use mathlib.Core.Path.{_≡_}
-use Prim.Native.Nat.{ℕ, zero, suc, _+_, _*_, _≤_, _<_}
-use lib.ListN.{getD}
-use Rattle.model.specs.Limits.{cutLimit}
-use Rattle.base_words.specs.Layout.{kindAddr, leftAddr, rightAddr, slotAddr, placeAddr, countAddr, neededAddr, lateAddr, positiveAddr, negativeAddr, cutAddr, functionAddr, outputAddr}
+-- The layout as a whole: the columns in the order in which they stand, and the address and the size of every record.
+use Rattle.base.specs.{List, [], _∷_, _≡_, ℕ, zero, suc, _+_, _*_, _≤_, _<_, getD}
+use Rattle.model.specs.{cutLimit}
+use Rattle.base_words.specs.Layout.{kindAddr, leftAddr, rightAddr, slotAddr, placeAddr, countAddr, neededAddr, lateAddr, positiveAddr}
+use Rattle.base_words.specs.Layout.{negativeAddr, cutAddr, functionAddr, outputAddr}
 
 pub data Column : Type 0 where
   kinds lefts rights order places counts needs lates positives negatives sizes firsts seconds thirds fourths functions outputs : Column

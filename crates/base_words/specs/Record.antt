@@ -1,16 +1,12 @@
 -- A node as three words, its kind and its operands; a cut as five words, its count and its four leaves; a cut's function as one.
 -- Other crates name a cut and its function by M, the variable and the cut's number, and read and store them by the names here: where they lie is
--- not theirs to know. Assumes nothing.
-use mathlib.Core.Bool.{cond}
-use mathlib.Core.List.{List, [], _∷_, _++_, map}
-use Prim.Native.Nat.{ℕ, zero, suc, _≤_, _<_}
-use lib.Dec.{eqb}
-use lib.ListN.{length, take, getD}
-use Rattle.model.specs.Limits.{cutLimit}
+-- not theirs to know.
+use Rattle.base.specs.{cond, List, [], _∷_, _++_, map, ℕ, zero, suc, _≤_, _<_, eqb, length, take, getD}
+use Rattle.model.specs.{cutLimit, Node, constant, input, undefined, both}
 use Rattle.model.specs.declared.Cut.{Cut}
-use Rattle.model.specs.Graph.{Node, constant, input, undefined, both}
 use Rattle.base_words.specs.Put.{putAt}
-use Rattle.base_words.specs.Layout.{constantKind, inputKind, andKind, kindAddr, leftAddr, rightAddr, kindAt, leftAt, rightAt, countAt, countAddr, cutAddr, functionAddr}
+use Rattle.base_words.specs.Layout.{constantKind, inputKind, andKind, kindAddr, leftAddr, rightAddr, kindAt, leftAt, rightAt, countAt}
+use Rattle.base_words.specs.Layout.{countAddr, cutAddr, functionAddr}
 
 -- the leaves of a cut
 abbrev pub leavesOf : Cut → List ℕ

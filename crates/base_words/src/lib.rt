@@ -4,20 +4,13 @@ use model::Header;
 use model::Match;
 use model::Phase;
 use model::Source;
-ghost use mathlib.Core.Path.{_≡_};
-ghost use Prim.Native.Nat.{_+_, _-_, _*_, _/_, _≤_, _<_};
-ghost use mathlib.Core.List.{_∷_, []};
-ghost use lib.ListN.{length, getD, replicate};
-ghost use Rattle.model.specs.Limits.{cutLimit, need};
-ghost use Rattle.model.specs.Choice.{absent};
-ghost use Rattle.model.specs.Netlist.{isOwn, isInverted};
-ghost use Rattle.base_words.specs.Put.{putAt, zeros};
-ghost use Rattle.base_words.specs.Layout.{placedOf, Room, RoomFor, kindAt, kindAddr, leftAt, leftAddr, rightAt, rightAddr, slotAt, slotAddr, placeAt};
-ghost use Rattle.base_words.specs.Layout.{placeAddr, countAt, countAddr, neededAt, neededAddr, lateAt, lateAddr, positiveAddr, negativeAddr, cutAddr};
-ghost use Rattle.base_words.specs.Layout.{listsFrom, outputAt, outputAddr, lowAddr, lowAt, lowWords};
-ghost use Rattle.base_words.specs.Record.{cutOf, functionOf, putCut, putFunctions, putNode};
-ghost use Rattle.base_words.specs.Phases.{MatchFits, matchWord, PhaseFits, kindSource, phaseWords, phaseIn, positiveAt, negativeAt, phaseAt, makesGate};
-ghost use Rattle.base_words.specs.Phases.{isNeeded, putNeeded};
+ghost use Rattle.base.specs.{_≡_, _+_, _-_, _*_, _/_, _≤_, _<_, _∷_, [], length, getD, replicate};
+ghost use Rattle.model.specs.{cutLimit, need, absent, isOwn, isInverted};
+ghost use Rattle.base_words.specs.{putAt, zeros, placedOf, Room, RoomFor, kindAt, kindAddr, leftAt, leftAddr, rightAt, rightAddr};
+ghost use Rattle.base_words.specs.{slotAt, slotAddr, placeAt, placeAddr, countAt, countAddr, neededAt, neededAddr, lateAt, lateAddr};
+ghost use Rattle.base_words.specs.{positiveAddr, negativeAddr, cutAddr, listsFrom, outputAt, outputAddr, lowAddr, lowAt, lowWords};
+ghost use Rattle.base_words.specs.{cutOf, functionOf, putCut, putFunctions, putNode, MatchFits, matchWord, PhaseFits, kindSource};
+ghost use Rattle.base_words.specs.{phaseWords, phaseIn, positiveAt, negativeAt, phaseAt, makesGate, isNeeded, putNeeded};
 
 // "more than 18 cuts": the code's one constant for the cut limit, `cutLimit` of model.
 pub const LIMIT: usize = 18;

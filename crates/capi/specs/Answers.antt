@@ -1,7 +1,6 @@
--- The answers of the exported calls, by the five values that document 01 names. Assumes nothing.
-use Prim.Native.Nat.{ℕ}
-use Rattle.model.specs.Mapper.{Returned}
-use Rattle.model.specs.Check.{Told}
+-- The answers of the exported calls, by the five values that document 01 names.
+use Rattle.base.specs.{ℕ}
+use Rattle.model.specs.{Returned, Told}
 use Rattle.model.specs.declared.Verdict.{Verdict}
 use Rattle.model.specs.declared.Verdict.the-variants.{Accepted, Refused}
 use Rattle.capi.specs.declared.MapperAnswer.{MapperAnswer}

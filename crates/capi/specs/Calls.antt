@@ -1,12 +1,8 @@
--- What the exported calls that map answer, leave of the lent memory, and promise. Assumes nothing.
-use Prim.Native.Nat.{ℕ}
-use mathlib.Core.Path.{_≡_}
-use mathlib.Core.Bool.{Bool}
-use mathlib.Core.List.{List}
-use Rattle.model.specs.Mapper.{callOf, mapTexts, returnedBy, textAfter, workAfter}
-use Rattle.model.specs.Channels.{TwoCall, channelOf, twoCallOf, needsOf, mapTwo, twoWorkAfter}
+-- What the exported calls that map answer, leave of the lent memory, and promise.
+use Rattle.base.specs.{ℕ, _≡_, Bool, List}
+use Rattle.model.specs.{callOf, mapTexts, returnedBy, textAfter, workAfter, TwoCall, channelOf, twoCallOf, needsOf, mapTwo, twoWorkAfter}
 use Rattle.promises.specs.Promised.{Promised}
-use Rattle.promises.specs.TwoDemands.{TwoPromised}
+use Rattle.promises.specs.{TwoPromised}
 use Rattle.capi.specs.Answers.{answered}
 use Rattle.capi.specs.declared.MapperAnswer.{MapperAnswer}
 use Rattle.capi.specs.declared.MapperTwo.{MapperTwo}

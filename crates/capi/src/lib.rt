@@ -3,23 +3,15 @@ use model::Answer;
 use model::Checked;
 use model::Verdict;
 use model::Written;
-ghost use mathlib.Core.Path.{_≡_};
-ghost use mathlib.Core.Bool.{true, false};
-ghost use lib.ListN.{length};
-ghost use Rattle.model.specs.Mapper.{returned};
-ghost use Rattle.model.specs.Genlib.{genlibText, writtenAnswer, writtenPair, writtenAfter};
-ghost use Rattle.model.specs.GenlibDemands.{GenlibDemand};
-ghost use Rattle.theory_foundry.specs.GateRefusals.{GenlibRefusals};
-ghost use Rattle.model.specs.Reading.{verdictOf};
-ghost use Rattle.model.specs.Tally.{countText, reportOf};
-ghost use Rattle.theory_tally.specs.CountRefusals.{CountRefusals, ReportRefusals};
-ghost use Rattle.tally_call.specs.Numbers.{tallyOf, numbersAfter};
-ghost use Rattle.tally_call.specs.Demands.{CountReturned, ReportReturned};
-ghost use Rattle.model.specs.Check.{checkTexts, checkedWork, toldOf};
-ghost use Rattle.model.specs.CheckDemands.{CheckPromised};
+ghost use Rattle.base.specs.{_≡_, true, false, length};
+ghost use Rattle.model.specs.{returned, genlibText, writtenAnswer, writtenPair, writtenAfter, GenlibDemand, verdictOf, countText, reportOf};
+ghost use Rattle.model.specs.{checkTexts, checkedWork, toldOf, CheckPromised};
+ghost use Rattle.theory_foundry.specs.{GenlibRefusals};
+ghost use Rattle.theory_tally.specs.CountRefusals.{CountRefusals};
+ghost use Rattle.theory_tally.specs.{ReportRefusals};
 ghost use Rattle.theory_check.specs.CheckRefusals.{CheckRefusals};
-ghost use Rattle.capi.specs.Calls.{Called, CalledTwo};
-ghost use Rattle.capi.specs.Answers.{answered, answeredText, checkedAnswer, verdictPair};
+ghost use Rattle.tally_call.specs.{tallyOf, numbersAfter, CountReturned, ReportReturned};
+ghost use Rattle.capi.specs.{Called, CalledTwo, answered, answeredText, checkedAnswer, verdictPair};
 
 // "Success returns number 0, the netlist's length and the three figures of its `# gates` line; a refusal its number, its place and zero figures".
 #[repr(C)]
@@ -222,8 +214,8 @@ pub extern "C" fn mapper_map_two_pairs(
     }
 }
 
-// What a check answers: 0 where the netlist is accepted, 1 with "the lowest setting that differs" and "that setting's first wrong output", 2 with a refusal's
-// number and place.
+// What a check answers: 0 where the netlist is accepted, 1 with "the lowest setting that differs" and "that setting's first wrong output", 2
+// with a refusal's number and place.
 #[repr(C)]
 pub struct MapperChecked {
     pub verdict: u64,

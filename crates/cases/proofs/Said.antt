@@ -1,22 +1,10 @@
--- What the computed examples share: texts, kinds of case, and what it is for a case to hold. Assumes nothing.
-use Prim.Native.Nat.{ℕ}
+-- What the computed examples share: texts, kinds of case, and what it is for a case to hold.
 use Prim.Native.String.{String}
-use mathlib.Core.Bool.{Bool, true, false, _&&_}
-use mathlib.Core.Option.{Option, none, some}
-use mathlib.Core.List.{List, [], _∷_, _++_}
-use lib.Dec.{eqb}
-use lib.ListN.{getD}
-use Rattle.model.specs.Base.{same, each}
-use Rattle.model.specs.Text.{text}
-use Rattle.model.specs.Table.{orders, rowMap}
-use Rattle.model.specs.Graph.{And, Graph}
-use Rattle.model.specs.Cuts.{cutsOf, cutTable}
-use Rattle.model.specs.Netlist.{Outcome, refused, mapped}
-use Rattle.model.specs.Reading.{Read, fault, next}
-use Rattle.model.specs.Reading.{holds as reads}
-use Rattle.model.specs.GraphText.{readHeader, readGraph, asciiText}
-use Rattle.model.specs.Mapper.{Call, mapTexts, Returned}
-use Rattle.model.specs.Blif.{Wire, Blif, readBlif, readFigures}
+use Rattle.base.specs.{ℕ, Bool, true, false, _&&_, Option, none, some, List, [], _∷_, _++_, eqb, getD}
+use Rattle.model.specs.{same, each, text, orders, rowMap, And, cutsOf, cutTable, Outcome, refused, mapped, Read, fault, next}
+use Rattle.model.specs.{holds as reads, readHeader, readGraph, asciiText, Call, mapTexts, Returned, Wire, readBlif, readFigures}
+use Rattle.model.specs.Graph.{Graph}
+use Rattle.model.specs.Blif.{Blif}
 use Rattle.model.specs.declared.Figures.{Figures}
 
 -- "B is the listing above, its library the one meant below."

@@ -1,16 +1,10 @@
 -- Edited netlists checked from the texts on, against the definitions by computing: each refusal's place, the lowest setting that differs and its first wrong
--- output, worked out by hand from the document. Assumes nothing.
-use Prim.Native.Nat.{ℕ}
+-- output, worked out by hand from the document.
 use Prim.Native.String.{String}
-use mathlib.Core.Bool.{Bool, _&&_}
-use mathlib.Core.List.{List, [], _∷_, _++_}
-use lib.Dec.{T, eqb}
-use lib.ListN.{replicate}
-use Rattle.model.specs.Base.{all, same}
-use Rattle.model.specs.Text.{text}
-use Rattle.model.specs.Check.{Told, checkTexts, toldOf, checkedWork}
+use Rattle.base.specs.{ℕ, Bool, _&&_, List, [], _∷_, _++_, T, eqb, replicate}
+use Rattle.model.specs.{all, same, text, Told, checkTexts, toldOf, checkedWork}
 use Rattle.model.specs.declared.Checked.the-variants.{Accepted, Differs, Refused}
-use Rattle.cases.proofs.Said.{library, with, listing, graphB, headB}
+use Rattle.cases.proofs.{library, with, listing, graphB, headB}
 
 -- a check's texts, with so many words lent, and what is returned
 pub record CheckCase : Type 0 where

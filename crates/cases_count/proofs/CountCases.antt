@@ -1,17 +1,12 @@
 -- The conditions of a count hold of texts: case B's netlist is counted, and a netlist refused at each end of what they say. By computing what is read, which is
--- exactly what the conditions say (`CountCalls.count-exactly`). Assumes nothing.
-use Prim.Native.Nat.{ℕ}
-use mathlib.Core.Path.{_≡_, refl}
-use mathlib.Core.List.{List, [], _++_}
-use Rattle.model.specs.Text.{text}
-use Rattle.model.specs.Reading.{holds, fault}
-use Rattle.model.specs.Tally.{emptyTally, countText, reportOf}
+-- exactly what the conditions say (`CountCalls.count-exactly`).
+use Rattle.base.specs.{ℕ, _≡_, refl, List, [], _++_}
+use Rattle.model.specs.{text, holds, fault, emptyTally, countText, reportOf}
 use Rattle.model.specs.declared.Tally.{Tally}
-use Rattle.cases.proofs.Said.{library, listing}
-use Rattle.cases.proofs.Said.{ranged}
-use Rattle.cases_tally.proofs.TallyCases.{tallied, once, with}
-use Rattle.theory_tally.specs.CountRefusals.{CountHolds, CountFault, ReportFault}
-use Rattle.theory_tally.proofs.CountCalls.{count-exactly, report-exactly}
+use Rattle.cases.proofs.{library, listing, ranged}
+use Rattle.cases_tally.proofs.{tallied, once, with}
+use Rattle.theory_tally.specs.{CountHolds, CountFault, ReportFault}
+use Rattle.theory_tally.proofs.{count-exactly, report-exactly}
 
 counts : (l : List ℕ) (t : Tally) (n : List ℕ) (u : Tally) → countText t l n ≡ holds u → CountHolds t l n u
 counts l t n u e = count-exactly t l n .accepts u .0 e

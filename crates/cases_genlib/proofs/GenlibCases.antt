@@ -1,18 +1,10 @@
 -- Genlib texts and what is written for them, checked against the definitions by computing: gates as foundries write them, and the edges of each refusal.
--- Assumes nothing.
-use Prim.Native.Nat.{ℕ}
 use Prim.Native.String.{String}
-use mathlib.Core.Bool.{Bool, true, false, _&&_}
-use mathlib.Core.List.{List, [], _∷_, _++_, map}
-use lib.Dec.{T, eqb}
-use lib.ListN.{replicate}
-use Rattle.model.specs.Base.{all, same, each}
-use Rattle.model.specs.Text.{text}
-use Rattle.model.specs.Reading.{Read, holds, fault}
-use Rattle.model.specs.LibraryText.{readLibrary}
-use Rattle.model.specs.Cells.{nameOf}
+use Rattle.base.specs.{ℕ, Bool, true, false, _&&_, List, [], _∷_, _++_, map, T, eqb, replicate}
+use Rattle.model.specs.{all, same, each, text, Read, holds, fault, readLibrary, nameOf, readGenlib, cellsText, genlibText, writtenAnswer}
+use Rattle.model.specs.{writtenPair, writtenAfter}
 use Rattle.model.specs.declared.Cell.{Cell}
-use Rattle.model.specs.Genlib.{Gate, readGenlib, cellsText, genlibText, writtenAnswer, writtenPair, writtenAfter}
+use Rattle.model.specs.Genlib.{Gate}
 
 -- what is said of a genlib text with 65,536 bytes lent
 pub data Case : Type 0 where

@@ -1,13 +1,9 @@
 -- Outputs' names, wires and figures read back, and late inputs, checked against the definitions by computing.
--- Assumes nothing.
-use Prim.Native.Nat.{ℕ}
 use Prim.Native.String.{String}
-use mathlib.Core.List.{List, [], _∷_, _++_, map}
-use lib.Dec.{T}
-use lib.ListN.{replicate}
-use Rattle.model.specs.Base.{all}
-use Rattle.model.specs.Text.{text}
-use Rattle.cases.proofs.Said.{library, listing, with, graphB, graphC, Case, holds, headB, arrives, prints, gives, lacks, suffices, printsTimed, givesTimed, refusesTimed, says, saysNothing, wires, unread}
+use Rattle.base.specs.{ℕ, List, [], _∷_, _++_, map, T, replicate}
+use Rattle.model.specs.{all, text}
+use Rattle.cases.proofs.{library, listing, with, graphB, graphC, Case, holds, headB, arrives, prints, gives, lacks, suffices, printsTimed}
+use Rattle.cases.proofs.{givesTimed, refusesTimed, says, saysNothing, wires, unread}
 
 -- ---- outputs with names of their own
 

@@ -1,21 +1,12 @@
 -- The marked cases A to K of the document, from the texts on, matches and ties, and what a call leaves and returns, checked against the definitions
 -- by computing.
--- Assumes nothing.
-use Prim.Native.Nat.{ℕ}
 use Prim.Native.String.{String}
-use mathlib.Core.Bool.{Bool, false, _&&_}
-use mathlib.Core.List.{List, [], _∷_, _++_}
-use lib.Dec.{T, eqb}
-use lib.ListN.{replicate}
-use Rattle.model.specs.Base.{all, same}
-use Rattle.model.specs.Limits.{need}
-use Rattle.model.specs.Text.{text}
-use Rattle.model.specs.Netlist.{refused, mapped}
-use Rattle.model.specs.Reading.{Ruling, verdictRuling}
-use Rattle.model.specs.GraphText.{readHeader, headerAnswer, headerRuling, headerValues}
-use Rattle.model.specs.Mapper.{callOf, mapTexts, answerOf, returned, returnedBy, textAfter, workAfter}
+use Rattle.base.specs.{ℕ, Bool, false, _&&_, List, [], _∷_, _++_, T, eqb, replicate}
+use Rattle.model.specs.{all, same, need, text, refused, mapped, Ruling, verdictRuling, readHeader, headerAnswer, headerRuling, headerValues}
+use Rattle.model.specs.{callOf, mapTexts, answerOf, returned, returnedBy, textAfter, workAfter}
 use Rattle.model.specs.declared.Verdict.the-variants.{Accepted, Refused}
-use Rattle.cases.proofs.Said.{library, listing, with, graphB, graphC, graphF, Case, given, mapText, holds, isReturned, prints, gives, refuses, lists, computes, takes}
+use Rattle.cases.proofs.{library, listing, with, graphB, graphC, graphF, Case, given, mapText, holds, isReturned, prints, gives, refuses}
+use Rattle.cases.proofs.{lists, computes, takes}
 
 unfoldable pub marked : List Case
 unfolding library listing with graphB graphC graphF

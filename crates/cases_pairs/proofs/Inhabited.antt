@@ -1,16 +1,8 @@
 -- The premises of demand 3 and of N13 hold of calls: case B is `Mappable`, with pairs wanted and without, and two libraries of the same cell lines are
--- `Shuffled` for it. By computing. Assumes nothing.
-use mathlib.Core.Path.{refl}
-use mathlib.Core.Bool.{Bool, true, false}
-use mathlib.Core.List.{[]}
-use Rattle.model.specs.Text.{text}
-use Rattle.model.specs.Reading.{Read, holds, fault}
-use Rattle.model.specs.Graph.{unplaced}
-use Rattle.model.specs.Cuts.{crowded}
-use Rattle.model.specs.Mapper.{Design, readTexts}
-use Rattle.model.specs.Demands.{Mappable}
-use Rattle.model.specs.ShuffleDemands.{onLibrary, Shuffled}
-use Rattle.cases.proofs.Said.{library, graphB}
+-- `Shuffled` for it. By computing.
+use Rattle.base.specs.{refl, Bool, true, false, []}
+use Rattle.model.specs.{text, Read, holds, fault, unplaced, crowded, Design, readTexts, Mappable, onLibrary, Shuffled}
+use Rattle.cases.proofs.{library, graphB}
 use Rattle.cases_pairs.proofs.PairCases.{pairCall}
 use Rattle.cases_pairs.proofs.ShuffleCases.{ordered, reversed, lines-same}
 

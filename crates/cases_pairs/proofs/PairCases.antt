@@ -1,19 +1,11 @@
 -- Pairs of cells, from the texts on, checked against the definitions by computing: which are formed and in which order, their tables, areas and delays,
--- what is printed of them, and refusal 30. The tables are worked out by hand from the cells' own. Assumes nothing.
-use Prim.Native.Nat.{ℕ}
+-- what is printed of them, and refusal 30. The tables are worked out by hand from the cells' own.
 use Prim.Native.String.{String}
-use mathlib.Core.Bool.{Bool, true, false, _&&_}
-use mathlib.Core.List.{List, [], _∷_, _++_, map}
-use lib.Dec.{T, eqb}
-use Rattle.model.specs.Base.{all, same, each, below}
-use Rattle.model.specs.Text.{text, decimal}
-use Rattle.model.specs.Reading.{Read, fault}
-use Rattle.model.specs.Reading.{holds as reads}
-use Rattle.model.specs.Pairs.{Pair, pairsOf, cellOfPair}
-use Rattle.model.specs.LibraryText.{readLibrary}
-use Rattle.model.specs.Mapper.{Call, mapTexts}
+use Rattle.base.specs.{ℕ, Bool, true, false, _&&_, List, [], _∷_, _++_, map, T, eqb}
+use Rattle.model.specs.{all, same, each, below, text, decimal, Read, fault, holds as reads, Pair, pairsOf, cellOfPair, readLibrary, Call}
+use Rattle.model.specs.{mapTexts}
 use Rattle.model.specs.declared.Cell.{Cell}
-use Rattle.cases.proofs.Said.{library, with, graphB, graphC, isPrint, isGiven, isRefusal, sameCuts}
+use Rattle.cases.proofs.{library, with, graphB, graphC, isPrint, isGiven, isRefusal, sameCuts}
 
 -- the cells of a text
 unfoldable pub cellsIn : Read (List Cell) → List Cell

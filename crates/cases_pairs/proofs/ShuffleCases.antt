@@ -1,15 +1,9 @@
 -- Request N13, "Shuffled libraries", by computing: two libraries of the same cell lines in different orders, one with either line end, print netlists that
--- differ in a gate and in the area and agree in every arrival, with pairs wanted and not; 17 comes at one place with both. Assumes nothing.
-use Prim.Native.Nat.{ℕ, _+_}
-use mathlib.Core.Bool.{Bool, true, false, _&&_}
-use mathlib.Core.List.{List, [], _∷_, _++_, List·Memᴰ, List·Memᴰ·head, List·Memᴰ·tail, List·Memᴰ·not-nil}
-use lib.Dec.{T}
-use Rattle.model.specs.Base.{same}
-use Rattle.model.specs.Text.{text, linesFrom}
-use Rattle.model.specs.Netlist.{Outcome}
-use Rattle.model.specs.Mapper.{mapTexts}
-use Rattle.model.specs.ShuffleDemands.{behindFirst, cellLines, SameLines, onLibrary}
-use Rattle.cases.proofs.Said.{graphB, isPrint, isRefusal, sameCuts}
+-- differ in a gate and in the area and agree in every arrival, with pairs wanted and not; 17 comes at one place with both.
+use Rattle.base.specs.{ℕ, _+_, Bool, true, false, _&&_, List, [], _∷_, _++_, List·Memᴰ, List·Memᴰ·head, List·Memᴰ·tail, List·Memᴰ·not-nil}
+use Rattle.base.specs.{T}
+use Rattle.model.specs.{same, text, linesFrom, Outcome, mapTexts, behindFirst, cellLines, SameLines, onLibrary}
+use Rattle.cases.proofs.{graphB, isPrint, isRefusal, sameCuts}
 use Rattle.cases_pairs.proofs.PairCases.{pairCall}
 
 -- an inverter and two nand2 that differ in area alone

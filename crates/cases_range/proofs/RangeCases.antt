@@ -1,16 +1,8 @@
--- Request N10, "Delays given as a range", by computing: the `# timing` lines, either names line, 6 and 27, and the lines read back. Assumes nothing.
-use Prim.Native.Nat.{ℕ}
-use mathlib.Core.Bool.{Bool, true, false, _&&_}
-use mathlib.Core.Option.{Option, none, some}
-use mathlib.Core.List.{List, [], _∷_, _++_, map}
-use lib.Dec.{T}
-use lib.ListN.{length}
-use Rattle.model.specs.Base.{all, same, each}
-use Rattle.model.specs.Text.{text}
-use Rattle.model.specs.Netlist.{refused}
-use Rattle.model.specs.Mapper.{workAfter}
-use Rattle.model.specs.Blif.{TimingLine, readTimings}
-use Rattle.cases.proofs.Said.{Case, prints, printsTimed, gives, refuses, lacks, suffices, holds, sameCuts, library, listing, with, graphB, graphC, arrives, longer, ranged}
+-- Request N10, "Delays given as a range", by computing: the `# timing` lines, either names line, 6 and 27, and the lines read back.
+use Rattle.base.specs.{ℕ, Bool, true, false, _&&_, Option, none, some, List, [], _∷_, _++_, map, T, length}
+use Rattle.model.specs.{all, same, each, text, refused, workAfter, TimingLine, readTimings}
+use Rattle.cases.proofs.{Case, prints, printsTimed, gives, refuses, lacks, suffices, holds, sameCuts, library, listing, with, graphB}
+use Rattle.cases.proofs.{graphC, arrives, longer, ranged}
 
 -- ---- the lines
 

@@ -1,1 +1,2 @@
 pub mod TallyCases
+unfoldable pub use TallyCases.{once, tallied, with}

@@ -1,17 +1,9 @@
--- Request N11, "Which cells do our designs use?", by computing: B's netlist counted, each kind of line broken once, 28, and the report. Assumes nothing.
-use Prim.Native.Nat.{ℕ, _-_, _+_, _^_}
+-- Request N11, "Which cells do our designs use?", by computing: B's netlist counted, each kind of line broken once, 28, and the report.
 use Prim.Native.String.{String}
-use mathlib.Core.Bool.{Bool, false, _&&_}
-use mathlib.Core.List.{List, [], _∷_, _++_, map}
-use lib.Dec.{T, eqb}
-use lib.ListN.{length, take, drop, replicate}
-use Rattle.model.specs.Base.{all, same, each}
-use Rattle.model.specs.Text.{text}
-use Rattle.model.specs.Reading.{Read, fault}
-use Rattle.model.specs.Reading.{holds as reads}
-use Rattle.model.specs.Tally.{emptyTally, countText, countedAnswer, reportOf}
+use Rattle.base.specs.{ℕ, _-_, _+_, _^_, Bool, false, _&&_, List, [], _∷_, _++_, map, T, eqb, length, take, drop, replicate}
+use Rattle.model.specs.{all, same, each, text, Read, fault, holds as reads, emptyTally, countText, countedAnswer, reportOf}
 use Rattle.model.specs.declared.Tally.{Tally}
-use Rattle.cases.proofs.Said.{library, listing, ranged}
+use Rattle.cases.proofs.{library, listing, ranged}
 
 -- ---- what is looked at
 

@@ -1,15 +1,9 @@
 -- A case for each refusal from 2 on, the binary form and either line end, checked against the definitions by computing.
--- Assumes nothing.
-use Prim.Native.Nat.{ℕ}
 use Prim.Native.String.{String}
-use mathlib.Core.Bool.{not, _&&_}
-use mathlib.Core.List.{List, [], _∷_, _++_, map}
-use lib.Dec.{T, eqb}
-use lib.ListN.{length}
-use Rattle.model.specs.Base.{all, each, below}
-use Rattle.model.specs.Text.{text, decimal}
-use Rattle.model.specs.Demands.{isBinaryText, lineStart}
-use Rattle.cases.proofs.Said.{library, listing, with, graphB, graphC, Case, holds, headB, prints, gives, refuses, lacks, suffices, lists, printsBytes, refusesBytes, means, hasAnd, listsBytes}
+use Rattle.base.specs.{ℕ, not, _&&_, List, [], _∷_, _++_, map, T, eqb, length}
+use Rattle.model.specs.{all, each, below, text, decimal, isBinaryText, lineStart}
+use Rattle.cases.proofs.{library, listing, with, graphB, graphC, Case, holds, headB, prints, gives, refuses, lacks, suffices, lists}
+use Rattle.cases.proofs.{printsBytes, refusesBytes, means, hasAnd, listsBytes}
 
 -- a library of n cells without pins
 unfoldable pub cellLines : ℕ → List ℕ

@@ -1,18 +1,8 @@
--- Two channels in one call, from the texts on, checked against the definitions by computing. Assumes nothing.
-use Prim.Native.Nat.{ℕ}
+-- Two channels in one call, from the texts on, checked against the definitions by computing.
 use Prim.Native.String.{String}
-use mathlib.Core.Bool.{Bool, false, _&&_}
-use mathlib.Core.List.{List, [], _∷_, _++_}
-use lib.Dec.{T}
-use lib.ListN.{length, replicate}
-use Rattle.model.specs.Base.{all, same}
-use Rattle.model.specs.Text.{text}
-use Rattle.model.specs.Reading.{fault}
-use Rattle.model.specs.Reading.{holds as reads}
-use Rattle.model.specs.Netlist.{Outcome}
-use Rattle.model.specs.Mapper.{returned}
-use Rattle.model.specs.Channels.{Channel, TwoCall, mapTwo, answersOf, twoWorkAfter}
-use Rattle.cases.proofs.Said.{library, with, listing, graphB, graphC, headB, arrives, isPrint, isGiven, isRefusal, isReturned}
+use Rattle.base.specs.{ℕ, Bool, false, _&&_, List, [], _∷_, _++_, T, length, replicate}
+use Rattle.model.specs.{all, same, text, fault, holds as reads, Outcome, returned, Channel, TwoCall, mapTwo, answersOf, twoWorkAfter}
+use Rattle.cases.proofs.{library, with, listing, graphB, graphC, headB, arrives, isPrint, isGiven, isRefusal, isReturned}
 
 -- what a channel's outcome is
 pub data Due : Type 0 where

@@ -1,29 +1,17 @@
 -- The arrival of a variant is that of its match.
 --     variant-phase       a variant whose places the cut has gives what its match does
 --     variant-past        another gives nothing
--- Assumes nothing.
-use Prim.Native.Nat.{ℕ, zero, suc, _+_, _/_, _<_, _≤_, max}
-use mathlib.Core.Path.{_≡_, refl, sym, ap, ap₂, _∙_}
-use mathlib.Core.Bool.{Bool, true, false, cond, _&&_, _||_, false≢true}
-use mathlib.Core.List.{List, [], _∷_, map}
-use native.Mathlib.Nat.{add-zero}
-use native.Mathlib.Omega.{arith}
-use lib.Dec.{ltb}
-use lib.ListN.{length, getD}
-use borrow.Author.Tests.{lt-ltb, le-ltb, ltb-true, ltb-false}
-use Rattle.model.specs.Base.{bit, all, any}
-use Rattle.model.specs.Cells.{cellAt}
-use Rattle.model.specs.Graph.{literal}
-use Rattle.model.specs.Matching.{fedNets}
-use Rattle.model.specs.Choice.{Phases, phaseOf, latest, absent, noPhase, matchPhase}
+use Rattle.base.specs.{ℕ, zero, suc, _+_, _/_, _<_, _≤_, max, _≡_, refl, sym, ap, ap₂, _∙_, Bool, true, false, cond, _&&_, _||_, false≢true}
+use Rattle.base.specs.{List, [], _∷_, map, add-zero, arith, ltb, length, getD, lt-ltb, le-ltb, ltb-true, ltb-false}
+use Rattle.model.specs.{bit, all, any, cellAt, literal, fedNets, Phases, phaseOf, latest, absent, noPhase, matchPhase}
 use Rattle.model.specs.declared.Cell.{Cell}
 use Rattle.model.specs.declared.Phase.{Phase}
 use Rattle.model.specs.declared.Source.the-variants.{Cell as Matched}
-use Rattle.base_truth.specs.Variant.{placesOf, placesBelow}
-use Rattle.base_truth.proofs.Variants.{places-four, place-small, places-fit}
+use Rattle.base_truth.specs.{placesOf, placesBelow}
+use Rattle.base_truth.proofs.{places-four, place-small, places-fit}
 use Rattle.cells_matching.specs.declared.Best.{Best}
-use Rattle.cells_matching.specs.Variants.{lineOf, orderOf, maskOf, matchOf, placesAt}
-use Rattle.cells_matching.specs.Best.{never, lastTime, timeOf, TimesOf, Quick, largest, pinAt, arrivalOf, arrivalAt, phaseAs}
+use Rattle.cells_matching.specs.{lineOf, orderOf, maskOf, matchOf, placesAt, never, lastTime, timeOf, TimesOf, Quick, largest, pinAt}
+use Rattle.cells_matching.specs.{arrivalOf, arrivalAt, phaseAs}
 use Rattle.cells_matching.proofs.Choosing.{by-bool}
 
 -- ---- the pins of a match

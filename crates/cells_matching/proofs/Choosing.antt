@@ -2,16 +2,9 @@
 --     earlier-assoc       `earlier` is associative
 --     choose-append       the choice of two lists is the earlier of their choices
 --     choose-kept         what is not listed counts as a phase with no source
--- Assumes nothing.
-use Prim.Native.Nat.{ℕ, _<_, _≤_}
-use mathlib.Core.Path.{_≡_, refl, sym, ap, _∙_}
-use mathlib.Core.Bool.{Bool, true, false, cond}
-use mathlib.Core.List.{List, [], _∷_, _++_, map}
-use native.Mathlib.Omega.{arith}
-use lib.Dec.{ltb}
-use borrow.Author.Tests.{ltb-true, ltb-false, lt-ltb, le-ltb}
-use Rattle.model.specs.Base.{keep}
-use Rattle.model.specs.Choice.{absent, earlier, choose, noPhase}
+use Rattle.base.specs.{ℕ, _<_, _≤_, _≡_, refl, sym, ap, _∙_, Bool, true, false, cond, List, [], _∷_, _++_, map, arith, ltb, ltb-true}
+use Rattle.base.specs.{ltb-false, lt-ltb, le-ltb}
+use Rattle.model.specs.{keep, absent, earlier, choose, noPhase}
 use Rattle.model.specs.declared.Phase.{Phase}
 
 -- ---- the cases of `earlier`

@@ -3,28 +3,16 @@
 --     run-fits            what is left of the 24 orders is of whole runs
 --     better-not          a variant that is not strictly earlier changes nothing
 --     best-fresh          those that are not tried are never strictly earlier: the best of the others is the best of all
--- Assumes nothing.
-use Prim.Native.Nat.{ℕ, zero, suc, _+_, _-_, _*_, _/_, _%_, _^_, _<_, _≤_, max}
-use mathlib.Core.Path.{_≡_, refl, sym, ap, ap₂, subst, _∙_}
-use mathlib.Core.Bool.{Bool, true, false, _&&_, _||_, false≢true}
-use mathlib.Core.List.{List, [], _∷_}
-use native.Mathlib.Omega.{arith}
-use lib.Dec.{T, eqb, ltb}
-use lib.ListN.{length, getD}
-use borrow.Author.Tests.{eqb-true, eqb-false, ltb-true, ltb-false, lt-ltb, le-ltb, eq-eqb, ne-eqb}
-use Rattle.model.specs.Base.{bit, all, keep, from, below}
-use Rattle.model.specs.Cells.{cellAt}
-use Rattle.model.specs.Graph.{literal}
-use Rattle.model.specs.Table.{value, orders, pinRow}
-use Rattle.model.specs.Cuts.{tabulate}
+use Rattle.base.specs.{ℕ, zero, suc, _+_, _-_, _*_, _/_, _%_, _^_, _<_, _≤_, max, _≡_, refl, sym, ap, ap₂, subst, _∙_, Bool, true, false}
+use Rattle.base.specs.{_&&_, _||_, false≢true, List, [], _∷_, arith, T, eqb, ltb, length, getD, eqb-true, eqb-false, ltb-true, ltb-false}
+use Rattle.base.specs.{lt-ltb, le-ltb, eq-eqb, ne-eqb}
+use Rattle.model.specs.{bit, all, keep, from, below, cellAt, literal, value, orders, pinRow, tabulate}
 use Rattle.model.specs.declared.Cell.{Cell}
-use Rattle.base_truth.specs.Variant.{placesOf, variantTable}
-use Rattle.base_truth.proofs.Tested.{at}
-use Rattle.base_truth.proofs.Turning.{or-out}
-use Rattle.base_truth.proofs.Variants.{places-four}
+use Rattle.base_truth.specs.{placesOf, variantTable}
+use Rattle.base_truth.proofs.{at, or-out, places-four}
 use Rattle.cells_matching.specs.declared.Best.{Best}
-use Rattle.cells_matching.specs.Variants.{lineOf, orderOf, maskOf, isVariant, tableAt, hasTable, variants, runOf, fresh, isFresh, freshWith, freshOnes}
-use Rattle.cells_matching.specs.Best.{pinAt, largest, arrivalOf, arrivalAt, unmatchedUnder, better, bestFrom, bestUnder}
+use Rattle.cells_matching.specs.{lineOf, orderOf, maskOf, isVariant, tableAt, hasTable, variants, runOf, fresh, isFresh, freshWith}
+use Rattle.cells_matching.specs.{freshOnes, pinAt, largest, arrivalOf, arrivalAt, unmatchedUnder, better, bestFrom, bestUnder}
 use Rattle.cells_matching.proofs.Choosing.{by-bool}
 
 -- ---- the number of a variant

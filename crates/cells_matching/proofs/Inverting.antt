@@ -1,24 +1,16 @@
 -- The best inverter.
 --     inverter-chosen     a phase against all inverters is that phase against the best one
--- Assumes nothing.
-use Prim.Native.Nat.{ℕ, suc, _+_, _<_, _≤_}
-use mathlib.Core.Path.{_≡_, refl, sym, ap, ap₂, _∙_}
-use mathlib.Core.Bool.{Bool, true, false, cond, not, _&&_}
-use mathlib.Core.List.{List, [], _∷_}
-use native.Mathlib.Numerals.{add-one}
-use native.Mathlib.Omega.{arith}
-use lib.ListN.{length, getD, drop, drop-of-length-le}
-use lib.Seq.{drop-cons}
-use borrow.Author.Tests.{lt-ltb, le-ltb, eq-eqb, ne-eqb}
-use Rattle.model.specs.Cells.{noCell, isInverter}
-use Rattle.model.specs.Choice.{absent, earlier, choose, noPhase, inverterPhases}
+use Rattle.base.specs.{ℕ, suc, _+_, _<_, _≤_, _≡_, refl, sym, ap, ap₂, _∙_, Bool, true, false, cond, not, _&&_, List, [], _∷_, add-one}
+use Rattle.base.specs.{arith, length, getD, drop, drop-of-length-le, drop-cons, lt-ltb, le-ltb, eq-eqb, ne-eqb}
+use Rattle.model.specs.{noCell, isInverter, absent, earlier, choose, noPhase, inverterPhases}
 use Rattle.model.specs.declared.Cell.{Cell}
 use Rattle.model.specs.declared.Phase.{Phase}
 use Rattle.model.specs.declared.Source.the-variants.{Inverter as Inverted}
 use Rattle.cells_matching.specs.declared.Inverter.{Inverter}
 use Rattle.cells_matching.specs.declared.Inverter.the-variants.{Is, Missing}
-use Rattle.cells_matching.specs.Inverters.{quicker, tried, inverterFrom, inverterOf, inverted}
-use Rattle.cells_matching.proofs.Choosing.{by-bool, by-less, none-absent, earlier-none, earlier-assoc, earlier-first, earlier-strict, earlier-tie}
+use Rattle.cells_matching.specs.{quicker, tried, inverterFrom, inverterOf, inverted}
+use Rattle.cells_matching.proofs.Choosing.{by-bool, by-less, none-absent, earlier-none, earlier-assoc, earlier-first, earlier-strict}
+use Rattle.cells_matching.proofs.Choosing.{earlier-tie}
 
 -- ---- one cell
 

@@ -11,3 +11,10 @@ pub mod Listing
 pub mod Matching
 pub mod Inverting
 pub mod Pairing
+pub use Choosing.{choose-append, earlier-first, earlier-second, earlier-strict, earlier-tie}
+pub use Linking.{usable-library}
+pub use Walking.{walking-none}
+pub use Arriving.{phase-late}
+pub use Matching.{best-match-chosen, phase-end, under-first, under-rest}
+pub use Inverting.{inverter-chosen}
+pub use Pairing.{inverter-by, matchable-by, pairs-first, sheet-by}

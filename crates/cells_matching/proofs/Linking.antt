@@ -5,25 +5,16 @@
 --     pushed-long, .. list-long       the sheet stays as long as it is
 --     list-sheet          after all cells the sheet is theirs
 --     usable-library      a library of cells with few pins and small delays may be asked
--- Assumes nothing.
-use Prim.Native.Nat.{ℕ, zero, suc, _+_, _-_, _*_, _/_, _<_, _≤_}
-use mathlib.Core.Path.{_≡_, refl, sym, ap, ap₂, subst, _∙_}
-use mathlib.Core.Bool.{Bool, true, false, cond, _&&_}
-use mathlib.Core.List.{List, [], _∷_}
-use native.Mathlib.Nat.{add-zero, zero-add, add-suc, suc-add}
-use native.Mathlib.Omega.{arith}
-use lib.Dec.{eqb}
-use lib.ListN.{replicate, length, getD, set, drop, length-set, drop-of-length-le}
-use lib.Seq.{take-append-seam, getD-set-same, getD-set-other, drop-cons}
-use borrow.Author.Tests.{eqb-true, eqb-false}
-use Rattle.model.specs.Base.{keep, from, below}
-use Rattle.model.specs.Cells.{noCell, blank, cellAt, cellsOf, libraryOf}
+use Rattle.base.specs.{ℕ, zero, suc, _+_, _-_, _*_, _/_, _<_, _≤_, _≡_, refl, sym, ap, ap₂, subst, _∙_, Bool, true, false, cond, _&&_, List}
+use Rattle.base.specs.{[], _∷_, add-zero, zero-add, add-suc, suc-add, arith, eqb, replicate, length, getD, set, drop, length-set}
+use Rattle.base.specs.{drop-of-length-le, take-append-seam, getD-set-same, getD-set-other, drop-cons, eqb-true, eqb-false}
+use Rattle.model.specs.{keep, from, below, noCell, blank, cellAt, cellsOf, libraryOf, value, pinRow}
 use Rattle.model.specs.declared.Cell.{Cell}
-use Rattle.model.specs.Table.{value, pinRow}
-use Rattle.base_truth.specs.Variant.{placesOf, variantTable}
-use Rattle.base_truth.proofs.Tables.{table-small}
-use Rattle.cells_matching.specs.Variants.{Usable, Matchable, lineOf, orderOf, maskOf, tableAt, fresh, isFresh, freshWith, freshOnes}
-use Rattle.cells_matching.specs.Sheet.{linkAddr, pickAddr, delayAddr, sheetLong, wordOf, pickAt, delayOf, pushed, placed, passed, timed, cellMatched, listMatched, Linked, SheetOf, Blank}
+use Rattle.base_truth.specs.{placesOf, variantTable}
+use Rattle.base_truth.proofs.{table-small}
+use Rattle.cells_matching.specs.{Usable, Matchable, lineOf, orderOf, maskOf, tableAt, fresh, isFresh, freshWith, freshOnes, linkAddr}
+use Rattle.cells_matching.specs.{pickAddr, delayAddr, sheetLong, wordOf, pickAt, delayOf, pushed, placed, passed, timed, cellMatched}
+use Rattle.cells_matching.specs.{listMatched, Linked, SheetOf, Blank}
 use Rattle.cells_matching.proofs.Choosing.{by-bool}
 
 pub linked-lower : (cells : List Cell) (s : List ℕ) (low lower h : ℕ) (xs : List ℕ) → lower ≤ low → Linked cells s low h xs → Linked cells s lower h xs

@@ -1,25 +1,14 @@
 -- The variants of a table whose places a cut has are 01's matches of the cut, in 01's order, for every number of pins up to four.
 --     variant-matches     so the chain of a cut's function lists its matches
--- Assumes nothing.
-use Prim.Native.Nat.{ℕ, zero, suc, _+_, _-_, _*_, _^_, _<_, _≤_}
-use mathlib.Core.Path.{_≡_, refl, sym, ap, ap₂, _∙_}
-use mathlib.Core.Bool.{Bool, true, false, cond, _&&_}
-use mathlib.Core.List.{List, [], _∷_, _++_, map, append-nil, List·Memᴰ, List·Memᴰ·head, List·Memᴰ·tail}
-use native.Mathlib.Nat.{add-zero, zero-add, add-suc, suc-add}
-use native.Mathlib.Omega.{arith}
-use lib.Dec.{eqb, ltb}
-use lib.ListN.{length}
-use lib.Pow.{pow-mono}
-use borrow.Author.Tests.{le-ltb, eq-eqb, ne-eqb}
-use Rattle.model.specs.Base.{keep, each, from, below}
-use Rattle.model.specs.Cells.{cellAt}
-use Rattle.model.specs.Matching.{placesFit, rowsAgree, fits}
-use Rattle.model.specs.Choice.{cellMatches, cutMatches}
+use Rattle.base.specs.{ℕ, zero, suc, _+_, _-_, _*_, _^_, _<_, _≤_, _≡_, refl, sym, ap, ap₂, _∙_, Bool, true, false, cond, _&&_, List, []}
+use Rattle.base.specs.{_∷_, _++_, map, append-nil, List·Memᴰ, List·Memᴰ·head, List·Memᴰ·tail, add-zero, zero-add, add-suc, suc-add, arith}
+use Rattle.base.specs.{eqb, ltb, length, pow-mono, le-ltb, eq-eqb, ne-eqb}
+use Rattle.model.specs.{keep, each, from, below, cellAt, placesFit, rowsAgree, fits, cellMatches, cutMatches}
 use Rattle.model.specs.declared.Cell.{Cell}
-use Rattle.theory_graph.proofs.Lists.{below-out, keep-append}
-use Rattle.base_truth.specs.Variant.{placesOf, variantTable}
-use Rattle.base_truth.proofs.Variants.{rows-agree}
-use Rattle.cells_matching.specs.Variants.{lineOf, orderOf, maskOf, matchOf, hasTable, placesAt, variants}
+use Rattle.theory_graph.proofs.{below-out, keep-append}
+use Rattle.base_truth.specs.{placesOf, variantTable}
+use Rattle.base_truth.proofs.{rows-agree}
+use Rattle.cells_matching.specs.{lineOf, orderOf, maskOf, matchOf, hasTable, placesAt, variants}
 use Rattle.cells_matching.proofs.Choosing.{by-bool}
 use Rattle.cells_matching.proofs.Fresh.{line-is, order-is, mask-is}
 

@@ -2,24 +2,17 @@
 --     best-chosen         the phase of the best variant is the first of the earliest over the variants
 --     best-match-chosen   and so over the matches of the cut
 --     under-first, under-rest     the best that is earlier than one of a former cut, or that one, is the choice of both
--- Assumes nothing.
-use Prim.Native.Nat.{ℕ, _≤_, _<_}
-use mathlib.Core.Path.{_≡_, refl, sym, ap, _∙_}
-use mathlib.Core.Bool.{Bool, false, cond}
-use mathlib.Core.List.{List, [], _∷_, map}
-use mathlib.Core.Logic.{_⊎_, inl, inr, ⊎-elim}
-use native.Mathlib.Omega.{arith}
-use lib.ListN.{length}
-use Rattle.model.specs.Base.{keep}
-use Rattle.model.specs.Choice.{Phases, absent, earlier, choose, noPhase, matchPhase, cutMatches}
+use Rattle.base.specs.{ℕ, _≤_, _<_, _≡_, refl, sym, ap, _∙_, Bool, false, cond, List, [], _∷_, map, _⊎_, inl, inr, ⊎-elim, arith, length}
+use Rattle.model.specs.{keep, Phases, absent, earlier, choose, noPhase, matchPhase, cutMatches}
 use Rattle.model.specs.declared.Cell.{Cell}
 use Rattle.model.specs.declared.Phase.{Phase}
 use Rattle.model.specs.declared.Source.the-variants.{Cell as Matched}
-use Rattle.theory_graph.proofs.Lists.{map-map, map-same}
+use Rattle.theory_graph.proofs.{map-map, map-same}
 use Rattle.cells_matching.specs.declared.Best.{Best}
-use Rattle.cells_matching.specs.Variants.{Matchable, lineOf, matchOf, placesAt, variants}
-use Rattle.cells_matching.specs.Best.{never, TimesOf, Quick, arrivalAt, unmatchedUnder, unmatched, better, bestFrom, bestUnder, bestOf, phaseAs}
-use Rattle.cells_matching.proofs.Choosing.{by-bool, by-less, none-absent, earlier-none, earlier-assoc, earlier-first, earlier-strict, earlier-tie, choose-kept}
+use Rattle.cells_matching.specs.{Matchable, lineOf, matchOf, placesAt, variants, never, TimesOf, Quick, arrivalAt, unmatchedUnder}
+use Rattle.cells_matching.specs.{unmatched, better, bestFrom, bestUnder, bestOf, phaseAs}
+use Rattle.cells_matching.proofs.Choosing.{by-bool, by-less, none-absent, earlier-none, earlier-assoc, earlier-first, earlier-strict}
+use Rattle.cells_matching.proofs.Choosing.{earlier-tie, choose-kept}
 use Rattle.cells_matching.proofs.Fresh.{better-not}
 use Rattle.cells_matching.proofs.Listing.{variant-matches}
 use Rattle.cells_matching.proofs.Walking.{better-strict}

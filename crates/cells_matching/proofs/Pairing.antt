@@ -6,26 +6,16 @@
 --     pairs-first         the pairs and then the listed cells matched are all matched
 --     sheet-by            so after `build_pairs` and `build` the sheet is that of all of them
 --     inverter-by         "The inverter role stays with listed cells"
--- Assumes nothing.
-use Prim.Native.Nat.{ℕ, zero, suc, _+_, _-_, _/_, _%_, _<_, _≤_}
-use mathlib.Core.Path.{_≡_, refl, sym, ap, ap₂, subst, _∙_}
-use mathlib.Core.Bool.{Bool, true, false, cond, _&&_}
-use mathlib.Core.List.{List, [], _∷_, _++_, map}
-use native.Mathlib.Nat.{add-zero}
-use native.Mathlib.Omega.{arith}
-use lib.Dec.{eqb}
-use lib.ListN.{length, take, drop, getD}
-use lib.Seq.{drop-append-seam}
-use Rattle.model.specs.Cells.{noCell, cellAt, cellsOf, isInverter}
-use Rattle.model.specs.Pairs.{joinDelays, pairPins, pairDelays, pairOf, cellOfPair}
+use Rattle.base.specs.{ℕ, zero, suc, _+_, _-_, _/_, _%_, _<_, _≤_, _≡_, refl, sym, ap, ap₂, subst, _∙_, Bool, true, false, cond, _&&_, List}
+use Rattle.base.specs.{[], _∷_, _++_, map, add-zero, arith, eqb, length, take, drop, getD, drop-append-seam}
+use Rattle.model.specs.{noCell, cellAt, cellsOf, isInverter, joinDelays, pairPins, pairDelays, pairOf, cellOfPair}
 use Rattle.model.specs.declared.Cell.{Cell}
 use Rattle.model.specs.declared.Library.{Library}
-use Rattle.cells_pairs.specs.Codes.{pairOfCode, cellsBy, Coded}
-use Rattle.cells_pairs.proofs.Cells.{by-listed, by-pair, by-length, joined-pins}
+use Rattle.cells_pairs.specs.{pairOfCode, cellsBy, Coded}
+use Rattle.cells_pairs.proofs.{by-listed, by-pair, by-length, joined-pins}
 use Rattle.cells_matching.specs.declared.Inverter.{Inverter}
-use Rattle.cells_matching.specs.Variants.{Usable, Matchable}
-use Rattle.cells_matching.specs.Sheet.{cellMatched, listMatched, SheetOf, Blank}
-use Rattle.cells_matching.specs.Inverters.{quicker, tried, inverterFrom, inverterOf}
+use Rattle.cells_matching.specs.{Usable, Matchable, cellMatched, listMatched, SheetOf, Blank, quicker, tried, inverterFrom}
+use Rattle.cells_matching.specs.{inverterOf}
 use Rattle.cells_matching.proofs.Choosing.{by-less}
 use Rattle.cells_matching.proofs.Linking.{listed-down, list-sheet}
 

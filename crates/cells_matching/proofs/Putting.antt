@@ -2,16 +2,10 @@
 --     order-begun         the masks that a cell does not have are not tried
 --     order-next          one variant more of an order
 --     runs-next           one run of orders more
--- Assumes nothing.
-use Prim.Native.Nat.{ℕ, _+_, _-_, _*_, _%_, _^_, _<_, _≤_}
-use mathlib.Core.Path.{_≡_, sym, ap, ap₂, _∙_}
-use mathlib.Core.List.{List}
-use native.Mathlib.Omega.{arith}
-use lib.Pow.{pow-mono}
-use Rattle.base_truth.specs.Variant.{placesOf, variantTable, turned}
-use Rattle.base_truth.proofs.Turning.{turned-variant}
-use Rattle.cells_matching.specs.Variants.{runOf, fresh}
-use Rattle.cells_matching.specs.Sheet.{pickOf, masked, wordOf, pushed, placed, passed}
+use Rattle.base.specs.{ℕ, _+_, _-_, _*_, _%_, _^_, _<_, _≤_, _≡_, sym, ap, ap₂, _∙_, List, arith, pow-mono}
+use Rattle.base_truth.specs.{placesOf, variantTable, turned}
+use Rattle.base_truth.proofs.{turned-variant}
+use Rattle.cells_matching.specs.{runOf, fresh, pickOf, masked, wordOf, pushed, placed, passed}
 use Rattle.cells_matching.proofs.Fresh.{line-is, order-is, mask-is, fresh-one, fresh-mask, fresh-run, run-fits}
 use Rattle.cells_matching.proofs.Linking.{placed-fresh, passed-down, passed-stale, passed-append}
 use Rattle.cells_matching.proofs.Walking.{masked-word}

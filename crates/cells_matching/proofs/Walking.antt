@@ -5,29 +5,16 @@
 --     walking-falls       the next head is nearer to the end
 --     walking-next        the best so far and the variant give the next best
 --     walking-end         at the end the best is the answer; `walking-none`: of an empty chain there is none
--- Assumes nothing.
-use Prim.Native.Nat.{ℕ, zero, suc, _+_, _-_, _*_, _/_, _%_, _^_, _<_, _≤_, max}
-use mathlib.Core.Path.{_≡_, refl, sym, ap, ap₂, subst, _∙_}
-use mathlib.Core.Bool.{Bool, true, false, cond, not, false≢true}
-use mathlib.Core.List.{List, [], _∷_}
-use native.Mathlib.Nat.{add-zero}
-use native.Mathlib.Omega.{arith}
-use lib.Dec.{eqb, ltb}
-use lib.ListN.{length, getD}
-use lib.Pow.{pow-mono}
-use borrow.Author.Tests.{eqb-true, lt-ltb, le-ltb}
-use Rattle.model.specs.Base.{bit, one}
-use Rattle.model.specs.Cells.{cellAt}
-use Rattle.model.specs.Graph.{literal}
+use Rattle.base.specs.{ℕ, zero, suc, _+_, _-_, _*_, _/_, _%_, _^_, _<_, _≤_, max, _≡_, refl, sym, ap, ap₂, subst, _∙_, Bool, true, false}
+use Rattle.base.specs.{cond, not, false≢true, List, [], _∷_, add-zero, arith, eqb, ltb, length, getD, pow-mono, eqb-true, lt-ltb, le-ltb}
+use Rattle.model.specs.{bit, one, cellAt, literal}
 use Rattle.model.specs.declared.Cell.{Cell}
-use Rattle.base_truth.specs.Variant.{placesOf}
-use Rattle.base_truth.proofs.Tables.{one-small, one-bit}
-use Rattle.base_truth.proofs.Nets.{literal-one}
-use Rattle.base_truth.proofs.Variants.{place-small}
+use Rattle.base_truth.specs.{placesOf}
+use Rattle.base_truth.proofs.{one-small, one-bit, literal-one, place-small}
 use Rattle.cells_matching.specs.declared.Best.{Best}
-use Rattle.cells_matching.specs.Variants.{lineOf, orderOf, maskOf, freshOnes}
-use Rattle.cells_matching.specs.Sheet.{linkAddr, pickAddr, delayAddr, pickPin, pickOf, masked, wordOf, pickAt, delayOf, Linked, SheetOf, isListed}
-use Rattle.cells_matching.specs.Best.{never, Timely, Triable, unmatchedUnder, unmatched, pinAt, largest, arrivalOf, arrivalAt, waits, swiftAt, better, bestFrom, bestUnder, bestOf}
+use Rattle.cells_matching.specs.{lineOf, orderOf, maskOf, freshOnes, linkAddr, pickAddr, delayAddr, pickPin, pickOf, masked, wordOf}
+use Rattle.cells_matching.specs.{pickAt, delayOf, Linked, SheetOf, isListed, never, Timely, Triable, unmatchedUnder, unmatched, pinAt}
+use Rattle.cells_matching.specs.{largest, arrivalOf, arrivalAt, waits, swiftAt, better, bestFrom, bestUnder, bestOf}
 use Rattle.cells_matching.proofs.Choosing.{by-less}
 use Rattle.cells_matching.proofs.Fresh.{best-fresh, better-not}
 use Rattle.cells_matching.proofs.Linking.{linked-lower}

@@ -1,18 +1,10 @@
--- The best match of a cut, over the arrivals of its leaves. Assumes nothing.
-use Prim.Native.Nat.{ℕ, zero, suc, _+_, _*_, _/_, _%_, _≤_, _<_, max}
-use mathlib.Core.Path.{_≡_}
-use mathlib.Core.Bool.{Bool, cond}
-use mathlib.Core.List.{List, [], _∷_}
-use lib.Dec.{ltb}
-use lib.ListN.{length, getD}
-use Rattle.model.specs.Base.{bit}
-use Rattle.model.specs.Cells.{cellAt}
-use Rattle.model.specs.Graph.{literal}
-use Rattle.model.specs.Choice.{Phases, phaseOf, absent, noPhase}
+-- The best match of a cut, over the arrivals of its leaves.
+use Rattle.base.specs.{ℕ, zero, suc, _+_, _*_, _/_, _%_, _≤_, _<_, max, _≡_, Bool, cond, List, [], _∷_, ltb, length, getD}
+use Rattle.model.specs.{bit, cellAt, literal, Phases, phaseOf, absent, noPhase}
 use Rattle.model.specs.declared.Cell.{Cell}
 use Rattle.model.specs.declared.Phase.{Phase}
 use Rattle.model.specs.declared.Source.the-variants.{Cell as Matched}
-use Rattle.base_truth.specs.Variant.{placesOf}
+use Rattle.base_truth.specs.{placesOf}
 use Rattle.cells_matching.specs.declared.Best.{Best}
 use Rattle.cells_matching.specs.Variants.{lineOf, orderOf, maskOf, matchOf, variants}
 use Rattle.cells_matching.specs.Sheet.{pickAddr, delayAddr}

@@ -1,11 +1,6 @@
--- "Inverters: smallest delay, then first line." Assumes nothing.
-use Prim.Native.Nat.{ℕ, suc, _+_}
-use mathlib.Core.Bool.{cond}
-use mathlib.Core.List.{List, [], _∷_}
-use lib.Dec.{ltb}
-use lib.ListN.{getD}
-use Rattle.model.specs.Cells.{isInverter}
-use Rattle.model.specs.Choice.{absent, noPhase}
+-- "Inverters: smallest delay, then first line."
+use Rattle.base.specs.{ℕ, suc, _+_, cond, List, [], _∷_, ltb, getD}
+use Rattle.model.specs.{isInverter, absent, noPhase}
 use Rattle.model.specs.declared.Cell.{Cell}
 use Rattle.model.specs.declared.Phase.{Phase}
 use Rattle.model.specs.declared.Source.the-variants.{Inverter as Inverted}

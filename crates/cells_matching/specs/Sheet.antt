@@ -1,17 +1,10 @@
 -- The sheet: all that a match asks of the cells, once for each library. It has, by table, the head of the chain of the variants that have the
 -- table; by cell, its delays; by variant, the next one of its chain, what feeds its pins and where its cell's delays stand. What the variants have
--- stands last, so that a shorter sheet serves fewer cells. Assumes nothing.
-use Prim.Native.Nat.{ℕ, zero, suc, _+_, _*_, _/_, _%_, _≤_, _<_}
-use mathlib.Core.Path.{_≡_}
-use mathlib.Core.Bool.{Bool, cond, not}
-use mathlib.Core.List.{List, [], _∷_}
-use lib.Dec.{eqb, ltb}
-use lib.ListN.{length, getD, set}
-use Rattle.model.specs.Base.{bit}
-use Rattle.model.specs.Cells.{cellAt}
-use Rattle.model.specs.Graph.{literal}
+-- stands last, so that a shorter sheet serves fewer cells.
+use Rattle.base.specs.{ℕ, zero, suc, _+_, _*_, _/_, _%_, _≤_, _<_, _≡_, Bool, cond, not, List, [], _∷_, eqb, ltb, length, getD, set}
+use Rattle.model.specs.{bit, cellAt, literal}
 use Rattle.model.specs.declared.Cell.{Cell}
-use Rattle.base_truth.specs.Variant.{placesOf, variantTable}
+use Rattle.base_truth.specs.{placesOf, variantTable}
 use Rattle.cells_matching.specs.Variants.{Matchable, lineOf, orderOf, maskOf, fresh, freshOnes}
 
 -- ---- what lies where: 65,536 heads, 256 times 4 delays, and for each variant its link and its pick, 384 times 2 for each cell

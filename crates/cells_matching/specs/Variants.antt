@@ -1,17 +1,10 @@
--- A cell line, an order and a mask as one number, in 01's order: "cell line, order number, mask, lowest first". Assumes nothing.
-use Prim.Native.Nat.{ℕ, zero, suc, _*_, _/_, _%_, _^_, _≤_, _<_}
-use mathlib.Core.Path.{_≡_}
-use mathlib.Core.Bool.{Bool, _&&_}
-use mathlib.Core.List.{List}
-use lib.Dec.{eqb, ltb}
-use lib.ListN.{length, getD}
-use Rattle.model.specs.Base.{keep, below}
-use Rattle.model.specs.Cells.{cellAt, cellsOf}
-use Rattle.model.specs.Matching.{placesFit}
+-- A cell line, an order and a mask as one number, in 01's order: "cell line, order number, mask, lowest first".
+use Rattle.base.specs.{ℕ, zero, suc, _*_, _/_, _%_, _^_, _≤_, _<_, _≡_, Bool, _&&_, List, eqb, ltb, length, getD}
+use Rattle.model.specs.{keep, below, cellAt, cellsOf, placesFit}
 use Rattle.model.specs.declared.Cell.{Cell}
 use Rattle.model.specs.declared.Library.{Library}
 use Rattle.model.specs.declared.Match.{Match}
-use Rattle.base_truth.specs.Variant.{placesOf, variantTable}
+use Rattle.base_truth.specs.{placesOf, variantTable}
 
 -- ---- a variant's number
 

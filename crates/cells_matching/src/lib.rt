@@ -8,19 +8,14 @@ use model::Library;
 use model::Match;
 use model::Phase;
 use model::Source;
-ghost use mathlib.Core.Path.{_≡_};
-ghost use mathlib.Core.List.{List};
-ghost use Prim.Native.Nat.{ℕ, _+_, _*_, _%_, _<_, _≤_, max};
-ghost use lib.ListN.{length, drop, getD};
-ghost use Rattle.model.specs.Cells.{cellAt, cellsOf};
+ghost use Rattle.base.specs.{_≡_, List, ℕ, _+_, _*_, _%_, _<_, _≤_, max, length, drop, getD};
+ghost use Rattle.model.specs.{cellAt, cellsOf};
 ghost use Rattle.model.specs.declared.Cell.{Cell};
-ghost use Rattle.base_truth.specs.Variant.{placesOf, turned};
-ghost use Rattle.cells_pairs.specs.Codes.{cellsBy, Coded};
-ghost use Rattle.cells_matching.specs.Variants.{Usable, matchOf, runOf};
-ghost use Rattle.cells_matching.specs.Sheet.{pickAddr, sheetLong, pickPin, pickOf, masked, delayOf, pushed, passed, timed, cellMatched, listMatched};
-ghost use Rattle.cells_matching.specs.Sheet.{SheetOf, isListed, Blank};
-ghost use Rattle.cells_matching.specs.Best.{never, Timely, waits, Triable, swiftAt, better, bestUnder, phaseAs};
-ghost use Rattle.cells_matching.specs.Inverters.{quicker, tried, inverterOf};
+ghost use Rattle.base_truth.specs.{placesOf, turned};
+ghost use Rattle.cells_pairs.specs.{cellsBy, Coded};
+ghost use Rattle.cells_matching.specs.{Usable, matchOf, runOf, pickAddr, sheetLong, pickPin, pickOf, masked, delayOf, pushed, passed};
+ghost use Rattle.cells_matching.specs.{timed, cellMatched, listMatched, SheetOf, isListed, Blank, never, Timely, waits, Triable};
+ghost use Rattle.cells_matching.specs.{swiftAt, better, bestUnder, phaseAs, quicker, tried, inverterOf};
 
 // The arrival of a phase that has no source.
 pub const NEVER: u32 = 2147483647;

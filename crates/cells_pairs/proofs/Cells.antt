@@ -6,22 +6,13 @@
 --     four-are                four numbers are a list of four
 --     number-listed, number-pairs, number-pair    the cell of a number, by a library's cells
 --     pins-are, table-are, delays-are, lows-are   a pair's figures, by those of its cells
--- Assumes nothing.
-use Prim.Native.Nat.{ℕ, zero, suc, _+_, _-_, _/_, _%_, _<_, _≤_}
-use mathlib.Core.Path.{_≡_, refl, sym, ap, _∙_}
-use mathlib.Core.Bool.{Bool, true, false, _&&_, false≢true}
-use mathlib.Core.List.{List, [], _∷_, _++_, map}
-use native.Mathlib.Nat.{zero-add, suc-add}
-use native.Mathlib.Omega.{arith}
-use lib.Dec.{leb}
-use lib.ListN.{length, take, getD, length-append, length-map, length-take, List·getD-append}
-use lib.Seq.{getD-take, getD-append-add}
-use borrow.Author.Tests.{leb-true}
-use Rattle.model.specs.Cells.{noCell, cellAt, cellsOf}
-use Rattle.model.specs.Pairs.{joins, joinDelays, pairPins, pairTable, pairDelays, pairOf, cellOfPair}
+use Rattle.base.specs.{ℕ, zero, suc, _+_, _-_, _/_, _%_, _<_, _≤_, _≡_, refl, sym, ap, _∙_, Bool, true, false, _&&_, false≢true, List, []}
+use Rattle.base.specs.{_∷_, _++_, map, zero-add, suc-add, arith, leb, length, take, getD, length-append, length-map, length-take}
+use Rattle.base.specs.{List·getD-append, getD-take, getD-append-add, leb-true}
+use Rattle.model.specs.{noCell, cellAt, cellsOf, joins, joinDelays, pairPins, pairTable, pairDelays, pairOf, cellOfPair}
 use Rattle.model.specs.declared.Cell.{Cell}
 use Rattle.model.specs.declared.Library.{Library}
-use Rattle.cells_pairs.specs.Codes.{pairOfCode, cellsBy, Coded}
+use Rattle.cells_pairs.specs.{pairOfCode, cellsBy, Coded}
 
 -- ---- which cell
 

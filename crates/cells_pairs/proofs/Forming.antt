@@ -3,22 +3,15 @@
 --     coded-none, coded-all   so many numbers may be handed on
 --     numbered-none, numbered-all  each number is that of the pair at its place
 --     codes-few               no library has more than 4,096 pairs
--- Assumes nothing.
-use Prim.Native.Nat.{ℕ, zero, suc, _+_, _*_, _/_, _%_, _<_, _≤_}
-use mathlib.Core.Path.{_≡_, refl, sym, ap, subst, _∙_}
-use mathlib.Core.Bool.{Bool, true, false, cond}
-use mathlib.Core.List.{List, [], _∷_, _++_, map, append-nil, List·Memᴰ, List·Memᴰ·head, List·Memᴰ·tail, List·Memᴰ·not-nil}
-use native.Mathlib.Nat.{not-suc-le-zero}
-use native.Mathlib.Omega.{arith}
-use lib.ListN.{length, getD, length-append}
-use Rattle.model.specs.Base.{below, keep, each}
-use Rattle.model.specs.Cells.{cellAt, cellsOf}
-use Rattle.model.specs.Pairs.{Pair, noPair, joins, pairsOf, cellOfPair, withPairs, cellsFor}
+use Rattle.base.specs.{ℕ, zero, suc, _+_, _*_, _/_, _%_, _<_, _≤_, _≡_, refl, sym, ap, subst, _∙_, Bool, true, false, cond, List, [], _∷_}
+use Rattle.base.specs.{_++_, map, append-nil, List·Memᴰ, List·Memᴰ·head, List·Memᴰ·tail, List·Memᴰ·not-nil, not-suc-le-zero, arith, length}
+use Rattle.base.specs.{getD, length-append}
+use Rattle.model.specs.{below, keep, each, cellAt, cellsOf, Pair, noPair, joins, pairsOf, cellOfPair, withPairs, cellsFor}
 use Rattle.model.specs.declared.Cell.{Cell}
 use Rattle.model.specs.declared.Library.{Library}
-use Rattle.theory_graph.proofs.Lists.{map-out, each-out, keep-out, below-out, map-map, map-same, getD-in}
-use Rattle.theory_graph.proofs.Distinct.{length-from, length-map}
-use Rattle.cells_pairs.specs.Codes.{codeOf, codeOfPair, pairOfCode, codeFor, innerCodes, pinCodes, rootCodes, pairCodes, cellsBy, Joinable, Coded}
+use Rattle.theory_graph.proofs.{map-out, each-out, keep-out, below-out, map-map, map-same, getD-in, length-from, length-map}
+use Rattle.cells_pairs.specs.{codeOf, codeOfPair, pairOfCode, codeFor, innerCodes, pinCodes, rootCodes, pairCodes, cellsBy, Joinable}
+use Rattle.cells_pairs.specs.{Coded}
 use Rattle.cells_pairs.proofs.Joining.{codes-are, code-back}
 
 -- ---- one number

@@ -2,23 +2,12 @@
 --     code-one, code-none     a pair's number is written, or there is none
 --     each-next, each-none    the lists of the places from j on
 --     codes-are, code-back    the numbers are those of the pairs of the definition, each of which its number has
--- Assumes nothing.
-use Prim.Native.Nat.{ℕ, suc, _+_, _-_, _<_, _≤_}
-use mathlib.Core.Path.{_≡_, refl, sym, ap, ap₂, subst, _∙_}
-use mathlib.Core.Bool.{Bool, true, false, cond, _&&_}
-use mathlib.Core.List.{List, [], _∷_, _++_, map}
-use native.Mathlib.Numerals.{add-one}
-use native.Mathlib.Omega.{arith}
-use lib.Dec.{leb}
-use lib.ListN.{length, take, getD}
-use lib.Seq.{getD-take}
-use borrow.Author.Tests.{le-leb, lt-leb}
-use Rattle.model.specs.Base.{from, below, keep, each}
-use Rattle.model.specs.Cells.{noCell, cellAt, cellsOf}
-use Rattle.model.specs.Pairs.{Pair, joins, pairsOf}
+use Rattle.base.specs.{ℕ, suc, _+_, _-_, _<_, _≤_, _≡_, refl, sym, ap, ap₂, subst, _∙_, Bool, true, false, cond, _&&_, List, [], _∷_, _++_}
+use Rattle.base.specs.{map, add-one, arith, leb, length, take, getD, getD-take, le-leb, lt-leb}
+use Rattle.model.specs.{from, below, keep, each, noCell, cellAt, cellsOf, Pair, joins, pairsOf}
 use Rattle.model.specs.declared.Cell.{Cell}
 use Rattle.model.specs.declared.Library.{Library}
-use Rattle.cells_pairs.specs.Codes.{codeOf, codeOfPair, pairOfCode, codeFor, innerCodes, pinCodes, rootCodes, pairCodes, Joinable}
+use Rattle.cells_pairs.specs.{codeOf, codeOfPair, pairOfCode, codeFor, innerCodes, pinCodes, rootCodes, pairCodes, Joinable}
 
 pub joins-pinless : (root inner : Cell) → inner .pins < 1 → false ≡ joins root inner
 unfolding joins

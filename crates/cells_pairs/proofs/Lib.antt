@@ -4,3 +4,7 @@ pub mod Looking
 pub mod Joining
 pub mod Cells
 pub mod Forming
+pub use Looking.{booked-area, booked-name, booked-pins, code-is, code-within, line-is, line-within, listed-length}
+unfoldable pub use Looking.{booked}
+pub use Cells.{by-length, by-listed, by-pair, joined-pins}
+pub use Forming.{coded-all, coded-none, codes-few, numbered-all, numbered-none, with-all, with-none}

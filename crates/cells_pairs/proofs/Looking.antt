@@ -3,19 +3,12 @@
 --     code-is, code-within      the number behind the cells is the pair's
 --     booked, booked-..         a cell as the book has it: its name, pins and area are the cell's
 --     name-whole, next-cell     what a cell's bytes are, and those of the cells from a line on
--- Assumes nothing.
-use Prim.Native.Nat.{ℕ, zero, suc, _+_, _-_, _*_, _/_, _%_, _≤_, _<_}
-use mathlib.Core.Path.{_≡_, refl, sym, ap, _∙_}
-use mathlib.Core.List.{List, [], _∷_, _++_, append-assoc}
-use native.Mathlib.Nat.{add-zero, le-of-suc-le-suc, not-suc-le-zero}
-use native.Mathlib.Numerals.{add-one}
-use native.Mathlib.Omega.{arith}
-use lib.ListN.{length, take, drop, getD, length-append, length-take, drop-of-length-le}
-use lib.Seq.{drop-cons, drop-drop, drop-at, take-all, length-take-le, getD-take, getD-drop, ext-getD}
-use Rattle.model.specs.Base.{each}
-use Rattle.model.specs.Cells.{nameOf, noCell, cellAt}
+use Rattle.base.specs.{ℕ, zero, suc, _+_, _-_, _*_, _/_, _%_, _≤_, _<_, _≡_, refl, sym, ap, _∙_, List, [], _∷_, _++_, append-assoc}
+use Rattle.base.specs.{add-zero, le-of-suc-le-suc, not-suc-le-zero, add-one, arith, length, take, drop, getD, length-append, length-take}
+use Rattle.base.specs.{drop-of-length-le, drop-cons, drop-drop, drop-at, take-all, length-take-le, getD-take, getD-drop, ext-getD}
+use Rattle.model.specs.{each, nameOf, noCell, cellAt}
 use Rattle.model.specs.declared.Cell.{Cell}
-use Rattle.cells_pairs.specs.Bytes.{nameFrom, cellBytes, cellFrom, codeBytes, listedBytes, lineCell, codeIn, codePlace}
+use Rattle.cells_pairs.specs.{nameFrom, cellBytes, cellFrom, codeBytes, listedBytes, lineCell, codeIn, codePlace}
 
 -- ---- blocks of one width
 

@@ -1,9 +1,6 @@
--- The listed cells, and the numbers of the pairs, as bytes. Assumes nothing.
-use Prim.Native.Nat.{ℕ, _+_, _-_, _*_, _/_, _%_}
-use mathlib.Core.List.{List, [], _∷_, _++_}
-use lib.ListN.{length, getD, drop, replicate}
-use Rattle.model.specs.Base.{each}
-use Rattle.model.specs.Cells.{nameOf}
+-- The listed cells, and the numbers of the pairs, as bytes.
+use Rattle.base.specs.{ℕ, _+_, _-_, _*_, _/_, _%_, List, [], _∷_, _++_, length, getD, drop, replicate}
+use Rattle.model.specs.{each, nameOf}
 use Rattle.model.specs.declared.Cell.{Cell}
 
 -- the eight bytes of a name

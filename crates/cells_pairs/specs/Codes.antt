@@ -1,12 +1,6 @@
--- A pair of cells as a number of twelve bits: the root's line, the fed pin, the inner's line. Assumes nothing.
-use Prim.Native.Nat.{ℕ, _+_, _*_, _/_, _%_, _<_, _≤_}
-use mathlib.Core.Path.{_≡_}
-use mathlib.Core.Bool.{true, cond}
-use mathlib.Core.List.{List, [], _∷_, _++_, map}
-use lib.ListN.{length, getD}
-use Rattle.model.specs.Base.{below, each}
-use Rattle.model.specs.Cells.{cellAt, cellsOf}
-use Rattle.model.specs.Pairs.{Pair, joins, cellOfPair}
+-- A pair of cells as a number of twelve bits: the root's line, the fed pin, the inner's line.
+use Rattle.base.specs.{ℕ, _+_, _*_, _/_, _%_, _<_, _≤_, _≡_, true, cond, List, [], _∷_, _++_, map, length, getD}
+use Rattle.model.specs.{below, each, cellAt, cellsOf, Pair, joins, cellOfPair}
 use Rattle.model.specs.declared.Cell.{Cell}
 use Rattle.model.specs.declared.Library.{Library}
 

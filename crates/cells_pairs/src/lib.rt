@@ -3,16 +3,11 @@
 // whatever asks of a cell by its number asks here, and no cell of a pair is stored.
 use model::Cell;
 use model::Library;
-ghost use mathlib.Core.Path.{_≡_};
-ghost use mathlib.Core.List.{List};
-ghost use Prim.Native.Nat.{ℕ, _+_, _*_, _≤_, _<_, min};
-ghost use lib.ListN.{length, take, getD};
-ghost use Rattle.model.specs.Base.{each, below};
-ghost use Rattle.model.specs.Cells.{cellsOf, cellAt};
-ghost use Rattle.base_text.specs.Writing.{Wrote};
-ghost use Rattle.cells_pairs.specs.Codes.{Joinable, Coded, codeFor, innerCodes, pinCodes, pairCodes, cellsBy};
-ghost use Rattle.cells_pairs.specs.Bytes.{nameFrom, cellBytes, cellFrom, codeBytes, listedBytes, bookOf, countIn, lineCell, codePlace, codeIn};
-ghost use Rattle.model.specs.Pairs.{joins, pairDelays};
+ghost use Rattle.base.specs.{_≡_, List, ℕ, _+_, _*_, _≤_, _<_, min, length, take, getD};
+ghost use Rattle.model.specs.{each, below, cellsOf, cellAt, joins, pairDelays};
+ghost use Rattle.base_text.specs.{Wrote};
+ghost use Rattle.cells_pairs.specs.{Joinable, Coded, codeFor, innerCodes, pinCodes, pairCodes, cellsBy, nameFrom, cellBytes};
+ghost use Rattle.cells_pairs.specs.{cellFrom, codeBytes, listedBytes, bookOf, countIn, lineCell, codePlace, codeIn};
 
 // The listed cells, and the numbers of the pairs, as bytes: made once for each call and lent to what runs for each gate, so that no library is
 // copied there.

@@ -1,20 +1,12 @@
--- The first line of a library's text is one of the two names lines just where the line that the crate text hands back is it. Assumes nothing.
-use Prim.Native.Nat.{ℕ, _-_, _<_, _≤_}
-use native.Mathlib.Omega.{arith}
-use mathlib.Core.Path.{_≡_, refl, sym, ap, _∙_}
-use mathlib.Core.Bool.{Bool, true, false, cond, _&&_, _||_}
-use mathlib.Core.List.{List, [], _∷_}
-use lib.ListN.{length, take, drop}
-use Rattle.model.specs.Base.{same}
-use Rattle.model.specs.Text.{ended, text, linesFrom}
-use Rattle.model.specs.Reading.{fault, unless}
-use Rattle.model.specs.LibraryText.{isShorter, isLonger, readCells, readLibraryLines, readLibrary, rangedLines, isRanged}
+-- The first line of a library's text is one of the two names lines just where the line that the crate text hands back is it.
+use Rattle.base.specs.{ℕ, _-_, _<_, _≤_, arith, _≡_, refl, sym, ap, _∙_, Bool, true, false, cond, _&&_, _||_, List, [], _∷_, length, take}
+use Rattle.base.specs.{drop}
+use Rattle.model.specs.{same, ended, text, linesFrom, fault, unless, isShorter, isLonger, readCells, readLibraryLines, readLibrary}
+use Rattle.model.specs.{rangedLines, isRanged}
 use Rattle.base_text.specs.declared.Span.{Span}
-use Rattle.base_text.specs.Lines.{lineAt, pastLine, spanAt}
-use Rattle.base_text.proofs.Bytes.{and-left, and-right, or-true, same-eq}
-use Rattle.base_text.proofs.Bridge.{lines-at}
-use Rattle.base_text.proofs.Spans.{span-contents, span-ended, span-next, span-fits, span-out}
-use Rattle.cells_reader.specs.Reading.{shorterLine, longerLine, isLine}
+use Rattle.base_text.specs.{lineAt, pastLine, spanAt}
+use Rattle.base_text.proofs.{and-left, and-right, or-true, same-eq, lines-at, span-contents, span-ended, span-next, span-fits, span-out}
+use Rattle.cells_reader.specs.{shorterLine, longerLine, isLine}
 use Rattle.cells_reader.proofs.Turns.{linesOf}
 
 read-by : (s : List ℕ) → 0 < length s

@@ -1,26 +1,15 @@
 -- The form of a cell line is the crate model's: what is read from field to field is the cell of the line's fields.
 --     form-means     the cell that `formAt` finds is `cellOfLine` of the line at the place
 --     form-cell      and then its name ends where the field does, its pins are at most 4, and the next line is behind this one
--- Assumes nothing.
-use Prim.Native.Nat.{ℕ, suc, _+_, _≤_}
-use native.Mathlib.Omega.{arith}
-use mathlib.Core.Path.{_≡_, refl, sym, ap, ap₂, _∙_}
-use mathlib.Core.Bool.{Bool, true, false, cond, _&&_}
-use mathlib.Core.Option.{Option, none, some}
-use mathlib.Core.List.{List, [], _∷_}
-use lib.Dec.{eqb, leb}
-use lib.ListN.{length, take, drop, getD}
-use borrow.Author.Tests.{leb-true}
-use Rattle.model.specs.Base.{andThen, only}
-use Rattle.model.specs.Text.{number, numbers, hexTable, isName}
-use Rattle.model.specs.LibraryText.{nameBytes, cellOfFields, cellOfLine}
+use Rattle.base.specs.{ℕ, suc, _+_, _≤_, arith, _≡_, refl, sym, ap, ap₂, _∙_, Bool, true, false, cond, _&&_, Option, none, some, List, []}
+use Rattle.base.specs.{_∷_, eqb, leb, length, take, drop, getD, leb-true}
+use Rattle.model.specs.{andThen, only, number, numbers, hexTable, isName, nameBytes, cellOfFields, cellOfLine}
 use Rattle.model.specs.declared.Cell.{Cell}
 use Rattle.base_text.specs.declared.Cursor.{Cursor}
-use Rattle.base_text.specs.Fields.{wordAt, endAt, isByte, onNumber, onStep, numberOf, stepOf, nameAt, byteAt, numberThen, numberEnd, tableThen}
-use Rattle.base_text.specs.Lines.{lineAt, wordsAt, sepsAt, afterAt, numbersAt}
-use Rattle.base_text.proofs.Found.{past, pastEnd, nth, thenO, found, foundEnd, number-is, number-end-is, table-is}
-use Rattle.base_text.proofs.Bridge.{lineFields, ofLength, fields-at}
-use Rattle.base_text.proofs.Numbers.{numbers-at}
+use Rattle.base_text.specs.{wordAt, endAt, isByte, onNumber, onStep, numberOf, stepOf, nameAt, byteAt, numberThen, numberEnd, tableThen}
+use Rattle.base_text.specs.{lineAt, wordsAt, sepsAt, afterAt, numbersAt}
+use Rattle.base_text.proofs.{past, pastEnd, nth, thenO, found, foundEnd, number-is, number-end-is, table-is, lineFields, ofLength}
+use Rattle.base_text.proofs.{fields-at, numbers-at}
 use Rattle.cells_reader.specs.declared.Figures.{Figures}
 use Rattle.cells_reader.specs.declared.Delays.{Delays}
 use Rattle.cells_reader.specs.declared.Delays.the-variants.{Four, Broken as NoDelays}
@@ -31,7 +20,8 @@ use Rattle.cells_reader.specs.declared.Head.the-variants.{Three, Broken 
 use Rattle.cells_reader.specs.declared.FiguresRead.the-variants.{Got, Broken as NoFigures}
 use Rattle.cells_reader.specs.declared.Form.{Form}
 use Rattle.cells_reader.specs.declared.Form.the-variants.{Cell as ACell, Broken as NoForm}
-use Rattle.cells_reader.specs.Reading.{delaysAt, highAt, bothAt, oneAt, rangesAt, headAt, figuresAt, formAt, lineCell, onHead, onDelays, onRanges, onFigures, pickFigures}
+use Rattle.cells_reader.specs.{delaysAt, highAt, bothAt, oneAt, rangesAt, headAt, figuresAt, formAt, lineCell, onHead, onDelays}
+use Rattle.cells_reader.specs.{onRanges, onFigures, pickFigures}
 
 -- ---- the readers, by what is found at places that do not hang on it
 

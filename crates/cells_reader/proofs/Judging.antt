@@ -1,22 +1,12 @@
--- Laws of what a cell line must not say: a table bit or a delay too many, a name that is there already. Assumes nothing.
-use Prim.Native.Nat.{ℕ, zero, suc, _+_, _*_, _%_, _^_, _≤_, _<_}
-use native.Mathlib.Nat.{one-mul, mod-eq-of-lt, pow-le-pow-right}
-use native.Mathlib.Numerals.{add-one}
-use native.Mathlib.Omega.{arith}
-use mathlib.Core.Path.{_≡_, refl, sym, ap, _∙_, subst}
-use mathlib.Core.Bool.{Bool, true, false, _&&_, _||_}
-use mathlib.Core.List.{List, [], _∷_}
-use lib.Dec.{eqb, ltb, leb, eqb·zero-suc, eqb·suc-zero, lit<}
-use lib.ListN.{length, take, drop, getD}
-use lib.Seq.{drop-nil, take-all}
-use borrow.Author.Tests.{lt-ltb, le-ltb, ltb-true, ltb-false, eqb-true, eqb-false}
-use Rattle.model.specs.Base.{all, any, same}
-use Rattle.model.specs.Cells.{nameOf, noCell}
-use Rattle.model.specs.LibraryText.{isClean, noLower}
+-- Laws of what a cell line must not say: a table bit or a delay too many, a name that is there already.
+use Rattle.base.specs.{ℕ, zero, suc, _+_, _*_, _%_, _^_, _≤_, _<_, one-mul, mod-eq-of-lt, pow-le-pow-right, add-one, arith, _≡_, refl, sym}
+use Rattle.base.specs.{ap, _∙_, subst, Bool, true, false, _&&_, _||_, List, [], _∷_, eqb, ltb, leb, eqb·zero-suc, eqb·suc-zero, lit<}
+use Rattle.base.specs.{length, take, drop, getD, drop-nil, take-all, lt-ltb, le-ltb, ltb-true, ltb-false, eqb-true, eqb-false}
+use Rattle.model.specs.{all, any, same, nameOf, noCell, isClean, noLower}
 use Rattle.model.specs.declared.Cell.{Cell}
-use Rattle.base_text.proofs.Bytes.{or-true, and-true}
+use Rattle.base_text.proofs.{or-true, and-true}
 use Rattle.cells_reader.specs.declared.Figures.{Figures}
-use Rattle.cells_reader.specs.Reading.{delayOk, delaysOk, lineCell, clamped, pickN, before, isRepeated}
+use Rattle.cells_reader.specs.{delayOk, delaysOk, lineCell, clamped, pickN, before, isRepeated}
 
 -- ---- the limit of a table of p pins
 

@@ -3,37 +3,22 @@
 --     judged-cell     what is known where `judgedAt` finds a cell
 --     so-far-..       the loop's invariant: at its start, where it stops, and a turn on
 --     tidy-..         the library holds its cells and nothing else
--- Assumes nothing.
-use Prim.Native.Nat.{ℕ, zero, suc, _+_, _-_, _≤_, _<_}
-use native.Mathlib.Nat.{le-refl}
-use native.Mathlib.Numerals.{add-one}
-use native.Mathlib.Omega.{arith}
-use mathlib.Core.Path.{_≡_, refl, sym, ap, _∙_, subst}
-use mathlib.Core.Bool.{Bool, true, false, not, cond}
-use mathlib.Core.List.{List, [], _∷_, _++_, append-nil}
-use lib.Dec.{ltb}
-use lib.ListN.{length, take, drop, set, length-set, length-append, replicate}
-use lib.Seq.{append-snoc, take-suc-set, getD-set-same, getD-set-other, set-at}
-use borrow.Author.Tests.{ltb-true}
-use Rattle.model.specs.Base.{any, same}
-use Rattle.model.specs.Text.{Line, ended, linesFrom}
-use Rattle.model.specs.Reading.{Read, holds, fault, next, unless, from?}
-use Rattle.model.specs.Cells.{nameOf, noCell, blank, libraryOf, cellsOf}
-use Rattle.model.specs.LibraryText.{cellOfLine, isClean, noLower, readCells}
+use Rattle.base.specs.{ℕ, zero, suc, _+_, _-_, _≤_, _<_, le-refl, add-one, arith, _≡_, refl, sym, ap, _∙_, subst, Bool, true, false, not}
+use Rattle.base.specs.{cond, List, [], _∷_, _++_, append-nil, ltb, length, take, drop, set, length-set, length-append, replicate}
+use Rattle.base.specs.{append-snoc, take-suc-set, getD-set-same, getD-set-other, set-at, ltb-true}
+use Rattle.model.specs.{any, same, Line, ended, linesFrom, Read, holds, fault, next, unless, from?, nameOf, noCell, blank, libraryOf}
+use Rattle.model.specs.{cellsOf, cellOfLine, isClean, noLower, readCells}
 use Rattle.model.specs.declared.Cell.{Cell}
 use Rattle.model.specs.declared.Library.{Library}
 use Rattle.base_text.specs.declared.Cursor.{Cursor}
-use Rattle.base_text.specs.Fields.{wordAt}
-use Rattle.base_text.specs.Lines.{lineAt, pastLine}
-use Rattle.base_text.proofs.Bridge.{lines-at, lines-none, past-at}
-use Rattle.base_text.proofs.Words.{part-is, end-le, end-from}
-use Rattle.base_text.proofs.Names.{name-fits, name-taken}
+use Rattle.base_text.specs.{wordAt, lineAt, pastLine}
+use Rattle.base_text.proofs.{lines-at, lines-none, past-at, part-is, end-le, end-from, name-fits, name-taken}
 use Rattle.cells_reader.specs.declared.Figures.{Figures}
 use Rattle.cells_reader.specs.declared.Form.{Form}
 use Rattle.cells_reader.specs.declared.Form.the-variants.{Cell as ACell, Broken as NoForm}
 use Rattle.cells_reader.specs.declared.Judged.{Judged}
 use Rattle.cells_reader.specs.declared.Judged.the-variants.{Cell as Good, Refused as Bad}
-use Rattle.cells_reader.specs.Reading.{formAt, lineCell, before, isRepeated, added, figuresJudged, judgedAt, pickJudged, onForm}
+use Rattle.cells_reader.specs.{formAt, lineCell, before, isRepeated, added, figuresJudged, judgedAt, pickJudged, onForm}
 use Rattle.cells_reader.proofs.Forms.{wholeOf, formMeans, form-means, form-cell}
 
 -- the lines from a place on

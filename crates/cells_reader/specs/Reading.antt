@@ -1,16 +1,9 @@
--- What each function of the library's reader answers, composed of what the readers of the crate text find. Assumes nothing.
-use Prim.Native.Nat.{ℕ, zero, suc, _+_, _-_}
-use mathlib.Core.Bool.{Bool, true, false, _&&_, _||_}
-use mathlib.Core.List.{List, [], _∷_}
-use lib.Dec.{eqb, ltb, leb}
-use lib.ListN.{length, take, drop, getD, set}
-use Rattle.model.specs.Base.{same, any}
-use Rattle.model.specs.Text.{text}
-use Rattle.model.specs.Cells.{nameOf, noCell}
-use Rattle.model.specs.LibraryText.{nameBytes, isClean, noLower}
+-- What each function of the library's reader answers, composed of what the readers of the crate text find.
+use Rattle.base.specs.{ℕ, zero, suc, _+_, _-_, Bool, true, false, _&&_, _||_, List, [], _∷_, eqb, ltb, leb, length, take, drop, getD, set}
+use Rattle.model.specs.{same, any, text, nameOf, noCell, nameBytes, isClean, noLower}
 use Rattle.model.specs.declared.Cell.{Cell}
 use Rattle.model.specs.declared.Library.{Library}
-use Rattle.base_text.specs.Fields.{onNumber, onStep, numberThen, numberEnd, tableThen, nameAt, byteAt}
+use Rattle.base_text.specs.{onNumber, onStep, numberThen, numberEnd, tableThen, nameAt, byteAt}
 use Rattle.base_text.specs.declared.Cursor.{Cursor}
 use Rattle.base_text.specs.declared.Span.{Span}
 use Rattle.cells_reader.specs.declared.Figures.{Figures}

@@ -1,17 +1,11 @@
 // The cell library's text, read: its cells by value, or the first refusal of 2 to 6 and 27 with its place.
 // "The first line is `cell pins table area d0 d1 d2 d3`; each further line gives one cell's values in that order." "A new library text has `l0` to `l3`
 // after `d3` in its names line." "Items 3 to 6 are tried line by line", and 27 "after 6 on its line".
-ghost use mathlib.Core.Path.{_≡_};
-ghost use mathlib.Core.List.{[]};
-ghost use Prim.Native.Nat.{_+_, _^_, _≤_, _<_};
-ghost use lib.ListN.{length, take, drop, getD};
-ghost use Rattle.model.specs.Base.{same};
-ghost use Rattle.model.specs.Text.{linesFrom};
-ghost use Rattle.model.specs.Reading.{fault, rulingOf, verdictRuling};
-ghost use Rattle.model.specs.Cells.{noCell, libraryOf, libraryAnswer};
-ghost use Rattle.model.specs.LibraryText.{isClean, noLower, readCells, readLibrary, isRanged};
-ghost use Rattle.cells_reader.specs.Reading.{delaysAt, highAt, bothAt, oneAt, rangesAt, headAt, figuresAt, formAt, figuresJudged, judgedAt, lineCell};
-ghost use Rattle.cells_reader.specs.Reading.{added, isRepeated, delayOk, delaysOk, clamped, isLine};
+ghost use Rattle.base.specs.{_≡_, [], _+_, _^_, _≤_, _<_, length, take, drop, getD};
+ghost use Rattle.model.specs.{same, linesFrom, fault, rulingOf, verdictRuling, noCell, libraryOf, libraryAnswer, isClean, noLower};
+ghost use Rattle.model.specs.{readCells, readLibrary, isRanged};
+ghost use Rattle.cells_reader.specs.{delaysAt, highAt, bothAt, oneAt, rangesAt, headAt, figuresAt, formAt, figuresJudged, judgedAt};
+ghost use Rattle.cells_reader.specs.{lineCell, added, isRepeated, delayOk, delaysOk, clamped, isLine};
 use base_text::Cursor;
 use base_text::Number;
 use base_text::Span;

@@ -1,13 +1,7 @@
--- The bytes 10 of a text, from the last on. Assumes nothing.
-use Prim.Native.Nat.{ℕ, suc, _+_, _-_, _≤_, _<_}
-use native.Mathlib.Omega.{arith}
-use mathlib.Core.Path.{_≡_, sym, _∙_, ap}
-use mathlib.Core.Bool.{Bool, cond}
-use mathlib.Core.List.{List, _∷_}
-use borrow.Author.Tests.{eq-eqb, ne-eqb}
-use lib.ListN.{length, drop, getD, drop-of-length-le}
-use lib.Seq.{drop-cons}
-use Rattle.model.specs.Check.{lineEnds}
+-- The bytes 10 of a text, from the last on.
+use Rattle.base.specs.{ℕ, suc, _+_, _-_, _≤_, _<_, arith, _≡_, sym, _∙_, ap, Bool, cond, List, _∷_, eq-eqb, ne-eqb, length, drop, getD}
+use Rattle.base.specs.{drop-of-length-le, drop-cons}
+use Rattle.model.specs.{lineEnds}
 
 pub ends-none : (s : List ℕ) → 0 ≡ lineEnds (drop (length s) s)
 unfolding lineEnds

@@ -1,29 +1,19 @@
--- What is read of a netlist has its form: drivers of at most four pins, nets of 1 to 8 letters or digits, and the outputs' drivers last. Assumes nothing.
-use Prim.Native.Nat.{ℕ, zero, suc, _+_, _-_, _≤_, _<_}
-use native.Mathlib.Omega.{arith}
-use native.Mathlib.Nat.{add-zero}
-use mathlib.Core.Path.{_≡_, refl, sym, _∙_, ap, subst}
-use mathlib.Core.Bool.{Bool, true, false, cond, _&&_}
-use mathlib.Core.Option.{some}
-use mathlib.Core.List.{List, [], _∷_, _++_, map, List·Memᴰ, List·Memᴰ·head, List·Memᴰ·tail, List·Memᴰ·not-nil, List·Memᴰ·eq-of-singleton}
-use lib.Dec.{T, eqb}
-use lib.ListN.{length, take, getD, length-append}
-use lib.Seq.{length-take-le}
-use Rattle.model.specs.Base.{all, from, below, same, andThen, only}
-use Rattle.model.specs.Text.{Line, endedByTen, text, decimal, linesFrom, fields, isLetter, between}
-use Rattle.model.specs.Reading.{holds, next, from?}
-use Rattle.model.specs.Cells.{nameOf}
-use Rattle.model.specs.Graph.{Graph, literal}
-use Rattle.model.specs.Netlist.{outName}
-use Rattle.model.specs.Check.{Driver, isNet, isLine, pinNet, boundNets, cellNamed, gateOfFields, gateDriver, isGate, nameDriver, pastRow, pastLines, frameOf, readNames, readDrivers, readNetlist}
+-- What is read of a netlist has its form: drivers of at most four pins, nets of 1 to 8 letters or digits, and the outputs' drivers last.
+use Rattle.base.specs.{ℕ, zero, suc, _+_, _-_, _≤_, _<_, arith, add-zero, _≡_, refl, sym, _∙_, ap, subst, Bool, true, false, cond, _&&_}
+use Rattle.base.specs.{some, List, [], _∷_, _++_, map, List·Memᴰ, List·Memᴰ·head, List·Memᴰ·tail, List·Memᴰ·not-nil}
+use Rattle.base.specs.{List·Memᴰ·eq-of-singleton, T, eqb, length, take, getD, length-append, length-take-le}
+use Rattle.model.specs.{all, from, below, same, andThen, only, Line, endedByTen, text, decimal, linesFrom, fields, isLetter, between, holds}
+use Rattle.model.specs.{next, from?, nameOf, literal, outName, Driver, isNet, isLine, pinNet, boundNets, cellNamed, gateOfFields}
+use Rattle.model.specs.{gateDriver, isGate, nameDriver, pastRow, pastLines, frameOf, readNames, readDrivers, readNetlist}
+use Rattle.model.specs.Graph.{Graph}
 use Rattle.model.specs.declared.Cell.{Cell}
-use Rattle.theory_graph.proofs.Lists.{getD-in}
-use Rattle.theory_text.proofs.Steps.{holds-once, fault-never, unless-out, next-out, from-out, then-out, only-out}
-use Rattle.theory_check.proofs.PrintedNets.{net-form}
-use Rattle.check_names.proofs.Pins.{pin-named}
-use Rattle.check_reader.proofs.Names.{own-name, out-is}
-use Rattle.check_nets.specs.Wired.{noDriver}
-use Rattle.check_call.specs.Stages.{Formed}
+use Rattle.theory_graph.proofs.{getD-in}
+use Rattle.theory_text.proofs.{holds-once, fault-never, unless-out, next-out, from-out, then-out, only-out}
+use Rattle.theory_check.proofs.{net-form}
+use Rattle.check_names.proofs.{pin-named}
+use Rattle.check_reader.proofs.{own-name, out-is}
+use Rattle.check_nets.specs.{noDriver}
+use Rattle.check_call.specs.{Formed}
 
 -- a driver of the form
 pub record Form (d : Driver) : Type 0 where

@@ -1,30 +1,20 @@
--- The inputs' nets: where the words have them, and their numbers. Assumes nothing.
-use Prim.Native.Nat.{ℕ, zero, suc, _+_, _≤_, _<_}
-use native.Mathlib.Omega.{arith}
-use native.Mathlib.Nat.{add-zero}
-use native.Mathlib.Numerals.{add-one}
-use mathlib.Core.Path.{_≡_, refl, sym, _∙_, ap, subst}
-use mathlib.Core.Bool.{false}
-use mathlib.Core.List.{List, [], _∷_, _++_, map, List·Memᴰ, Memᴰ·append-left}
-use lib.Dec.{T, leb, leb→le}
-use lib.ListN.{length, getD, set, replicate, length-append, length-replicate, List·getD-append}
-use Rattle.model.specs.Base.{from}
-use Rattle.model.specs.Text.{decimal}
-use Rattle.model.specs.Graph.{Graph, literal, placeF, placingOrder, andVars}
-use Rattle.model.specs.Netlist.{netName}
-use Rattle.model.specs.Check.{isNet, inputNets}
+-- The inputs' nets: where the words have them, and their numbers.
+use Rattle.base.specs.{ℕ, zero, suc, _+_, _≤_, _<_, arith, add-zero, add-one, _≡_, refl, sym, _∙_, ap, subst, false, List, [], _∷_, _++_}
+use Rattle.base.specs.{map, List·Memᴰ, Memᴰ·append-left, T, leb, leb→le, length, getD, set, replicate, length-append, length-replicate}
+use Rattle.base.specs.{List·getD-append}
+use Rattle.model.specs.{from, decimal, literal, placeF, placingOrder, andVars, netName, isNet, inputNets}
+use Rattle.model.specs.Graph.{Graph}
 use Rattle.model.specs.declared.Header.{Header}
-use Rattle.base_words.specs.Put.{putAt, zeros}
-use Rattle.base_words.specs.Layout.{slotAt}
-use Rattle.base_words.proofs.Putting.{put-none, put-more, get-put}
-use Rattle.theory_graph.proofs.Lists.{map-out, all-of}
-use Rattle.theory_check.proofs.PrintedNets.{net-form}
-use Rattle.graph_placing.specs.Loaded.{Fit, Holding}
-use Rattle.graph_placing.proofs.Slots.{fit-length, fit-room}
-use Rattle.check_names.specs.Codes.{code}
-use Rattle.check_reader.specs.Frame.{Framing}
-use Rattle.check_reader.proofs.Names.{own-name}
-use Rattle.check_call.specs.Stages.{inputCode, Placed}
+use Rattle.theory_graph.proofs.{map-out, all-of}
+use Rattle.theory_check.proofs.{net-form}
+use Rattle.base_words.specs.{putAt, zeros, slotAt}
+use Rattle.base_words.proofs.{put-none, put-more, get-put}
+use Rattle.graph_placing.specs.{Fit, Holding}
+use Rattle.graph_placing.proofs.{fit-length, fit-room}
+use Rattle.check_names.specs.{code}
+use Rattle.check_reader.specs.{Framing}
+use Rattle.check_reader.proofs.{own-name}
+use Rattle.check_call.specs.{inputCode, Placed}
 
 -- ---- numbers one behind the other
 

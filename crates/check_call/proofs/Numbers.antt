@@ -1,26 +1,18 @@
--- Which refusals come up to 10, and which later: so what is left of work memory. Assumes nothing.
-use Prim.Native.Nat.{ℕ, zero, suc, _^_}
-use mathlib.Core.Path.{_≡_, refl, sym, ap}
-use mathlib.Core.Bool.{Bool, true, false, cond}
-use mathlib.Core.Option.{Option, none, some}
-use mathlib.Core.List.{List, [], _∷_}
-use lib.Dec.{leb}
-use lib.ListN.{length, replicate}
-use Rattle.model.specs.Base.{lowest}
-use Rattle.model.specs.Text.{Line, text, linesFrom}
-use Rattle.model.specs.Reading.{Read, holds, fault, next, from?}
-use Rattle.model.specs.Cells.{cellsOf}
-use Rattle.model.specs.Graph.{Graph, unplaced}
-use Rattle.model.specs.LibraryText.{readLibrary}
-use Rattle.model.specs.GraphText.{readHeader, readGraph}
-use Rattle.model.specs.Mapper.{triedEarly}
-use Rattle.model.specs.Check.{Driver, Edited, isLine, isGate, gateDriver, nameDriver, pastRow, pastLines, frameOf, readNames, readDrivers, readNetlist, inputNets, drivenTwice, undriven, firstLine, onCircle, unlessAt, judgeNets, settled, wrongAt, compareFrom, checkRead, checkedWork}
+-- Which refusals come up to 10, and which later: so what is left of work memory.
+use Rattle.base.specs.{ℕ, zero, suc, _^_, _≡_, refl, sym, ap, Bool, true, false, cond, Option, none, some, List, [], _∷_, leb, length}
+use Rattle.base.specs.{replicate}
+use Rattle.model.specs.{lowest, Line, text, linesFrom, Read, holds, fault, next, from?, cellsOf, unplaced, readLibrary, readHeader}
+use Rattle.model.specs.{readGraph, triedEarly, Driver, Edited, isLine, isGate, gateDriver, nameDriver, pastRow, pastLines, frameOf}
+use Rattle.model.specs.{readNames, readDrivers, readNetlist, inputNets, drivenTwice, undriven, firstLine, onCircle, unlessAt, judgeNets}
+use Rattle.model.specs.{settled, wrongAt, compareFrom, checkRead, checkedWork}
+use Rattle.model.specs.Graph.{Graph}
 use Rattle.model.specs.declared.Cell.{Cell}
 use Rattle.model.specs.declared.Library.{Library}
 use Rattle.model.specs.declared.Header.{Header}
 use Rattle.model.specs.declared.Checked.the-variants.{Differs, Refused}
-use Rattle.theory_text.proofs.Faults.{Faults, in-holds, in-fault, in-unless, in-from, in-next, library-faults, header-faults, graph-faults}
-use Rattle.check_call.specs.Stages.{judgedRead, netlistRead, placedRead, graphRead}
+use Rattle.theory_text.proofs.Faults.{Faults}
+use Rattle.theory_text.proofs.{in-holds, in-fault, in-unless, in-from, in-next, library-faults, header-faults, graph-faults}
+use Rattle.check_call.specs.{judgedRead, netlistRead, placedRead, graphRead}
 
 -- "every refusal tried up to 10", and "a later one", wherever its place is
 abbrev pub Early : ℕ → ℕ → Type 0

@@ -1,23 +1,12 @@
--- What each function has once the layer below has answered: the next layer's premise, or the answer. Assumes nothing.
-use Prim.Native.Nat.{ℕ, zero, suc, _+_, _-_, _*_, _^_, _≤_, _<_}
-use native.Mathlib.Omega.{arith}
-use mathlib.Core.Path.{_≡_, refl, sym, _∙_, ap, ap₂, subst}
-use mathlib.Core.Bool.{Bool, true, false, _&&_}
-use mathlib.Core.Option.{Option, none, some}
-use mathlib.Core.List.{List, [], _∷_, map, List·Memᴰ, List·Memᴰ·head, List·Memᴰ·tail, List·Memᴰ·not-nil}
-use lib.Dec.{T, leb, leb→le, le→leb}
-use lib.ListN.{length, take, drop, getD, replicate, length-append, length-replicate, List·getD-append}
-use lib.Seq.{take-append-seam}
-use Rattle.model.specs.Base.{from, each, lowest}
-use Rattle.model.specs.Limits.{need}
-use Rattle.model.specs.Reading.{Read, holds, fault, next, unless, verdictOf, refusedAt}
-use Rattle.model.specs.Cells.{noCell, blank, cellsOf, libraryOf, libraryAnswer}
-use Rattle.model.specs.Graph.{Graph, unplaced}
-use Rattle.model.specs.LibraryText.{readLibrary}
-use Rattle.model.specs.GraphText.{readHeader, readGraph, headerAnswer}
-use Rattle.model.specs.Netlist.{placingVerdict}
-use Rattle.model.specs.Check.{Driver, Edited, inputNets, readNetlist, judgeNets, settled, wrongAt, compareFrom, unlessAt, lineEnds, readEdited, checkRead, checkTexts, toldOf, toldBy, checkedWork}
-use Rattle.model.specs.CheckDemands.{CheckMemory}
+-- What each function has once the layer below has answered: the next layer's premise, or the answer.
+use Rattle.base.specs.{ℕ, zero, suc, _+_, _-_, _*_, _^_, _≤_, _<_, arith, _≡_, refl, sym, _∙_, ap, ap₂, subst, Bool, true, false, _&&_}
+use Rattle.base.specs.{Option, none, some, List, [], _∷_, map, List·Memᴰ, List·Memᴰ·head, List·Memᴰ·tail, List·Memᴰ·not-nil, T, leb, leb→le}
+use Rattle.base.specs.{le→leb, length, take, drop, getD, replicate, length-append, length-replicate, List·getD-append, take-append-seam}
+use Rattle.model.specs.{from, each, lowest, need, Read, holds, fault, next, unless, verdictOf, refusedAt, noCell, blank, cellsOf, libraryOf}
+use Rattle.model.specs.{libraryAnswer, unplaced, readLibrary, readHeader, readGraph, headerAnswer, placingVerdict, Driver, Edited}
+use Rattle.model.specs.{inputNets, readNetlist, judgeNets, settled, wrongAt, compareFrom, unlessAt, lineEnds, readEdited, checkRead}
+use Rattle.model.specs.{checkTexts, toldOf, toldBy, checkedWork, CheckMemory}
+use Rattle.model.specs.Graph.{Graph}
 use Rattle.model.specs.declared.Cell.{Cell}
 use Rattle.model.specs.declared.Library.{Library}
 use Rattle.model.specs.declared.LibraryAnswer.{LibraryAnswer}
@@ -28,29 +17,27 @@ use Rattle.model.specs.declared.Verdict.{Verdict}
 use Rattle.model.specs.declared.Verdict.the-variants.{Accepted, Refused}
 use Rattle.model.specs.declared.Checked.{Checked}
 use Rattle.model.specs.declared.Checked.the-variants.{Refused as Turned}
-use Rattle.model.proofs.Answers.{check-tells}
-use Rattle.base_words.specs.Put.{putAt, zeros}
-use Rattle.base_text.proofs.Progress.{put-front}
-use Rattle.theory_text.proofs.ReadLibrary.{library-few, library-written}
-use Rattle.theory_text.proofs.ReadGraph.{graph-accepted}
-use Rattle.theory_check.proofs.Whole.{all-placed}
-use Rattle.graph_placing.specs.Loaded.{Fit}
-use Rattle.graph_placing.specs.Placing.{Operands, placedVerdict, placedWords}
-use Rattle.graph_placing.proofs.Slots.{fit-length}
-use Rattle.graph_placing.proofs.Orders.{holding-operands, place-verdict, place-law}
-use Rattle.graph_reader.specs.Passes.{loadedWords}
-use Rattle.graph_reader.proofs.Loads.{load-law}
-use Rattle.check_reader.specs.Store.{Fitting, driverWords}
-use Rattle.check_reader.specs.Store as store
+use Rattle.model.proofs.{check-tells}
+use Rattle.theory_text.proofs.{library-few, library-written, graph-accepted}
+use Rattle.theory_check.proofs.{all-placed}
+use Rattle.base_words.specs.{putAt, zeros}
+use Rattle.base_text.proofs.{put-front}
+use Rattle.graph_placing.specs.{Fit, Operands, placedVerdict, placedWords}
+use Rattle.graph_placing.proofs.{fit-length, holding-operands, place-verdict, place-law}
+use Rattle.graph_reader.specs.{loadedWords}
+use Rattle.graph_reader.proofs.{load-law}
+use Rattle.check_reader.specs.{Fitting, driverWords}
 use Rattle.check_reader.specs.declared.Progress.{Progress}
-use Rattle.check_reader.proofs.Gathering.{words-long}
-use Rattle.check_nets.specs.Wired.{noDriver, Wired, Ordered}
-use Rattle.check_nets.specs.Judged.{Stored, Judged}
+use Rattle.check_reader.proofs.{words-long}
+use Rattle.check_nets.specs.{noDriver, Ordered, Stored}
+use Rattle.check_nets.specs.Wired.{Wired}
+use Rattle.check_nets.specs.Judged.{Judged}
 use Rattle.check_outputs.specs.Comparable.{Comparable}
-use Rattle.check_call.specs.Stages.{inputCode, Loaded, Placed, Wireable, judgedRead, netlistRead, placedRead, graphRead, headerRead, Left}
+use Rattle.check_call.specs.{inputCode, Loaded, Placed, Wireable, judgedRead, netlistRead, placedRead, graphRead, headerRead, Left}
 use Rattle.check_call.proofs.Forms.{netlist-formed}
 use Rattle.check_call.proofs.Inputs.{codes-are, nets-form, inputs-counted}
 use Rattle.check_call.proofs.Numbers.{Early, library-early, header-early, graph-late, work-early, work-late}
+use Rattle.check_reader.specs.Store as store
 
 -- ---- 33
 

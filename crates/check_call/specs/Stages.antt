@@ -1,27 +1,17 @@
--- What the words and the array hold between the layers, and what is read from each on, in terms of `model`. Assumes nothing.
-use Prim.Native.Nat.{ℕ, _+_, _-_, _*_, _≤_, _<_}
-use mathlib.Core.Path.{_≡_}
-use mathlib.Core.List.{List, [], _∷_, List·Memᴰ}
-use lib.Dec.{T, leb}
-use lib.ListN.{length, take, getD}
-use Rattle.model.specs.Base.{each, lowest}
-use Rattle.model.specs.Limits.{need}
-use Rattle.model.specs.Reading.{Read, holds, next, unless}
-use Rattle.model.specs.Text.{decimal}
-use Rattle.model.specs.Cells.{cellsOf}
-use Rattle.model.specs.Graph.{Graph, placingOrder, unplaced}
-use Rattle.model.specs.GraphText.{readHeader, readGraph}
-use Rattle.model.specs.Netlist.{outName}
-use Rattle.model.specs.Check.{Driver, Edited, isNet, inputNets, readNetlist, judgeNets, unlessAt, lineEnds, checkRead, checkedWork}
+-- What the words and the array hold between the layers, and what is read from each on, in terms of `model`.
+use Rattle.base.specs.{ℕ, _+_, _-_, _*_, _≤_, _<_, _≡_, List, [], _∷_, List·Memᴰ, T, leb, length, take, getD}
+use Rattle.model.specs.{each, lowest, need, Read, holds, next, unless, decimal, cellsOf, placingOrder, unplaced, readHeader, readGraph}
+use Rattle.model.specs.{outName, Driver, Edited, isNet, inputNets, readNetlist, judgeNets, unlessAt, lineEnds, checkRead, checkedWork}
+use Rattle.model.specs.Graph.{Graph}
 use Rattle.model.specs.declared.Library.{Library}
 use Rattle.model.specs.declared.Header.{Header}
 use Rattle.model.specs.declared.Checked.{Checked}
-use Rattle.base_words.specs.Layout.{slotAt}
 use Rattle.theory_graph.specs.Accepted.{Accepted}
-use Rattle.graph_placing.specs.Loaded.{Fit, Holding}
-use Rattle.check_names.specs.Codes.{code}
-use Rattle.check_reader.specs.Store.{driverWords}
-use Rattle.check_nets.specs.Wired.{noDriver}
+use Rattle.base_words.specs.{slotAt}
+use Rattle.graph_placing.specs.{Fit, Holding}
+use Rattle.check_names.specs.{code}
+use Rattle.check_reader.specs.{driverWords}
+use Rattle.check_nets.specs.{noDriver}
 
 -- ---- what the words and the array hold
 

@@ -1,26 +1,18 @@
-// The check of an edited netlist: three texts and lent memory in, the first refusal or the comparison with the graph out, "in checking order": 31 to 33 "are
-// tried after 15 in place of 16 to 18".
+// The check of an edited netlist: three texts and lent memory in, the first refusal or the comparison with the graph out, "in checking order":
+// 31 to 33 "are tried after 15 in place of 16 to 18".
 use model::Checked;
 use model::Header;
 use model::HeaderAnswer;
 use model::Library;
 use model::Verdict;
-ghost use mathlib.Core.Path.{_≡_};
-ghost use mathlib.Core.List.{List, map};
-ghost use Prim.Native.Nat.{_+_, _*_, _≤_};
-ghost use lib.ListN.{length, replicate};
-ghost use Rattle.model.specs.Base.{from};
-ghost use Rattle.model.specs.Limits.{need};
-ghost use Rattle.model.specs.Reading.{holds};
+ghost use Rattle.base.specs.{_≡_, List, map, _+_, _*_, _≤_, length, replicate};
+ghost use Rattle.model.specs.{from, need, holds, readHeader, Driver, lineEnds, checkRead, CheckMemory, CheckPromised};
 ghost use Rattle.model.specs.Graph.{Graph};
-ghost use Rattle.model.specs.GraphText.{readHeader};
-ghost use Rattle.model.specs.Check.{Driver, lineEnds, checkRead};
-ghost use Rattle.model.specs.CheckDemands.{CheckMemory, CheckPromised};
 ghost use Rattle.theory_check.specs.CheckRefusals.{CheckRefusals};
-ghost use Rattle.base_words.specs.Put.{putAt, zeros};
-ghost use Rattle.base_words.specs.Layout.{Room};
-ghost use Rattle.check_reader.specs.Store.{Fitting};
-ghost use Rattle.check_call.specs.Stages.{inputCode, Loaded, Placed, Wireable, judgedRead, netlistRead, placedRead, graphRead, headerRead, Left};
+ghost use Rattle.base_words.specs.{putAt, zeros, Room};
+ghost use Rattle.check_reader.specs.{Fitting};
+ghost use Rattle.check_call.specs.{inputCode, Loaded, Placed, Wireable, judgedRead, netlistRead, placedRead, graphRead, headerRead};
+ghost use Rattle.check_call.specs.{Left};
 
 // "10 wants 8 more words for each byte 10" in the netlist: how many it has.
 fn line_ends(s: &[u8]) -> usize
@@ -135,8 +127,8 @@ fn check_header(graph: &[u8], netlist: &[u8], lib: Library, work: &mut [u16]) ->
 
 // A library text, a graph text in either form and a netlist checked against the graph: "accepted exactly when every output equals the graph's for each of
 // the 2^I
-// input settings; otherwise the lowest setting that differs is returned, input k as bit k, and that setting's first wrong output", or the first refusal that
-// applies. "Given memory enough, every netlist that `map` prints from the same texts with I up to 12 is accepted."
+// input settings; otherwise the lowest setting that differs is returned, input k as bit k, and that setting's first wrong output", or the first
+// refusal that applies. "Given memory enough, every netlist that `map` prints from the same texts with I up to 12 is accepted."
 pub fn check_texts(cells: &[u8], graph: &[u8], netlist: &[u8], work: &mut [u16]) -> Checked
     ensures memory { λ r. ⌜ CheckMemory (now (cells .entry)) (now (graph .entry)) (now (netlist .entry)) (now (work .entry)) r (now (work .exit)) ⌝ }
     ensures promised { λ _. ⌜ CheckPromised (now (cells .entry)) (now (graph .entry)) (now (netlist .entry)) (length (now (work .entry))) ⌝ }

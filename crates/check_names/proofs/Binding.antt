@@ -1,23 +1,12 @@
--- The words of a gate's line bound one by one, and a cell looked up by its name. Assumes nothing.
-use Prim.Native.Nat.{ℕ, suc, _+_, _-_, _≤_, _<_}
-use native.Mathlib.Numerals.{add-one}
-use native.Mathlib.Nat.{add-zero, zero-add}
-use native.Mathlib.Omega.{arith}
-use mathlib.Core.Path.{_≡_, refl, sym, _∙_, ap, ap₂}
-use mathlib.Core.Bool.{Bool, true, false}
-use mathlib.Core.Option.{Option, none, some}
-use mathlib.Core.List.{List, [], _∷_, _++_, map, append-assoc}
-use lib.ListN.{length, take, drop, getD, set, replicate, length-append}
-use lib.Seq.{take-append-seam, getD-append-add, getD-take, drop-cons, drop-length, length-take-le}
-use Rattle.model.specs.Base.{andThen, from, same}
-use Rattle.model.specs.Cells.{nameOf, noCell, cellsOf}
-use Rattle.model.specs.Check.{boundNets}
+-- The words of a gate's line bound one by one, and a cell looked up by its name.
+use Rattle.base.specs.{ℕ, suc, _+_, _-_, _≤_, _<_, add-one, add-zero, zero-add, arith, _≡_, refl, sym, _∙_, ap, ap₂, Bool, true, false}
+use Rattle.base.specs.{Option, none, some, List, [], _∷_, _++_, map, append-assoc, length, take, drop, getD, set, replicate, length-append}
+use Rattle.base.specs.{take-append-seam, getD-append-add, getD-take, drop-cons, drop-length, length-take-le}
+use Rattle.model.specs.{andThen, from, same, nameOf, noCell, cellsOf, boundNets}
 use Rattle.model.specs.declared.Cell.{Cell}
 use Rattle.model.specs.declared.Library.{Library}
-use Rattle.theory_graph.proofs.Distinct.{length-map}
-use Rattle.check_names.specs.Codes.{code, pickN}
-use Rattle.check_names.specs.Fields.{fieldsFrom}
-use Rattle.check_names.specs.Bound.{pinAt, letters, netsOf, ownNets, cellIndex}
+use Rattle.theory_graph.proofs.{length-map}
+use Rattle.check_names.specs.{code, pickN, fieldsFrom, pinAt, letters, netsOf, ownNets, cellIndex}
 use Rattle.check_names.specs.declared.Pin.{Pin}
 use Rattle.check_names.proofs.Pins.{Word, broken, good, word-is}
 

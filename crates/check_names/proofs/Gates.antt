@@ -1,25 +1,12 @@
--- A gate's line: its cell, and its nets. Assumes nothing.
-use Prim.Native.Nat.{ℕ, zero, suc, _+_, _-_, _≤_, _<_}
-use native.Mathlib.Nat.{not-suc-le-zero, le-of-suc-le-suc}
-use native.Mathlib.Omega.{arith}
-use mathlib.Core.Path.{_≡_, refl, sym, _∙_, ap, ap₂, subst}
-use borrow.Author.Tests.{eqb-true, eqb-false}
-use mathlib.Core.Bool.{Bool, true, false, cond, _&&_, true≢false}
-use mathlib.Core.Option.{Option, none, some}
-use mathlib.Core.List.{List, [], _∷_, _++_, map}
-use lib.Dec.{eqb}
-use lib.ListN.{length, take, drop, getD, replicate, length-append}
-use lib.Seq.{length-take-le, getD-take}
-use Rattle.model.specs.Base.{andThen, from, below, same}
-use Rattle.model.specs.Text.{fields}
-use Rattle.model.specs.Cells.{nameOf, noCell, cellsOf}
-use Rattle.model.specs.Check.{Driver, pinNet, boundNets, cellNamed, gateOfFields}
+-- A gate's line: its cell, and its nets.
+use Rattle.base.specs.{ℕ, zero, suc, _+_, _-_, _≤_, _<_, not-suc-le-zero, le-of-suc-le-suc, arith, _≡_, refl, sym, _∙_, ap, ap₂, subst}
+use Rattle.base.specs.{eqb-true, eqb-false, Bool, true, false, cond, _&&_, true≢false, Option, none, some, List, [], _∷_, _++_, map, eqb}
+use Rattle.base.specs.{length, take, drop, getD, replicate, length-append, length-take-le, getD-take}
+use Rattle.model.specs.{andThen, from, below, same, fields, nameOf, noCell, cellsOf, Driver, pinNet, boundNets, cellNamed, gateOfFields}
 use Rattle.model.specs.declared.Cell.{Cell}
 use Rattle.model.specs.declared.Library.{Library}
-use Rattle.theory_graph.proofs.Distinct.{length-map, length-from}
-use Rattle.check_names.specs.Codes.{code, pickN}
-use Rattle.check_names.specs.Fields.{spaceFrom, fieldsFrom}
-use Rattle.check_names.specs.Bound.{letters, netsOf, gateWith, gateOf, cellIndex}
+use Rattle.theory_graph.proofs.{length-map, length-from}
+use Rattle.check_names.specs.{code, pickN, spaceFrom, fieldsFrom, letters, netsOf, gateWith, gateOf, cellIndex}
 use Rattle.check_names.specs.declared.Nets.{Nets}
 use Rattle.check_names.proofs.Parting.{fields-there, fields-none, fields-part}
 use Rattle.check_names.proofs.Pins.{pin-named, code-some}

@@ -5,3 +5,6 @@ pub mod Pins
 pub mod Binding
 pub mod Gates
 pub mod Named
+pub use Pins.{code-some, pin-named}
+pub use Gates.{driver-anywhere, driver-net}
+pub use Named.{gate-long}

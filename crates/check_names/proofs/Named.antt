@@ -1,23 +1,11 @@
--- A `.names` line, and an output's own name. Assumes nothing.
-use Prim.Native.Nat.{ℕ, suc, _+_, _-_, _≤_, _<_}
-use native.Mathlib.Omega.{arith}
-use mathlib.Core.Path.{_≡_, refl, sym, _∙_, ap, ap₂, subst}
-use mathlib.Core.Bool.{Bool, true, false, _&&_}
-use mathlib.Core.Option.{Option, none, some}
-use mathlib.Core.List.{List, [], _∷_, tail-eq-of-cons-eq}
-use lib.Dec.{eqb, leb}
-use lib.ListN.{length, take, drop, getD}
-use lib.Seq.{length-take-le}
-use borrow.Author.Tests.{le-leb, ne-eqb, eqb-true, eqb-false}
-use Rattle.model.specs.Base.{same, only}
-use Rattle.model.specs.Text.{text, decimal, asDigits, number, fields}
-use Rattle.model.specs.Netlist.{outName}
-use Rattle.model.specs.Check.{Driver, isNet, nameDriver}
-use Rattle.theory_text.proofs.Names.{decimal-value}
-use Rattle.base_text.proofs.Bytes.{same-eq, same-refl, not-same, and-right}
-use Rattle.check_names.specs.Codes.{code, pickN, netCode}
-use Rattle.check_names.specs.Fields.{spaceFrom, fieldsFrom}
-use Rattle.check_names.specs.Bound.{twoWords, nameCode}
+-- A `.names` line, and an output's own name.
+use Rattle.base.specs.{ℕ, suc, _+_, _-_, _≤_, _<_, arith, _≡_, refl, sym, _∙_, ap, ap₂, subst, Bool, true, false, _&&_, Option, none, some}
+use Rattle.base.specs.{List, [], _∷_, tail-eq-of-cons-eq, eqb, leb, length, take, drop, getD, length-take-le, le-leb, ne-eqb, eqb-true}
+use Rattle.base.specs.{eqb-false}
+use Rattle.model.specs.{same, only, text, decimal, asDigits, number, fields, outName, Driver, isNet, nameDriver}
+use Rattle.theory_text.proofs.{decimal-value}
+use Rattle.base_text.proofs.{same-eq, same-refl, not-same, and-right}
+use Rattle.check_names.specs.{code, pickN, netCode, spaceFrom, fieldsFrom, twoWords, nameCode}
 use Rattle.check_names.proofs.Parting.{fields-there, fields-part, fields-none, space-fits}
 
 -- ---- an output's own name

@@ -1,22 +1,11 @@
--- Names as numbers: a name byte by byte, how large its number is, and no two names of one number. Assumes nothing.
-use Prim.Native.Nat.{ℕ, zero, suc, _+_, _-_, _*_, _^_, _≤_, _<_}
-use native.Mathlib.Nat.{pow-suc}
-use native.Mathlib.Omega.{arith}
-use mathlib.Core.Path.{_≡_, refl, sym, _∙_, ap, subst}
-use mathlib.Core.Bool.{Bool, true, false, _||_}
-use mathlib.Core.List.{List, [], _∷_}
-use lib.Dec.{eqb, leb}
-use lib.ListN.{length, drop, getD, length-drop}
-use lib.Seq.{drop-cons, getD-drop}
-use native.Mathlib.Numerals.{add-one}
-use Rattle.model.specs.Base.{all}
-use Rattle.model.specs.Text.{between, isLetter, isNameByte}
-use Rattle.model.specs.Check.{isNet}
-use mir.Facts.{no-eqb}
-use borrow.Author.Tests.{leb-true, le-leb, lt-leb}
-use Rattle.theory_graph.proofs.Lists.{is-false}
-use Rattle.base_text.proofs.Bytes.{and-left, and-right, and-false}
-use Rattle.check_names.specs.Codes.{isNetByte, code, pickN, netCode}
+-- Names as numbers: a name byte by byte, how large its number is, and no two names of one number.
+use Rattle.base.specs.{ℕ, zero, suc, _+_, _-_, _*_, _^_, _≤_, _<_, pow-suc, arith, _≡_, refl, sym, _∙_, ap, subst, Bool, true, false, _||_}
+use Rattle.base.specs.{List, [], _∷_, eqb, leb, length, drop, getD, length-drop, drop-cons, getD-drop, add-one, no-eqb, leb-true, le-leb}
+use Rattle.base.specs.{lt-leb}
+use Rattle.model.specs.{all, between, isLetter, isNameByte, isNet}
+use Rattle.theory_graph.proofs.{is-false}
+use Rattle.base_text.proofs.{and-left, and-right, and-false}
+use Rattle.check_names.specs.{isNetByte, code, pickN, netCode}
 
 -- ---- a net's form
 

@@ -1,20 +1,9 @@
--- A line parted at its spaces. Assumes nothing.
-use Prim.Native.Nat.{ℕ, zero, suc, _+_, _-_, _≤_, _<_}
-use native.Mathlib.Numerals.{add-one}
-use native.Mathlib.Omega.{arith}
-use mathlib.Core.Path.{_≡_, refl, sym, _∙_, ap, ap₂}
-use mathlib.Core.Bool.{Bool, true, false, cond}
-use mathlib.Core.List.{List, [], _∷_}
-use lib.Dec.{eqb}
-use lib.ListN.{length, take, drop, getD, length-drop}
-use lib.Seq.{drop-cons}
-use mir.Facts.{no-eqb, yes-eqb}
-use Rattle.theory_graph.proofs.Lists.{is-true, is-false}
-use borrow.Author.Tests.{le-leb, lt-leb}
-use native.Mathlib.Decide.{decLe}
-use native.Mathlib.Nat.{lt-of-not-le}
-use Rattle.model.specs.Text.{onto, split, fields}
-use Rattle.check_names.specs.Fields.{pickBytes, untilSpace, spaceFrom, fieldsFrom}
+-- A line parted at its spaces.
+use Rattle.base.specs.{ℕ, zero, suc, _+_, _-_, _≤_, _<_, add-one, arith, _≡_, refl, sym, _∙_, ap, ap₂, Bool, true, false, cond, List, []}
+use Rattle.base.specs.{_∷_, eqb, length, take, drop, getD, length-drop, drop-cons, no-eqb, yes-eqb, le-leb, lt-leb, decLe, lt-of-not-le}
+use Rattle.model.specs.{onto, split, fields}
+use Rattle.theory_graph.proofs.{is-true, is-false}
+use Rattle.check_names.specs.{pickBytes, untilSpace, spaceFrom, fieldsFrom}
 
 -- ---- the end of a field
 

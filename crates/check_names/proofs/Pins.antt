@@ -1,25 +1,12 @@
--- A word `A=net` by its bytes, and the words of a gate's line one by one. Assumes nothing.
-use Prim.Native.Nat.{ℕ, zero, suc, _+_, _-_, _*_, _≤_, _<_}
-use native.Mathlib.Omega.{arith}
-use mathlib.Core.Path.{_≡_, refl, sym, _∙_, ap, ap₂, subst}
-use native.Mathlib.Decide.{decLe}
-use native.Mathlib.Nat.{lt-of-not-le}
-use mathlib.Core.Bool.{Bool, true, false, _&&_, _||_, true≢false}
-use mathlib.Core.Option.{Option, none, some}
-use mathlib.Core.List.{List, [], _∷_}
-use lib.Dec.{eqb, leb}
-use lib.ListN.{length, take, drop, getD, length-drop}
-use lib.Seq.{take-all}
-use mir.Facts.{yes-eqb, no-eqb}
-use Rattle.model.specs.Base.{all, andThen, only}
-use Rattle.model.specs.Text.{between, isLetter}
-use Rattle.model.specs.Check.{isNet, pinNet, boundNets}
-use Rattle.theory_graph.proofs.Lists.{is-true, is-false}
-use Rattle.base_text.proofs.Bytes.{and-left, and-right}
+-- A word `A=net` by its bytes, and the words of a gate's line one by one.
+use Rattle.base.specs.{ℕ, zero, suc, _+_, _-_, _*_, _≤_, _<_, arith, _≡_, refl, sym, _∙_, ap, ap₂, subst, decLe, lt-of-not-le, Bool, true}
+use Rattle.base.specs.{false, _&&_, _||_, true≢false, Option, none, some, List, [], _∷_, eqb, leb, length, take, drop, getD, length-drop}
+use Rattle.base.specs.{take-all, yes-eqb, no-eqb}
+use Rattle.model.specs.{all, andThen, only, between, isLetter, isNet, pinNet, boundNets}
+use Rattle.theory_graph.proofs.{is-true, is-false}
+use Rattle.base_text.proofs.{and-left, and-right}
 use Rattle.check_names.proofs.Parting.{fields-none, fields-part}
-use Rattle.check_names.specs.Codes.{isNetByte, code, pickN, netCode}
-use Rattle.check_names.specs.Fields.{spaceFrom, fieldsFrom}
-use Rattle.check_names.specs.Bound.{optCode, pinOf, pinAt}
+use Rattle.check_names.specs.{isNetByte, code, pickN, netCode, spaceFrom, fieldsFrom, optCode, pinOf, pinAt}
 use Rattle.check_names.specs.declared.Pin.{Pin}
 
 -- all that is left of a list

@@ -1,12 +1,6 @@
--- What the words of a gate's line bind, as numbers. Assumes nothing.
-use Prim.Native.Nat.{ℕ, suc, _+_, _-_}
-use mathlib.Core.Option.{Option, none, some}
-use mathlib.Core.List.{List, [], _∷_, _++_, map}
-use lib.ListN.{length, take, getD, replicate}
-use Rattle.model.specs.Base.{from, same}
-use Rattle.model.specs.Cells.{nameOf}
-use Rattle.model.specs.Netlist.{outName}
-use Rattle.model.specs.Check.{Driver, pinNet}
+-- What the words of a gate's line bind, as numbers.
+use Rattle.base.specs.{ℕ, suc, _+_, _-_, Option, none, some, List, [], _∷_, _++_, map, length, take, getD, replicate}
+use Rattle.model.specs.{from, same, nameOf, outName, Driver, pinNet}
 use Rattle.model.specs.declared.Cell.{Cell}
 use Rattle.check_names.specs.Codes.{pickN, code, netCode}
 use Rattle.check_names.specs.Fields.{spaceFrom, fieldsFrom}

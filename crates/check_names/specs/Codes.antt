@@ -1,9 +1,6 @@
--- Names of nets as numbers. Assumes nothing.
-use Prim.Native.Nat.{ℕ, _+_, _*_}
-use mathlib.Core.Bool.{Bool, true, false, _||_}
-use mathlib.Core.List.{List, [], _∷_}
-use Rattle.model.specs.Text.{between, isLetter}
-use Rattle.model.specs.Check.{isNet}
+-- Names of nets as numbers.
+use Rattle.base.specs.{ℕ, _+_, _*_, Bool, true, false, _||_, List, [], _∷_}
+use Rattle.model.specs.{between, isLetter, isNet}
 
 -- "letters or digits"
 unfoldable pub isNetByte : ℕ → Bool

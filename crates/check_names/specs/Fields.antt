@@ -1,10 +1,6 @@
--- The fields of a line from a place on. Assumes nothing.
-use Prim.Native.Nat.{ℕ, _+_}
-use mathlib.Core.Bool.{Bool, true, false, cond}
-use mathlib.Core.List.{List, [], _∷_}
-use lib.Dec.{eqb, leb}
-use lib.ListN.{length, drop}
-use Rattle.model.specs.Text.{fields}
+-- The fields of a line from a place on.
+use Rattle.base.specs.{ℕ, _+_, Bool, true, false, cond, List, [], _∷_, eqb, leb, length, drop}
+use Rattle.model.specs.{fields}
 
 abbrev pub pickBytes : Bool → List ℕ → List ℕ → List ℕ
 pickBytes true a b = a

@@ -2,3 +2,9 @@
 pub mod Codes
 pub mod Fields
 pub mod Bound
+pub use Codes.{pickN}
+unfoldable pub use Codes.{code, isNetByte, netCode}
+pub use Fields.{pickBytes}
+unfoldable pub use Fields.{fieldsFrom, spaceFrom, untilSpace}
+pub use Bound.{gateOf, gateWith, nameCode, netsOf, optCode, ownNets, pinOf}
+unfoldable pub use Bound.{cellIndex, letters, pinAt, twoWords}

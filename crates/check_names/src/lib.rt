@@ -1,19 +1,10 @@
 // A line of an edited netlist: the words of a gate's line and of a `.names` line, each net as a number.
 use base_text::Value;
 use model::Library;
-ghost use mathlib.Core.Path.{_≡_};
-ghost use mathlib.Core.List.{[], _∷_};
-ghost use mathlib.Core.Option.{none};
-ghost use Prim.Native.Nat.{ℕ, _+_, _≤_, _<_};
-ghost use lib.ListN.{length, getD};
-ghost use Rattle.model.specs.Base.{all, same};
-ghost use Rattle.model.specs.Text.{text, fields};
-ghost use Rattle.model.specs.Netlist.{outName};
-ghost use Rattle.model.specs.Cells.{noCell, cellsOf};
-ghost use Rattle.model.specs.Check.{isNet, pinNet, boundNets, gateOfFields, nameDriver};
-ghost use Rattle.check_names.specs.Codes.{isNetByte, code, netCode};
-ghost use Rattle.check_names.specs.Fields.{spaceFrom, fieldsFrom};
-ghost use Rattle.check_names.specs.Bound.{optCode, pinAt, letters, netsOf, ownNets, cellIndex, gateWith, gateOf, twoWords, nameCode};
+ghost use Rattle.base.specs.{_≡_, [], _∷_, none, ℕ, _+_, _≤_, _<_, length, getD};
+ghost use Rattle.model.specs.{all, same, text, fields, outName, noCell, cellsOf, isNet, pinNet, boundNets, gateOfFields, nameDriver};
+ghost use Rattle.check_names.specs.{isNetByte, code, netCode, spaceFrom, fieldsFrom, optCode, pinAt, letters, netsOf, ownNets};
+ghost use Rattle.check_names.specs.{cellIndex, gateWith, gateOf, twoWords, nameCode};
 
 // A word `A=net` of a line: its net, 0 where it breaks its form, and where the next word begins.
 pub struct Pin {

@@ -1,22 +1,13 @@
--- Names by their numbers, and the numbers of a driver. Assumes nothing.
-use Prim.Native.Nat.{ℕ, zero, suc, _+_, _-_, _*_, _≤_, _<_}
-use native.Mathlib.Nat.{not-suc-le-zero, le-of-suc-le-suc}
-use native.Mathlib.Omega.{arith}
-use mathlib.Core.Path.{_≡_, refl, sym, ap, ap₂, _∙_}
-use mathlib.Core.Logic.{_⊎_, inl, inr}
-use mathlib.Core.Bool.{Bool, true, false, _&&_, _||_}
-use mathlib.Core.List.{List, [], _∷_, _++_, map, List·Memᴰ, List·Memᴰ·head, List·Memᴰ·tail}
-use lib.Dec.{T, leb}
-use lib.ListN.{length, take, getD, replicate, length-append, length-take, length-map, List·getD-append}
-use lib.Seq.{getD-append-add, getD-take}
-use borrow.Author.Tests.{leb-true}
-use Rattle.model.specs.Base.{all, each}
-use Rattle.model.specs.Text.{isLetter, between}
-use Rattle.model.specs.Check.{Driver, isNet}
-use Rattle.theory_graph.proofs.Lists.{all-of, is-true}
-use Rattle.check_names.specs.Codes.{code}
-use Rattle.check_reader.specs.Store.{gateWords, driverWords}
-use Rattle.check_nets.specs.Wired.{noDriver}
+-- Names by their numbers, and the numbers of a driver.
+use Rattle.base.specs.{ℕ, zero, suc, _+_, _-_, _*_, _≤_, _<_, not-suc-le-zero, le-of-suc-le-suc, arith, _≡_, refl, sym, ap, ap₂, _∙_, _⊎_}
+use Rattle.base.specs.{inl, inr, Bool, true, false, _&&_, _||_, List, [], _∷_, _++_, map, List·Memᴰ, List·Memᴰ·head, List·Memᴰ·tail, T, leb}
+use Rattle.base.specs.{length, take, getD, replicate, length-append, length-take, length-map, List·getD-append, getD-append-add, getD-take}
+use Rattle.base.specs.{leb-true}
+use Rattle.model.specs.{all, each, isLetter, between, Driver, isNet}
+use Rattle.theory_graph.proofs.{all-of, is-true}
+use Rattle.check_names.specs.{code}
+use Rattle.check_reader.specs.{gateWords, driverWords}
+use Rattle.check_nets.specs.{noDriver}
 
 -- ---- names
 

@@ -1,19 +1,10 @@
--- The first line of each part of 33. Assumes nothing.
-use Prim.Native.Nat.{ℕ, zero, suc, _<_}
-use native.Mathlib.Nat.{not-suc-le-zero, le-of-suc-le-suc}
-use native.Mathlib.Omega.{arith}
-use mathlib.Core.Path.{_≡_, refl, sym, ap, subst, _∙_}
-use mathlib.Core.Logic.{_⊎_, inl, inr}
-use mathlib.Core.Bool.{Bool, true, false, cond, _||_}
-use mathlib.Core.Option.{Option, none, some}
-use mathlib.Core.List.{List, [], _∷_, List·Memᴰ, List·Memᴰ·head, List·Memᴰ·tail}
-use lib.Dec.{T}
-use lib.ListN.{length, getD}
-use Rattle.model.specs.Base.{any}
-use Rattle.model.specs.Reading.{holds, fault}
-use Rattle.model.specs.Check.{Driver, among, firstLine, drivenTwice, undriven, onCircle, unlessAt, judgeNets}
-use Rattle.theory_check.proofs.Settling.{among-in, among-out}
-use Rattle.check_nets.specs.Wired.{noDriver}
+-- The first line of each part of 33.
+use Rattle.base.specs.{ℕ, zero, suc, _<_, not-suc-le-zero, le-of-suc-le-suc, arith, _≡_, refl, sym, ap, subst, _∙_, _⊎_, inl, inr, Bool}
+use Rattle.base.specs.{true, false, cond, _||_, Option, none, some, List, [], _∷_, List·Memᴰ, List·Memᴰ·head, List·Memᴰ·tail, T, length}
+use Rattle.base.specs.{getD}
+use Rattle.model.specs.{any, holds, fault, Driver, among, firstLine, drivenTwice, undriven, onCircle, unlessAt, judgeNets}
+use Rattle.theory_check.proofs.{among-in, among-out}
+use Rattle.check_nets.specs.{noDriver}
 
 -- the place of an element
 pub mem-at : {A : Type 0} (x d : A) (xs : List A) → List·Memᴰ x xs → (k : ℕ) × (k < length xs) × (getD xs k d ≡ x)

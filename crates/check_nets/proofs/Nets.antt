@@ -1,25 +1,14 @@
--- What the numbers say of the nets: the first two parts of 33, and the pins. Assumes nothing.
-use Prim.Native.Nat.{ℕ, _+_, _-_, _*_, _≤_, _<_}
-use native.Mathlib.Nat.{lt-of-not-le}
-use native.Mathlib.Decide.{decLe}
-use native.Mathlib.Omega.{arith}
-use mathlib.Core.Path.{_≡_, refl, sym, ap, subst, _∙_}
-use mathlib.Core.Logic.{inl, inr}
-use mathlib.Core.Bool.{Bool, true, false, not, cond, false≢true}
-use mathlib.Core.Option.{none, some}
-use mathlib.Core.List.{List, [], _++_, map, List·Memᴰ, List·Memᴰ·append-cases, Memᴰ·append-left, Memᴰ·append-right, Memᴰ·cast}
-use lib.Dec.{T}
-use lib.ListN.{length, getD}
-use borrow.Author.Tests.{le-leb, lt-leb}
-use Rattle.model.specs.Base.{any}
-use Rattle.model.specs.Check.{Driver, isNet, among, firstLine, drivenTwice, undriven}
-use Rattle.theory_graph.proofs.Lists.{map-in, map-out, getD-in, any-none}
-use Rattle.theory_check.proofs.Settling.{among-in, among-out}
-use Rattle.check_names.specs.Codes.{code}
-use Rattle.check_wires.specs.Chains.{pinsAt, useAt, ownAt}
-use Rattle.check_wires.specs.Pins.{Drivers, Undriven, Driven, Pin, Row, Loose, Once, Rows}
-use Rattle.check_nets.specs.Wired.{noDriver, netOf, Wired}
-use Rattle.check_nets.specs.Judged.{Stored}
+-- What the numbers say of the nets: the first two parts of 33, and the pins.
+use Rattle.base.specs.{ℕ, _+_, _-_, _*_, _≤_, _<_, lt-of-not-le, decLe, arith, _≡_, refl, sym, ap, subst, _∙_, inl, inr, Bool, true, false}
+use Rattle.base.specs.{not, cond, false≢true, none, some, List, [], _++_, map, List·Memᴰ, List·Memᴰ·append-cases, Memᴰ·append-left}
+use Rattle.base.specs.{Memᴰ·append-right, Memᴰ·cast, T, length, getD, le-leb, lt-leb}
+use Rattle.model.specs.{any, Driver, isNet, among, firstLine, drivenTwice, undriven}
+use Rattle.theory_graph.proofs.{map-in, map-out, getD-in, any-none}
+use Rattle.theory_check.proofs.{among-in, among-out}
+use Rattle.check_names.specs.{code}
+use Rattle.check_wires.specs.{pinsAt, useAt, ownAt, Drivers, Undriven, Driven, Pin, Row, Loose, Once, Rows}
+use Rattle.check_nets.specs.{noDriver, netOf, Stored}
+use Rattle.check_nets.specs.Wired.{Wired}
 use Rattle.check_nets.proofs.Codes.{code-same, stored-long, stored-pins, stored-own, stored-use}
 use Rattle.check_nets.proofs.Lines.{mem-at, first-some, first-none, Before, twice-some, twice-none, any-true}
 

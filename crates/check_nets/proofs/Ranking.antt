@@ -1,10 +1,7 @@
--- A driver below all that feeds it is on no circle, where no driver is above what feeds it. Assumes nothing.
-use Prim.Native.Nat.{ℕ, _+_, _*_, _≤_, _<_}
-use native.Mathlib.Omega.{arith}
-use mathlib.Core.List.{List}
-use lib.ListN.{getD}
-use Rattle.check_order.specs.Lists.{Pinned, FeedsAt, Back, one, more}
-use Rattle.check_nets.specs.Ranks.{Rising}
+-- A driver below all that feeds it is on no circle, where no driver is above what feeds it.
+use Rattle.base.specs.{ℕ, _+_, _*_, _≤_, _<_, arith, List, getD}
+use Rattle.check_order.specs.{Pinned, FeedsAt, Back, one, more}
+use Rattle.check_nets.specs.{Rising}
 
 module _ (refs ranks : List ℕ) (n : ℕ) (pins : Pinned refs n) (rising : (i : ℕ) → i < n → Rising refs ranks 0 i) where
   inside : (i j k : ℕ) → i < n → FeedsAt refs i j k → k < n

@@ -1,28 +1,16 @@
--- Circles and the order, of the numbers and of the nets. Assumes nothing.
-use Prim.Native.Nat.{ℕ, zero, suc, _+_, _-_, _*_, _/_, _%_, _≤_, _<_}
-use native.Mathlib.Nat.{lt-of-not-le, not-suc-le-zero, div-add-mod', mod-lt}
-use native.Mathlib.Decide.{decLe}
-use native.Mathlib.Omega.{arith}
-use mathlib.Core.Path.{_≡_, refl, sym, ap, subst, _∙_}
-use mathlib.Core.Bool.{Bool, true}
-use mathlib.Core.Option.{none, some}
-use mathlib.Core.List.{List, [], map, List·Memᴰ, Memᴰ·cast}
-use lib.Dec.{T, eqb, eqb→eq, lit<}
-use lib.ListN.{length, getD}
-use borrow.Author.Tests.{eq-eqb}
-use Rattle.model.specs.Base.{keep, below}
-use Rattle.model.specs.Check.{Driver, firstLine, onCircle}
-use Rattle.theory_graph.proofs.Lists.{map-in, map-out, getD-in, keep-in, keep-out, below-in, below-out, by-eqb}
-use Rattle.theory_check.proofs.Settling.{FeedsNet, directly, through, NoCircle, Fed, none-left}
-use Rattle.theory_check.proofs.Circles.{circle-found, found-circle}
-use Rattle.check_wires.specs.Chains.{ownAt}
-use Rattle.check_wires.specs.Pins.{Pin, Once, Rows}
-use Rattle.check_order.specs.Lists.{Pinned, FeedsAt, Back, one, more, Arranged, Settled, Circled}
-use Rattle.check_order.proofs.Listing.{left-any, left-some}
-use Rattle.check_nets.specs.Wired.{noDriver, Ordered}
-use Rattle.check_nets.specs.Judged.{Stored}
+-- Circles and the order, of the numbers and of the nets.
+use Rattle.base.specs.{ℕ, zero, suc, _+_, _-_, _*_, _/_, _%_, _≤_, _<_, lt-of-not-le, not-suc-le-zero, div-add-mod', mod-lt, decLe, arith}
+use Rattle.base.specs.{_≡_, refl, sym, ap, subst, _∙_, Bool, true, none, some, List, [], map, List·Memᴰ, Memᴰ·cast, T, eqb, eqb→eq, lit<}
+use Rattle.base.specs.{length, getD, eq-eqb}
+use Rattle.model.specs.{keep, below, Driver, firstLine, onCircle}
+use Rattle.theory_graph.proofs.{map-in, map-out, getD-in, keep-in, keep-out, below-in, below-out, by-eqb}
+use Rattle.theory_check.proofs.{FeedsNet, directly, through, NoCircle, Fed, none-left, circle-found, found-circle}
+use Rattle.check_names.specs.{code}
+use Rattle.check_wires.specs.{ownAt, Pin, Once, Rows}
+use Rattle.check_order.specs.{Pinned, FeedsAt, Back, one, more, Arranged, Settled, Circled}
+use Rattle.check_order.proofs.{left-any, left-some}
+use Rattle.check_nets.specs.{noDriver, Ordered, Stored}
 use Rattle.check_nets.proofs.Lines.{mem-at, first-some, first-none}
-use Rattle.check_names.specs.Codes.{code}
 use Rattle.check_nets.proofs.Nets.{netAt, usesAt, is-driver, own-code, nets-same, pins-are, pin-input, pin-driver}
 
 -- ---- an order has no circle

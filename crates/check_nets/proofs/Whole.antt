@@ -1,16 +1,11 @@
--- The three parts of 33 together, by the numbers that the passes leave. Assumes nothing.
-use Prim.Native.Nat.{ℕ, _*_, _≤_, _<_}
-use native.Mathlib.Omega.{arith}
-use mathlib.Core.Path.{_≡_, sym, ap, subst, _∙_}
-use mathlib.Core.List.{List}
-use lib.ListN.{length, getD}
-use Rattle.model.specs.Reading.{Read, fault}
-use Rattle.model.specs.Check.{Driver, judgeNets}
+-- The three parts of 33 together, by the numbers that the passes leave.
+use Rattle.base.specs.{ℕ, _*_, _≤_, _<_, arith, _≡_, sym, ap, subst, _∙_, List, length, getD}
+use Rattle.model.specs.{Read, fault, Driver, judgeNets}
 use Rattle.model.specs.declared.Verdict.the-variants.{Accepted}
-use Rattle.check_wires.specs.Pins.{Once, Rows, First, twice, once, Referred}
-use Rattle.check_order.specs.Lists.{Pinned, Settled, Circled}
-use Rattle.check_nets.specs.Wired.{noDriver}
-use Rattle.check_nets.specs.Judged.{Stored, Judged}
+use Rattle.check_wires.specs.{Once, Rows, First, twice, once, Referred}
+use Rattle.check_order.specs.{Pinned, Settled, Circled}
+use Rattle.check_nets.specs.{noDriver, Stored}
+use Rattle.check_nets.specs.Judged.{Judged}
 use Rattle.check_nets.proofs.Codes.{stored-long, stored-offset}
 use Rattle.check_nets.proofs.Lines.{judged-twice, judged-loose, judged-circle, judged-holds}
 use Rattle.check_nets.proofs.Nets.{twice-at, twice-nowhere, loose-at, loose-nowhere, wired}

@@ -1,16 +1,10 @@
--- What is lent, and what the answer means. Assumes nothing.
-use Prim.Native.Nat.{ℕ, _*_, _≤_, _<_}
-use mathlib.Core.Path.{_≡_}
-use mathlib.Core.List.{List, [], List·Memᴰ}
-use lib.Dec.{T}
-use lib.ListN.{length, replicate, take, getD}
-use Rattle.model.specs.Base.{each}
-use Rattle.model.specs.Reading.{holds, fault}
-use Rattle.model.specs.Check.{Driver, isNet, judgeNets}
+-- What is lent, and what the answer means.
+use Rattle.base.specs.{ℕ, _*_, _≤_, _<_, _≡_, List, [], List·Memᴰ, T, length, replicate, take, getD}
+use Rattle.model.specs.{each, holds, fault, Driver, isNet, judgeNets}
 use Rattle.model.specs.declared.Verdict.{Verdict}
 use Rattle.model.specs.declared.Verdict.the-variants.{Accepted, Refused}
-use Rattle.check_names.specs.Codes.{code}
-use Rattle.check_reader.specs.Store.{driverWords}
+use Rattle.check_names.specs.{code}
+use Rattle.check_reader.specs.{driverWords}
 use Rattle.check_nets.specs.Wired.{Wired, Ordered}
 
 -- the drivers' numbers stand first, and the numbers of the inputs' names

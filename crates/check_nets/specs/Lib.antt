@@ -2,3 +2,8 @@
 pub mod Wired
 pub mod Ranks
 pub mod Judged
+pub use Wired.{Ordered, noDriver}
+unfoldable pub use Wired.{netOf}
+pub use Ranks.{Rising}
+pub use Judged.{Stored}
+unfoldable pub use Judged.{leftBy}

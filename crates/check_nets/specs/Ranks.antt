@@ -1,8 +1,6 @@
--- Ranks of drivers. Assumes nothing.
-use Prim.Native.Nat.{ℕ, _+_, _≤_}
-use mathlib.Core.List.{List}
-use lib.ListN.{getD}
-use Rattle.check_order.specs.Lists.{FeedsAt}
+-- Ranks of drivers.
+use Rattle.base.specs.{ℕ, _+_, _≤_, List, getD}
+use Rattle.check_order.specs.{FeedsAt}
 
 -- the rank of each driver that feeds driver i is higher by so much at least
 abbrev pub Rising : List ℕ → List ℕ → ℕ → ℕ → Type 0

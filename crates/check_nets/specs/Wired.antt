@@ -1,11 +1,6 @@
--- A netlist's nets as numbers: what stands at each pin, and an order in which every driver comes behind those that feed it. Assumes nothing.
-use Prim.Native.Nat.{ℕ, _+_, _-_, _*_, _≤_, _<_}
-use mathlib.Core.Path.{_≡_}
-use mathlib.Core.Bool.{cond}
-use mathlib.Core.List.{List, []}
-use lib.Dec.{leb}
-use lib.ListN.{length, getD}
-use Rattle.model.specs.Check.{Driver}
+-- A netlist's nets as numbers: what stands at each pin, and an order in which every driver comes behind those that feed it.
+use Rattle.base.specs.{ℕ, _+_, _-_, _*_, _≤_, _<_, _≡_, cond, List, [], leb, length, getD}
+use Rattle.model.specs.{Driver}
 
 -- what stands past the last driver
 abbrev pub noDriver : Driver

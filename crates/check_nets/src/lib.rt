@@ -2,17 +2,12 @@
 use check_reader::DRIVERS;
 use check_wires::PINS;
 use model::Verdict;
-ghost use mathlib.Core.Path.{_≡_};
-ghost use mathlib.Core.Bool.{true};
-ghost use mathlib.Core.List.{List};
-ghost use Prim.Native.Nat.{ℕ, _≤_, _<_};
-ghost use lib.ListN.{length, getD, replicate};
-ghost use Rattle.model.specs.Check.{Driver};
-ghost use Rattle.check_wires.specs.Refs.{refsLeft};
-ghost use Rattle.check_order.specs.Orders.{arrangeOf};
-ghost use Rattle.check_order.specs.Lists.{Pinned, FeedsAt, Behind, Reached, Stepped, Spread, Turns, LeftTurns, Circled};
-ghost use Rattle.check_nets.specs.Ranks.{Rising};
-ghost use Rattle.check_nets.specs.Judged.{Stored, Judged, leftBy};
+ghost use Rattle.base.specs.{_≡_, true, List, ℕ, _≤_, _<_, length, getD, replicate};
+ghost use Rattle.model.specs.{Driver};
+ghost use Rattle.check_wires.specs.{refsLeft};
+ghost use Rattle.check_order.specs.{arrangeOf, Pinned, FeedsAt, Behind, Reached, Stepped, Spread, Turns, LeftTurns, Circled};
+ghost use Rattle.check_nets.specs.{Rising, Stored, leftBy};
+ghost use Rattle.check_nets.specs.Judged.{Judged};
 
 // What feeds pin j of driver k listed, if it is not yet; 0 where it is driver i.
 fn reach_pin(

@@ -1,16 +1,8 @@
--- A driver more on a list. Assumes nothing.
-use Prim.Native.Nat.{ℕ, zero, suc, _+_, _≤_, _<_}
-use native.Mathlib.Nat.{not-suc-le-zero}
-use native.Mathlib.Omega.{arith}
-use mathlib.Core.Path.{_≡_, refl, sym, ap, subst, _∙_}
-use mathlib.Core.Bool.{Bool, cond}
-use mathlib.Core.List.{List}
-use lib.Dec.{eqb}
-use lib.ListN.{length, getD, set, replicate, length-replicate, length-set}
-use lib.Seq.{getD-set-same, getD-set-other}
-use borrow.Author.Tests.{eq-eqb, ne-eqb}
-use Rattle.theory_graph.proofs.Lists.{by-eqb}
-use Rattle.check_order.specs.Lists.{left, Listed}
+-- A driver more on a list.
+use Rattle.base.specs.{ℕ, zero, suc, _+_, _≤_, _<_, not-suc-le-zero, arith, _≡_, refl, sym, ap, subst, _∙_, Bool, cond, List, eqb, length}
+use Rattle.base.specs.{getD, set, replicate, length-replicate, length-set, getD-set-same, getD-set-other, eq-eqb, ne-eqb}
+use Rattle.theory_graph.proofs.{by-eqb}
+use Rattle.check_order.specs.{left, Listed}
 
 -- ---- how many are not marked
 

@@ -1,13 +1,8 @@
--- What is made is what is computed, step by step. Assumes nothing.
-use Prim.Native.Nat.{ℕ, zero, suc, _+_, _-_, _*_, _≤_, _<_}
-use native.Mathlib.Omega.{arith}
-use mathlib.Core.Path.{_≡_, refl, sym, ap, ap₂, _∙_}
-use mathlib.Core.Bool.{Bool, true, false, cond, _&&_}
-use mathlib.Core.List.{List}
-use lib.Dec.{eqb, ltb}
-use lib.ListN.{getD, set}
-use borrow.Author.Tests.{lt-ltb, le-ltb, eq-eqb, ne-eqb}
-use Rattle.check_order.specs.Orders.{Made, made, fedBy, readyFrom, placeOf, sweepFrom, settleFrom, Down, down, flat, descendOf, stepOf, walkFrom, diveOf, divesFrom}
+-- What is made is what is computed, step by step.
+use Rattle.base.specs.{ℕ, zero, suc, _+_, _-_, _*_, _≤_, _<_, arith, _≡_, refl, sym, ap, ap₂, _∙_, Bool, true, false, cond, _&&_, List, eqb}
+use Rattle.base.specs.{ltb, getD, set, lt-ltb, le-ltb, eq-eqb, ne-eqb}
+use Rattle.check_order.specs.{Made, made, fedBy, readyFrom, placeOf, sweepFrom, settleFrom, Down, down, flat, descendOf, stepOf}
+use Rattle.check_order.specs.{walkFrom, diveOf, divesFrom}
 
 module _ (refs : List ℕ) where
   -- ---- the pins of a driver

@@ -1,17 +1,9 @@
--- An order grown, and swept. Assumes nothing.
-use Prim.Native.Nat.{ℕ, _+_, _-_, _*_, _≤_, _<_}
-use native.Mathlib.Nat.{le-refl}
-use native.Mathlib.Omega.{arith}
-use mathlib.Core.Path.{_≡_, refl, sym, ap, subst, _∙_}
-use mathlib.Core.Bool.{true, false, cond, not, true≢false, false≢true}
-use mathlib.Core.List.{List}
-use lib.Dec.{eqb, ltb}
-use lib.ListN.{length, getD, set, replicate}
-use lib.Seq.{getD-set-same, getD-set-other}
-use borrow.Author.Tests.{lt-ltb, le-ltb, eq-eqb, ne-eqb}
-use Rattle.theory_graph.proofs.Lists.{by-eqb}
-use Rattle.check_order.specs.Orders.{fedBy}
-use Rattle.check_order.specs.Lists.{Pinned, FeedsAt, Ready, Stuck, Fed, Arranged, Placed, Swept, Settled}
+-- An order grown, and swept.
+use Rattle.base.specs.{ℕ, _+_, _-_, _*_, _≤_, _<_, le-refl, arith, _≡_, refl, sym, ap, subst, _∙_, true, false, cond, not, true≢false}
+use Rattle.base.specs.{false≢true, List, eqb, ltb, length, getD, set, replicate, getD-set-same, getD-set-other, lt-ltb, le-ltb, eq-eqb}
+use Rattle.base.specs.{ne-eqb}
+use Rattle.theory_graph.proofs.{by-eqb}
+use Rattle.check_order.specs.{fedBy, Pinned, FeedsAt, Ready, Stuck, Fed, Arranged, Placed, Swept, Settled}
 use Rattle.check_order.proofs.Listing.{listed-none, listed-room, listed-next}
 
 -- ---- a pin

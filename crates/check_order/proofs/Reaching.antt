@@ -1,14 +1,8 @@
--- The walk back from a driver. Assumes nothing.
-use Prim.Native.Nat.{ℕ, _+_, _-_, _*_, _≤_, _<_}
-use native.Mathlib.Nat.{le-refl}
-use native.Mathlib.Omega.{arith}
-use mathlib.Core.Path.{_≡_, refl, sym, ap, subst, _∙_}
-use mathlib.Core.Logic.{inl, inr}
-use mathlib.Core.List.{List}
-use lib.ListN.{length, getD, set, replicate, length-replicate}
-use lib.Seq.{getD-set-same, getD-set-other}
-use Rattle.theory_graph.proofs.Lists.{by-eqb}
-use Rattle.check_order.specs.Lists.{Pinned, FeedsAt, Back, one, more, Listed, Behind, Reached, Passed, Stepped, Spread}
+-- The walk back from a driver.
+use Rattle.base.specs.{ℕ, _+_, _-_, _*_, _≤_, _<_, le-refl, arith, _≡_, refl, sym, ap, subst, _∙_, inl, inr, List, length, getD, set}
+use Rattle.base.specs.{replicate, length-replicate, getD-set-same, getD-set-other}
+use Rattle.theory_graph.proofs.{by-eqb}
+use Rattle.check_order.specs.{Pinned, FeedsAt, Back, one, more, Listed, Behind, Reached, Passed, Stepped, Spread}
 use Rattle.check_order.proofs.Listing.{zeros, listed-none, listed-few, listed-room, listed-next}
 use Rattle.check_order.proofs.Placing.{feeder-below}
 

@@ -1,12 +1,6 @@
 -- Drivers listed one by one, each marked as it is: the order of the drivers, and the walk back from one. Of the drivers only the numbers at their pins are
--- known, four each: from 12 on that of a driver. Assumes nothing.
-use Prim.Native.Nat.{ℕ, zero, suc, _+_, _*_, _≤_, _<_}
-use mathlib.Core.Path.{_≡_}
-use mathlib.Core.Logic.{_⊎_}
-use mathlib.Core.Bool.{Bool, true, false, cond}
-use mathlib.Core.List.{List}
-use lib.Dec.{eqb}
-use lib.ListN.{length, getD}
+-- known, four each: from 12 on that of a driver.
+use Rattle.base.specs.{ℕ, zero, suc, _+_, _*_, _≤_, _<_, _≡_, _⊎_, Bool, true, false, cond, List, eqb, length, getD}
 use Rattle.check_order.specs.declared.Walk.{Walk}
 use Rattle.check_order.specs.Orders.{fedBy, readyFrom}
 

@@ -1,9 +1,5 @@
--- The order that is made, computed step by step as it is made: drivers tried one by one, sweeps over all of them, and walks down from each. Assumes nothing.
-use Prim.Native.Nat.{ℕ, zero, suc, _+_, _-_, _*_}
-use mathlib.Core.Bool.{Bool, true, cond, _&&_, not}
-use mathlib.Core.List.{List}
-use lib.Dec.{eqb, ltb}
-use lib.ListN.{getD, set, replicate}
+-- The order that is made, computed step by step as it is made: drivers tried one by one, sweeps over all of them, and walks down from each.
+use Rattle.base.specs.{ℕ, zero, suc, _+_, _-_, _*_, Bool, true, cond, _&&_, not, List, eqb, ltb, getD, set, replicate}
 
 -- how many drivers are listed, which are, and the list
 pub record Made : Type 0 where

@@ -4,11 +4,9 @@
 // listed at once. Where a sweep lists none, what is left is stuck behind a circle.
 use check_reader::DRIVERS;
 use check_wires::PINS;
-ghost use mathlib.Core.Path.{_≡_};
-ghost use Prim.Native.Nat.{suc, _*_, _≤_, _<_};
-ghost use lib.ListN.{getD, set};
-ghost use Rattle.check_order.specs.Orders.{Made, made, placeOf, sweepFrom, settleFrom, down, flat, descendOf, stepOf, diveOf, divesFrom, arrangeOf};
-ghost use Rattle.check_order.specs.Lists.{Pinned, Fed, Tried, Arranged, Placed, Swept, Settled, Walking};
+ghost use Rattle.base.specs.{_≡_, suc, _*_, _≤_, _<_, getD, set};
+ghost use Rattle.check_order.specs.{Made, made, placeOf, sweepFrom, settleFrom, down, flat, descendOf, stepOf, diveOf, divesFrom};
+ghost use Rattle.check_order.specs.{arrangeOf, Pinned, Fed, Tried, Arranged, Placed, Swept, Settled, Walking};
 
 // How deep the walk down is, and how many drivers are listed.
 pub struct Walk {
@@ -171,8 +169,8 @@ fn descend(
     depth + 1
 }
 
-// A step at the driver on top: down at its next pin, or, with all its pins passed, it is tried and the walk goes up. Nothing is to be known of the stack, so
-// that a number that is no driver's ends the walk.
+// A step at the driver on top: down at its next pin, or, with all its pins passed, it is tried and the walk goes up. Nothing is to be known of
+// the stack, so that a number that is no driver's ends the walk.
 fn step(
     refs: &[u16; PINS],
     n: usize,

@@ -4,18 +4,11 @@
 --     all-bits, no-bits   the words that are the same everywhere
 --     complement          what is left of all bits
 --     input-low, input-high     an input inside a block, and one that is the same in it
--- Assumes nothing.
-use mathlib.Core.Path.{_≡_, refl, sym, ap, _∙_}
-use mathlib.Core.Bool.{Bool, true, false, not}
-use Prim.Native.Nat.{ℕ, zero, suc, _+_, _-_, _*_, _/_, _%_, _^_, _<_, _≤_}
-use native.Mathlib.Nat.{pow-suc}
-use native.Mathlib.Omega.{arith}
-use lib.Dec.{eqb}
-use Rattle.model.specs.Base.{bit, one}
-use Rattle.model.specs.Table.{value}
-use Rattle.model.specs.Cuts.{tabulate}
-use Rattle.base_truth.proofs.Tables.{value-tabulate, tabulate-small, tabulate-same, tabulate-value}
-use Rattle.check_outputs.specs.Settings.{wordOf}
+use Rattle.base.specs.{_≡_, refl, sym, ap, _∙_, Bool, true, false, not, ℕ, zero, suc, _+_, _-_, _*_, _/_, _%_, _^_, _<_, _≤_, pow-suc}
+use Rattle.base.specs.{arith, eqb}
+use Rattle.model.specs.{bit, one, value, tabulate}
+use Rattle.base_truth.proofs.{value-tabulate, tabulate-small, tabulate-same, tabulate-value}
+use Rattle.check_outputs.specs.{wordOf}
 
 pub bit-word : (f : ℕ → Bool) (t : ℕ) → t < 64 → bit (wordOf f) t ≡ f t
 unfolding wordOf value

@@ -3,20 +3,11 @@
 --     by-last             where the last pin is 1 the table counts from its upper half on
 --     last-of-..          so of one to four pins
 --     negative, positive, and-literals, differ-bits     literals, their AND, and where two words differ
--- Assumes nothing.
-use mathlib.Core.Path.{_≡_, refl, sym, ap, ap₂, _∙_}
-use mathlib.Core.Bool.{Bool, true, false, not, cond, _&&_, _||_, Bool·beq}
-use mathlib.Core.List.{List, [], _∷_, map}
-use Prim.Native.Nat.{ℕ, _+_, _-_, _*_, _/_, _%_, _^_, _<_}
-use native.Mathlib.Omega.{arith}
-use lib.Bits.{bitAnd, bitOr, and-lt, or-lt}
-use lib.Dec.{eqb}
-use lib.Pow.{shr-shr}
-use Rattle.model.specs.Base.{bit, one, flip}
-use Rattle.model.specs.Graph.{negated}
-use Rattle.model.specs.Table.{value, rowOf}
-use Rattle.base_truth.proofs.Tables.{value-and, value-or, value-shift}
-use Rattle.check_outputs.specs.Settings.{wordOf, selected, gateWord, literalWord, andWord, differences}
+use Rattle.base.specs.{_≡_, refl, sym, ap, ap₂, _∙_, Bool, true, false, not, cond, _&&_, _||_, Bool·beq, List, [], _∷_, map, ℕ, _+_, _-_}
+use Rattle.base.specs.{_*_, _/_, _%_, _^_, _<_, arith, bitAnd, bitOr, and-lt, or-lt, eqb, shr-shr}
+use Rattle.model.specs.{bit, one, flip, negated, value, rowOf}
+use Rattle.base_truth.proofs.{value-and, value-or, value-shift}
+use Rattle.check_outputs.specs.{wordOf, selected, gateWord, literalWord, andWord, differences}
 use Rattle.check_outputs.proofs.Bits.{bit-word, word-small, as-word, own-word, words-same, complement}
 
 pub and-bit : (x y t : ℕ) → bit (bitAnd x y) t ≡ (bit x t && bit y t)

@@ -2,32 +2,20 @@
 --     drivers-ready       what the pass over the drivers asks for
 --     netWord             a driver's values in block b
 --     drivers-turn        each driver has its word by those of drivers that feed it
--- Assumes nothing.
-use Prim.Native.Nat.{ℕ, zero, suc, _+_, _-_, _*_, _≤_, _<_}
-use native.Mathlib.Omega.{arith}
-use mathlib.Core.Path.{_≡_, refl, sym, ap, ap₂, _∙_}
-use mathlib.Core.Bool.{Bool, true, false, cond}
-use mathlib.Core.List.{List, [], _∷_, _++_, map, List·Memᴰ, Memᴰ·cast}
-use lib.Dec.{leb}
-use lib.ListN.{length, getD, length-append, length-take, List·getD-append}
-use lib.Seq.{getD-append-add, getD-take}
-use borrow.Author.Tests.{leb-false, le-leb, lt-leb}
-use Rattle.model.specs.Base.{bit, one, each}
-use Rattle.model.specs.Table.{value, rowOf}
+use Rattle.base.specs.{ℕ, zero, suc, _+_, _-_, _*_, _≤_, _<_, arith, _≡_, refl, sym, ap, ap₂, _∙_, Bool, true, false, cond, List, [], _∷_}
+use Rattle.base.specs.{_++_, map, List·Memᴰ, Memᴰ·cast, leb, length, getD, length-append, length-take, List·getD-append, getD-append-add}
+use Rattle.base.specs.{getD-take, leb-false, le-leb, lt-leb}
+use Rattle.model.specs.{bit, one, each, value, rowOf, Driver, inputNets, settingOf, DriverValues}
 use Rattle.model.specs.Graph.{Graph}
-use Rattle.model.specs.Check.{Driver, inputNets, settingOf}
-use Rattle.model.specs.CheckDemands.{DriverValues}
 use Rattle.model.specs.declared.Header.{Header}
-use Rattle.theory_graph.proofs.Lists.{getD-in, map-in}
-use Rattle.theory_graph.proofs.Distinct.{length-map}
-use Rattle.theory_check.proofs.Comparing.{Sound, run-values}
-use Rattle.theory_check.proofs.Whole.{inputs-once, judged-sound}
-use Rattle.check_reader.specs.Store.{gateWords, driverWords}
-use Rattle.check_nets.specs.Wired.{noDriver, netOf}
-use Rattle.check_outputs.specs.Settings.{wordOf, inputWord, gateWord}
+use Rattle.theory_graph.proofs.{getD-in, map-in, length-map}
+use Rattle.theory_check.proofs.{Sound, run-values, inputs-once, judged-sound}
+use Rattle.check_reader.specs.{gateWords, driverWords}
+use Rattle.check_nets.specs.{noDriver, netOf}
+use Rattle.check_outputs.specs.{wordOf, inputWord, gateWord, tableOf, pinsOf, refWord, pinWord, driverWord, Readable, DriversTurn}
+use Rattle.check_outputs.specs.{netAt}
 use Rattle.check_outputs.proofs.Bits.{bit-word, words-same, no-bits}
-use Rattle.check_outputs.specs.Filling.{tableOf, pinsOf, refWord, pinWord, driverWord, Readable, DriversTurn}
-use Rattle.check_outputs.specs.Comparable.{Comparable, netAt}
+use Rattle.check_outputs.specs.Comparable.{Comparable}
 use Rattle.check_outputs.proofs.Variables.{setting-at}
 
 -- ---- eight numbers a driver

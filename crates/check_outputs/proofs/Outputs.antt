@@ -1,25 +1,17 @@
 -- The words in which the outputs differ:
 --     outputs-ready       what the pass over the outputs asks for
 --     output-word         where an output differs, from the words of its literal's variable and of its driver
--- Assumes nothing.
-use Prim.Native.Nat.{ℕ, _+_, _-_, _*_, _/_, _≤_, _<_}
-use native.Mathlib.Omega.{arith}
-use mathlib.Core.Path.{_≡_, sym, ap, ap₂, _∙_}
-use mathlib.Core.Bool.{Bool, not, Bool·beq}
-use mathlib.Core.List.{List, [], _∷_, List·Memᴰ, Memᴰ·append-left}
-use lib.ListN.{length, getD}
-use Rattle.model.specs.Base.{bit, flip, each}
-use Rattle.model.specs.Graph.{And, Graph, placingOrder, varOf, negated, literalValue}
-use Rattle.model.specs.Netlist.{outName}
-use Rattle.model.specs.Check.{Driver}
+use Rattle.base.specs.{ℕ, _+_, _-_, _*_, _/_, _≤_, _<_, arith, _≡_, sym, ap, ap₂, _∙_, Bool, not, Bool·beq, List, [], _∷_, List·Memᴰ}
+use Rattle.base.specs.{Memᴰ·append-left, length, getD}
+use Rattle.model.specs.{bit, flip, each, And, placingOrder, varOf, negated, literalValue, outName, Driver}
+use Rattle.model.specs.Graph.{Graph}
 use Rattle.model.specs.declared.Header.{Header}
-use Rattle.theory_graph.proofs.Lists.{getD-in}
-use Rattle.theory_graph.proofs.Placing.{order-small, defined-placed}
-use Rattle.base_words.specs.Layout.{placedOf, outputAt, slotAt}
-use Rattle.check_nets.specs.Wired.{noDriver}
-use Rattle.check_outputs.specs.Settings.{literalWord, differences}
+use Rattle.theory_graph.proofs.{getD-in, order-small, defined-placed}
+use Rattle.base_words.specs.{placedOf, outputAt, slotAt}
+use Rattle.check_nets.specs.{noDriver}
+use Rattle.check_outputs.specs.{literalWord, differences, netAt, wantedAt, wrongWord}
 use Rattle.check_outputs.proofs.Bits.{bit-word, words-same}
-use Rattle.check_outputs.specs.Comparable.{Comparable, netAt, wantedAt, wrongWord}
+use Rattle.check_outputs.specs.Comparable.{Comparable}
 use Rattle.check_outputs.proofs.Variables.{slot-of, valueWord, value-bit}
 use Rattle.check_outputs.proofs.Nets.{netWord, net-bit}
 

@@ -3,21 +3,13 @@
 --     slot-same           a variable's word by those of variables placed before it
 --     driver-same         a driver's word by those of drivers that stand before it in the order
 --     slot-.., pin-..     slots and pins by their tests
--- Assumes nothing.
-use Prim.Native.Nat.{ℕ, _+_, _-_, _*_, _/_, _≤_, _<_}
-use native.Mathlib.Omega.{arith}
-use mathlib.Core.Path.{_≡_, refl, sym, ap, _∙_}
-use mathlib.Core.Bool.{Bool, true, false, cond}
-use mathlib.Core.List.{List, [], _∷_}
-use lib.Dec.{eqb, leb}
-use lib.ListN.{length, getD, set}
-use lib.Seq.{getD-set-same, getD-set-other}
-use borrow.Author.Tests.{leb-true, leb-false, le-leb, lt-leb, eq-eqb, ne-eqb}
-use Rattle.theory_graph.proofs.Lists.{by-eqb}
-use Rattle.base_words.specs.Layout.{leftAt, rightAt, slotAt}
-use Rattle.cut_functions.specs.Filling.{Earlier}
-use Rattle.check_outputs.specs.Settings.{inputWord, gateWord, andWord}
-use Rattle.check_outputs.specs.Filling.{andAt, slotWord, Slots, SlotsTurn, tableOf, pinsOf, refWord, pinWord, driverWord, DriversTurn}
+use Rattle.base.specs.{ℕ, _+_, _-_, _*_, _/_, _≤_, _<_, arith, _≡_, refl, sym, ap, _∙_, Bool, true, false, cond, List, [], _∷_, eqb, leb}
+use Rattle.base.specs.{length, getD, set, getD-set-same, getD-set-other, leb-true, leb-false, le-leb, lt-leb, eq-eqb, ne-eqb}
+use Rattle.theory_graph.proofs.{by-eqb}
+use Rattle.base_words.specs.{leftAt, rightAt, slotAt}
+use Rattle.cut_functions.specs.{Earlier}
+use Rattle.check_outputs.specs.{inputWord, gateWord, andWord, andAt, slotWord, Slots, SlotsTurn, tableOf, pinsOf, refWord, pinWord}
+use Rattle.check_outputs.specs.{driverWord, DriversTurn}
 
 -- words that stand at given places, and one more
 pub filled-more : (xs : List ℕ) (at values : ℕ → ℕ) (n x : ℕ) → at n < length xs → x ≡ values (at n) → ((i : ℕ) → i < n → getD xs (at i) 0 ≡ values (at i))

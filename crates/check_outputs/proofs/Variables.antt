@@ -3,39 +3,24 @@
 --     valueWord           a variable's values in block b
 --     slots-turn          each variable has its word by those of variables placed before it
 --     slot-of             a placed variable stands in a slot
--- Assumes nothing.
-use Prim.Native.Nat.{ℕ, zero, suc, _+_, _-_, _*_, _/_, _≤_, _<_}
-use native.Mathlib.Omega.{arith}
-use native.Mathlib.Numerals.{add-one}
-use mathlib.Core.Path.{_≡_, refl, sym, ap, ap₂, _∙_}
-use mathlib.Core.Bool.{Bool, true, false, cond, _&&_}
-use mathlib.Core.List.{List, [], _∷_, _++_, List·Memᴰ, List·Memᴰ·head, List·Memᴰ·tail, Memᴰ·cast}
-use lib.Dec.{T, eqb, leb, eqb→eq}
-use lib.ListN.{length, getD, length-append, List·getD-append}
-use lib.Seq.{getD-append-add}
-use borrow.Author.Tests.{eqb-true, eqb-false, leb-true, leb-false}
-use Rattle.model.specs.Base.{bit, flip}
-use Rattle.model.specs.Graph.{And, Graph, Node, constant, input, undefined, both, node, placeF, placingOrder, varOf, negated, literalValue, nodeValue, valueOf}
-use Rattle.model.specs.Check.{Driver, settingOf}
-use Rattle.model.specs.Demands.{Distinct}
+use Rattle.base.specs.{ℕ, zero, suc, _+_, _-_, _*_, _/_, _≤_, _<_, arith, add-one, _≡_, refl, sym, ap, ap₂, _∙_, Bool, true, false, cond}
+use Rattle.base.specs.{_&&_, List, [], _∷_, _++_, List·Memᴰ, List·Memᴰ·head, List·Memᴰ·tail, Memᴰ·cast, T, eqb, leb, eqb→eq, length, getD}
+use Rattle.base.specs.{length-append, List·getD-append, getD-append-add, eqb-true, eqb-false, leb-true, leb-false}
+use Rattle.model.specs.{bit, flip, And, Node, constant, input, undefined, both, node, placeF, placingOrder, varOf, negated, literalValue}
+use Rattle.model.specs.{nodeValue, valueOf, Driver, settingOf, Distinct}
+use Rattle.model.specs.Graph.{Graph}
 use Rattle.model.specs.declared.Header.{Header}
-use Rattle.theory_graph.proofs.Lists.{getD-in, is-true, map-out}
-use Rattle.theory_graph.proofs.Placing.{placed-and}
-use Rattle.theory_graph.proofs.Values.{valueOf-valuation}
-use Rattle.theory_graph.proofs.GraphValue.{and-node, values-exist}
-use Rattle.theory_check.proofs.Whole.{inputs-once}
-use Rattle.base_words.specs.Layout.{placedOf, andKind, kindAt, leftAt, rightAt, slotAt}
-use Rattle.graph_placing.specs.Loaded.{Fit, kindOf, leftOf, rightOf}
-use Rattle.graph_placing.specs.Placing.{Operands}
-use Rattle.graph_placing.proofs.Slots.{fit-length, fit-room}
-use Rattle.graph_placing.proofs.Orders.{holding-operands, holds-nodes}
+use Rattle.theory_graph.proofs.{getD-in, is-true, map-out, placed-and, valueOf-valuation, and-node, values-exist}
+use Rattle.theory_check.proofs.{inputs-once}
+use Rattle.base_words.specs.{placedOf, andKind, kindAt, leftAt, rightAt, slotAt}
+use Rattle.graph_placing.specs.{Fit, kindOf, leftOf, rightOf, Operands}
+use Rattle.graph_placing.proofs.{fit-length, fit-room, holding-operands, holds-nodes}
 use Rattle.cut_lists.specs.Represents.{Represents}
-use Rattle.cut_lists.proofs.Model.{slot-inside}
-use Rattle.cut_pass.proofs.Places.{earlier-slot}
-use Rattle.cover_choice.proofs.Counting.{all-placed}
-use Rattle.check_outputs.specs.Settings.{wordOf, inputWord, andWord}
+use Rattle.cut_lists.proofs.{slot-inside}
+use Rattle.cut_pass.proofs.{earlier-slot}
+use Rattle.cover_choice.proofs.{all-placed}
+use Rattle.check_outputs.specs.{wordOf, inputWord, andWord, andAt, slotWord, Slots, SlotsTurn}
 use Rattle.check_outputs.proofs.Bits.{bit-word, words-same, no-bits}
-use Rattle.check_outputs.specs.Filling.{andAt, slotWord, Slots, SlotsTurn}
 use Rattle.check_outputs.specs.Comparable.{Comparable}
 
 -- ---- the setting of an input

@@ -1,25 +1,15 @@
 -- What is answered:
 --     found-wrong         the first wrong output of a setting, from the words of its block; `some-wrong`, `none-wrong`: by its number
 --     go-on, stop-at      a turn over the settings
--- Assumes nothing.
-use Prim.Native.Nat.{ℕ, suc, _+_, _-_, _*_, _/_, _%_, _≤_, _<_}
-use native.Mathlib.Omega.{arith}
-use native.Mathlib.Numerals.{add-one}
-use mathlib.Core.Path.{_≡_, sym, ap, _∙_}
-use mathlib.Core.Bool.{Bool, true, false, not, cond, Bool·beq, true≢false, false≢true}
-use mathlib.Core.Option.{Option, none, some}
-use mathlib.Core.List.{List, [], _∷_, map}
-use lib.Dec.{ltb}
-use lib.ListN.{length, getD}
-use borrow.Author.Tests.{lt-ltb, le-ltb}
-use Rattle.model.specs.Base.{bit, from, below}
-use Rattle.model.specs.Graph.{Graph, literalValue, valueOf}
-use Rattle.model.specs.Netlist.{outName}
-use Rattle.model.specs.Check.{Driver, inputNets, outputNets, settingOf, settled, firstWrong, wrongAt, compareFrom}
+use Rattle.base.specs.{ℕ, suc, _+_, _-_, _*_, _/_, _%_, _≤_, _<_, arith, add-one, _≡_, sym, ap, _∙_, Bool, true, false, not, cond, Bool·beq}
+use Rattle.base.specs.{true≢false, false≢true, Option, none, some, List, [], _∷_, map, ltb, length, getD, lt-ltb, le-ltb}
+use Rattle.model.specs.{bit, from, below, literalValue, valueOf, outName, Driver, inputNets, outputNets, settingOf, settled, firstWrong}
+use Rattle.model.specs.{wrongAt, compareFrom}
+use Rattle.model.specs.Graph.{Graph}
 use Rattle.model.specs.declared.Checked.the-variants.{Differs}
-use Rattle.graph_placing.specs.Placing.{pickN, seek}
+use Rattle.graph_placing.specs.{pickN, seek}
 use Rattle.check_outputs.proofs.Bits.{bit-word}
-use Rattle.check_outputs.specs.Comparable.{netAt, wantedAt, wrongWord, Wrong}
+use Rattle.check_outputs.specs.{netAt, wantedAt, wrongWord, Wrong}
 
 -- what a search that ends at `end` found
 foundBy : ℕ → ℕ → Option ℕ

@@ -1,19 +1,14 @@
--- A netlist that can be compared with its graph, and where its outputs are wrong. Assumes nothing.
-use Prim.Native.Nat.{ℕ, _+_, _-_, _*_, _≤_, _<_}
-use mathlib.Core.Path.{_≡_}
-use mathlib.Core.Bool.{Bool, not, Bool·beq}
-use mathlib.Core.List.{List, List·Memᴰ}
-use lib.ListN.{length, take, getD}
-use Rattle.model.specs.Base.{each}
-use Rattle.model.specs.Reading.{holds}
-use Rattle.model.specs.Graph.{Graph, placingOrder, literalValue, valueOf}
-use Rattle.model.specs.Netlist.{outName}
-use Rattle.model.specs.Check.{Driver, inputNets, judgeNets, netValue, runNets, settled, inputValues, settingOf}
+-- A netlist that can be compared with its graph, and where its outputs are wrong.
+use Rattle.base.specs.{ℕ, _+_, _-_, _*_, _≤_, _<_, _≡_, Bool, not, Bool·beq, List, List·Memᴰ, length, take, getD}
+use Rattle.model.specs.{each, holds, placingOrder, literalValue, valueOf, outName, Driver, inputNets, judgeNets, netValue, runNets, settled}
+use Rattle.model.specs.{inputValues, settingOf}
+use Rattle.model.specs.Graph.{Graph}
 use Rattle.model.specs.declared.Header.{Header}
 use Rattle.theory_graph.specs.Accepted.{Accepted}
-use Rattle.graph_placing.specs.Loaded.{Fit, Holding}
-use Rattle.check_reader.specs.Store.{driverWords}
-use Rattle.check_nets.specs.Wired.{noDriver, Wired, Ordered}
+use Rattle.graph_placing.specs.{Fit, Holding}
+use Rattle.check_reader.specs.{driverWords}
+use Rattle.check_nets.specs.{noDriver, Ordered}
+use Rattle.check_nets.specs.Wired.{Wired}
 use Rattle.check_outputs.specs.Settings.{wordOf}
 
 -- a graph of at most twelve inputs in the words, placed whole, and a netlist in the array, read and judged, its nets as numbers

@@ -1,12 +1,7 @@
--- The words of variables and drivers in block b of the settings, each from those before it. Assumes nothing.
-use Prim.Native.Nat.{ℕ, _+_, _-_, _*_, _/_, _≤_, _<_}
-use mathlib.Core.Path.{_≡_}
-use mathlib.Core.Bool.{cond}
-use mathlib.Core.List.{List, [], _∷_}
-use lib.Dec.{eqb, leb}
-use lib.ListN.{length, getD}
-use Rattle.base_words.specs.Layout.{Room, leftAt, rightAt, slotAt}
-use Rattle.cut_functions.specs.Filling.{Earlier}
+-- The words of variables and drivers in block b of the settings, each from those before it.
+use Rattle.base.specs.{ℕ, _+_, _-_, _*_, _/_, _≤_, _<_, _≡_, cond, List, [], _∷_, eqb, leb, length, getD}
+use Rattle.base_words.specs.{Room, leftAt, rightAt, slotAt}
+use Rattle.cut_functions.specs.{Earlier}
 use Rattle.check_outputs.specs.Settings.{inputWord, gateWord, andWord}
 
 -- ---- the graph

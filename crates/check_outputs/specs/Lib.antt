@@ -4,3 +4,8 @@
 pub mod Settings
 pub mod Filling
 pub mod Comparable
+unfoldable pub use Settings.{andWord, differences, gateWord, inputWord, literalWord, selected, wordOf}
+pub use Filling.{DriversTurn, Readable, Slots, SlotsTurn, pinsOf, tableOf}
+unfoldable pub use Filling.{andAt, driverWord, pinWord, refWord, slotWord}
+pub use Comparable.{Wrong}
+unfoldable pub use Comparable.{netAt, wantedAt, wrongWord}

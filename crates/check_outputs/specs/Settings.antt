@@ -1,11 +1,6 @@
--- Values under 64 settings at once: bit t of a word of block b is the value under setting 64 b + t. Assumes nothing.
-use Prim.Native.Nat.{ℕ, _+_, _*_}
-use mathlib.Core.Bool.{Bool, not, cond, _&&_, Bool·beq}
-use mathlib.Core.List.{List, map}
-use Rattle.model.specs.Base.{bit, flip}
-use Rattle.model.specs.Table.{value, rowOf}
-use Rattle.model.specs.Graph.{negated}
-use Rattle.model.specs.Cuts.{tabulate}
+-- Values under 64 settings at once: bit t of a word of block b is the value under setting 64 b + t.
+use Rattle.base.specs.{ℕ, _+_, _*_, Bool, not, cond, _&&_, Bool·beq, List, map}
+use Rattle.model.specs.{bit, flip, value, rowOf, negated, tabulate}
 
 -- the word with these values
 unfoldable pub wordOf : (ℕ → Bool) → ℕ

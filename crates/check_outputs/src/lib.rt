@@ -2,18 +2,14 @@
 // input k as bit k, and that setting's first wrong output". 64 settings are evaluated at once: bit t of a word of block b is setting 64 b + t.
 use model::Checked;
 use model::Header;
-ghost use mathlib.Core.Path.{_≡_};
-ghost use mathlib.Core.List.{_∷_, [], List};
-ghost use Prim.Native.Nat.{_<_, ℕ, _+_, _-_, _*_, _/_, _%_, _^_, _≤_};
-ghost use Rattle.model.specs.Base.{bit};
-ghost use Rattle.check_outputs.specs.Settings.{inputWord, selected, gateWord, literalWord, andWord, differences};
-ghost use lib.ListN.{length, getD};
+ghost use Rattle.base.specs.{_≡_, _∷_, [], List, _<_, ℕ, _+_, _-_, _*_, _/_, _%_, _^_, _≤_, length, getD};
+ghost use Rattle.model.specs.{bit, Driver, inputNets, settled, wrongAt, compareFrom};
 ghost use Rattle.model.specs.Graph.{Graph};
-ghost use Rattle.model.specs.Check.{Driver, inputNets, settled, wrongAt, compareFrom};
-ghost use Rattle.base_words.specs.Layout.{Room, RoomFor, leftAt, rightAt, slotAt, outputAt};
-ghost use Rattle.graph_placing.specs.Placing.{seek};
-ghost use Rattle.check_outputs.specs.Filling.{andAt, slotWord, Slots, SlotsTurn, pinWord, driverWord, Readable, DriversTurn};
-ghost use Rattle.check_outputs.specs.Comparable.{Comparable, Wrong};
+ghost use Rattle.base_words.specs.{Room, RoomFor, leftAt, rightAt, slotAt, outputAt};
+ghost use Rattle.graph_placing.specs.{seek};
+ghost use Rattle.check_outputs.specs.{inputWord, selected, gateWord, literalWord, andWord, differences, andAt, slotWord, Slots};
+ghost use Rattle.check_outputs.specs.{SlotsTurn, pinWord, driverWord, Readable, DriversTurn, Wrong};
+ghost use Rattle.check_outputs.specs.Comparable.{Comparable};
 
 // Values under 64 settings at once: bit t of a word of block b is the value under setting 64 b + t.
 

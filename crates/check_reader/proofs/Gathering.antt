@@ -1,31 +1,19 @@
--- Lines read one by one. Assumes nothing.
-use Prim.Native.Nat.{ℕ, _+_, _*_, _≤_, _<_}
-use native.Mathlib.Omega.{arith}
-use mathlib.Core.Path.{_≡_, refl, sym, _∙_, ap, ap₂, subst}
-use mathlib.Core.Bool.{Bool, true, false, cond, _&&_, true≢false}
-use mathlib.Core.Option.{Option, none, some}
-use mathlib.Core.List.{List, [], _∷_, _++_, append-assoc, append-nil}
-use borrow.Author.Tests.{eq-eqb, ne-eqb, eqb-true, lt-ltb}
-use lib.Dec.{eqb}
-use lib.ListN.{length, getD, length-append}
-use Rattle.model.specs.Base.{each, same, andThen, only}
-use Rattle.model.specs.Text.{Line, ended, text, fields}
-use Rattle.model.specs.Reading.{Read, holds, fault, next, from?}
-use Rattle.model.specs.Cells.{cellsOf}
-use Rattle.model.specs.Netlist.{outName}
-use Rattle.model.specs.Check.{Driver, isNet, isGate, gateDriver, gateOfFields, nameDriver, readNames, readDrivers}
+-- Lines read one by one.
+use Rattle.base.specs.{ℕ, _+_, _*_, _≤_, _<_, arith, _≡_, refl, sym, _∙_, ap, ap₂, subst, Bool, true, false, cond, _&&_, true≢false, Option}
+use Rattle.base.specs.{none, some, List, [], _∷_, _++_, append-assoc, append-nil, eq-eqb, ne-eqb, eqb-true, lt-ltb, eqb, length, getD}
+use Rattle.base.specs.{length-append}
+use Rattle.model.specs.{each, same, andThen, only, Line, ended, text, fields, Read, holds, fault, next, from?, cellsOf, outName, Driver}
+use Rattle.model.specs.{isNet, isGate, gateDriver, gateOfFields, nameDriver, readNames, readDrivers}
 use Rattle.model.specs.declared.Cell.{Cell}
 use Rattle.model.specs.declared.Library.{Library}
-use Rattle.base_words.specs.Put.{putAt}
-use Rattle.base_words.proofs.Putting.{put-none, put-append}
-use Rattle.base_text.specs.Lines.{lineAt, pastLine}
-use Rattle.base_text.proofs.Bridge.{lines-at, lines-none}
-use Rattle.check_names.specs.Codes.{code}
-use Rattle.check_names.specs.Bound.{gateOf, nameCode}
+use Rattle.base_words.specs.{putAt}
+use Rattle.base_words.proofs.{put-none, put-append}
+use Rattle.base_text.specs.{lineAt, pastLine}
+use Rattle.base_text.proofs.{lines-at, lines-none}
+use Rattle.check_names.specs.{code, gateOf, nameCode}
 use Rattle.check_names.specs.declared.Gate.{Gate}
-use Rattle.check_names.proofs.Gates.{driver-net, driver-anywhere}
-use Rattle.check_reader.specs.Frame.{linesAt}
-use Rattle.check_reader.specs.Store.{gateWords, driverWords, Gathered}
+use Rattle.check_names.proofs.{driver-net, driver-anywhere}
+use Rattle.check_reader.specs.{linesAt, gateWords, driverWords, Gathered}
 
 -- ---- a line
 

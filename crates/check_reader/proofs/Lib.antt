@@ -6,3 +6,5 @@ pub mod Lines
 pub mod Gathering
 pub mod Naming
 pub mod Taking
+pub use Names.{out-is, own-name}
+pub use Gathering.{words-long}

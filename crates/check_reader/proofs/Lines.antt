@@ -1,23 +1,11 @@
--- Lines that are due, one by one. Assumes nothing.
-use Prim.Native.Nat.{ℕ, _+_, _≤_, _<_}
-use native.Mathlib.Omega.{arith}
-use mathlib.Core.Path.{_≡_, refl, sym, _∙_, ap, ap₂}
-use mathlib.Core.Bool.{Bool, true, false, cond, true≢false}
-use mathlib.Core.List.{List, [], _∷_, _++_, append-nil}
-use borrow.Author.Tests.{eqb-true, lt-ltb, le-ltb}
-use lib.ListN.{length, take, drop, length-append}
-use lib.Seq.{take-append-seam}
-use Rattle.model.specs.Text.{ended, endedByTen}
-use Rattle.model.specs.Reading.{fault, unless}
-use Rattle.model.specs.Check.{isLine, pastLines}
-use Rattle.base_words.proofs.Putting.{length-put}
-use Rattle.base_text.specs.Writing.{Wrote}
-use Rattle.base_text.proofs.Progress.{Partly, begin, step, room, finish, put-front}
-use Rattle.base_text.specs.Lines.{lineAt, pastLine, spanAt}
-use Rattle.base_text.proofs.Bridge.{lines-at, lines-none}
-use Rattle.base_text.proofs.Spans.{span-fits}
-use Rattle.base_text.proofs.Bytes.{same-eq, and-left, and-right}
-use Rattle.check_reader.specs.Frame.{linesAt, dueAt, dueFrom, Due, Framed}
+-- Lines that are due, one by one.
+use Rattle.base.specs.{ℕ, _+_, _≤_, _<_, arith, _≡_, refl, sym, _∙_, ap, ap₂, Bool, true, false, cond, true≢false, List, [], _∷_, _++_}
+use Rattle.base.specs.{append-nil, eqb-true, lt-ltb, le-ltb, length, take, drop, length-append, take-append-seam}
+use Rattle.model.specs.{ended, endedByTen, fault, unless, isLine, pastLines}
+use Rattle.base_words.proofs.{length-put}
+use Rattle.base_text.specs.{Wrote, lineAt, pastLine, spanAt}
+use Rattle.base_text.proofs.{Partly, begin, step, room, finish, put-front, lines-at, lines-none, span-fits, same-eq, and-left, and-right}
+use Rattle.check_reader.specs.{linesAt, dueAt, dueFrom, Due, Framed}
 use Rattle.check_reader.specs.declared.Place.{Place}
 
 -- a keyword and names behind it, printed into memory that has room for them

@@ -1,22 +1,13 @@
--- Names one behind the other, and those of a graph. Assumes nothing.
-use Prim.Native.Nat.{ℕ, zero, suc, _+_, _-_, _*_, _≤_, _<_}
-use native.Mathlib.Omega.{arith}
-use native.Mathlib.Nat.{add-zero}
-use native.Mathlib.Numerals.{add-one}
-use mathlib.Core.Path.{_≡_, refl, sym, _∙_, ap, ap₂}
-use mathlib.Core.Bool.{Bool, false, cond}
-use mathlib.Core.List.{List, [], _∷_, _++_, map}
-use lib.ListN.{length, getD, length-append}
-use Rattle.model.specs.Base.{from, below, each}
-use Rattle.model.specs.Text.{text, decimal}
-use Rattle.model.specs.Graph.{Graph, literal}
-use Rattle.model.specs.Netlist.{netName, outName}
-use Rattle.model.specs.Check.{inputNets, outputNets, frameOf}
+-- Names one behind the other, and those of a graph.
+use Rattle.base.specs.{ℕ, zero, suc, _+_, _-_, _*_, _≤_, _<_, arith, add-zero, add-one, _≡_, refl, sym, _∙_, ap, ap₂, Bool, false, cond}
+use Rattle.base.specs.{List, [], _∷_, _++_, map, length, getD, length-append}
+use Rattle.model.specs.{from, below, each, text, decimal, literal, netName, outName, inputNets, outputNets, frameOf}
+use Rattle.model.specs.Graph.{Graph}
 use Rattle.model.specs.declared.Header.{Header}
-use Rattle.base_words.specs.Layout.{slotAt}
-use Rattle.base_text.proofs.Decimal.{dec-below}
-use Rattle.theory_graph.proofs.Literals.{lit-var, lit-neg}
-use Rattle.check_reader.specs.Frame.{namesFrom, inputName, Framing}
+use Rattle.theory_graph.proofs.{lit-var, lit-neg}
+use Rattle.base_words.specs.{slotAt}
+use Rattle.base_text.proofs.{dec-below}
+use Rattle.check_reader.specs.{namesFrom, inputName, Framing}
 
 -- ---- names
 

@@ -1,31 +1,16 @@
--- An output's two lines, read. Assumes nothing.
-use Prim.Native.Nat.{ℕ, suc, _+_, _-_, _*_, _≤_, _<_}
-use native.Mathlib.Omega.{arith}
-use mathlib.Core.Path.{_≡_, refl, sym, _∙_, ap, ap₂}
-use mathlib.Core.Bool.{Bool, true, false, cond, true≢false}
-use mathlib.Core.Option.{Option, none, some}
-use mathlib.Core.List.{List, [], _∷_, _++_}
-use lib.Dec.{eqb}
-use lib.ListN.{length, take, drop, getD, length-append}
-use lib.Seq.{take-append-seam}
-use borrow.Author.Tests.{eqb-true, lt-ltb}
-use Rattle.model.specs.Base.{each, same, only}
-use Rattle.model.specs.Text.{Line, ended, endedByTen, text, decimal, fields}
-use Rattle.model.specs.Reading.{Read, holds, fault, next, unless, from?}
-use Rattle.model.specs.Netlist.{outName}
-use Rattle.model.specs.Check.{Driver, isNet, isLine, nameDriver, pastRow, readNames}
-use Rattle.base_words.specs.Put.{putAt}
-use Rattle.base_words.proofs.Putting.{length-put, put-none, put-append}
-use Rattle.base_text.specs.Lines.{lineAt, pastLine}
-use Rattle.base_text.proofs.Bridge.{lines-at, lines-none}
-use Rattle.base_text.proofs.Bytes.{same-eq, and-left, and-right}
-use Rattle.base_text.proofs.Decimal.{dec-below}
-use Rattle.check_names.specs.Codes.{code}
-use Rattle.check_names.specs.Bound.{gateOf, nameCode}
-use Rattle.check_names.proofs.Pins.{code-some}
-use native.Mathlib.Numerals.{add-one}
-use Rattle.check_reader.specs.Frame.{linesAt}
-use Rattle.check_reader.specs.Store.{gateWords, driverWords, wireGate, Stepped, Paired}
+-- An output's two lines, read.
+use Rattle.base.specs.{ℕ, suc, _+_, _-_, _*_, _≤_, _<_, arith, _≡_, refl, sym, _∙_, ap, ap₂, Bool, true, false, cond, true≢false, Option}
+use Rattle.base.specs.{none, some, List, [], _∷_, _++_, eqb, length, take, drop, getD, length-append, take-append-seam, eqb-true, lt-ltb}
+use Rattle.base.specs.{add-one}
+use Rattle.model.specs.{each, same, only, Line, ended, endedByTen, text, decimal, fields, Read, holds, fault, next, unless, from?, outName}
+use Rattle.model.specs.{Driver, isNet, isLine, nameDriver, pastRow, readNames}
+use Rattle.base_words.specs.{putAt}
+use Rattle.base_words.proofs.{length-put, put-none, put-append}
+use Rattle.base_text.specs.{lineAt, pastLine}
+use Rattle.base_text.proofs.{lines-at, lines-none, same-eq, and-left, and-right, dec-below}
+use Rattle.check_names.specs.{code, gateOf, nameCode}
+use Rattle.check_names.proofs.{code-some}
+use Rattle.check_reader.specs.{linesAt, gateWords, driverWords, wireGate, Stepped, Paired}
 use Rattle.check_reader.specs.declared.Progress.{Progress}
 use Rattle.check_reader.proofs.Gathering.{words-long, driver-eight, each-last, next-same, next-twice}
 

@@ -1,17 +1,9 @@
--- The line at a place as the code sees it. Assumes nothing.
-use Prim.Native.Nat.{ℕ, _+_, _-_, _≤_}
-use native.Mathlib.Omega.{arith}
-use mathlib.Core.Path.{_≡_, sym, ap, subst}
-use mathlib.Core.Bool.{Bool, false, _&&_}
-use mathlib.Core.List.{List}
-use borrow.Author.Tests.{eq-eqb, ne-eqb}
-use lib.ListN.{length, take, drop}
-use Rattle.model.specs.Base.{same}
-use Rattle.model.specs.Text.{Line}
-use Rattle.model.specs.Check.{isLine}
+-- The line at a place as the code sees it.
+use Rattle.base.specs.{ℕ, _+_, _-_, _≤_, arith, _≡_, sym, ap, subst, Bool, false, _&&_, List, eq-eqb, ne-eqb, length, take, drop}
+use Rattle.model.specs.{same, Line, isLine}
 use Rattle.base_text.specs.declared.Span.{Span}
-use Rattle.base_text.specs.Lines.{lineOf, lineAt, pastLine, spanAt}
-use Rattle.base_text.proofs.Spans.{span-from, span-fits, span-contents, span-next, span-long}
+use Rattle.base_text.specs.{lineOf, lineAt, pastLine, spanAt}
+use Rattle.base_text.proofs.{span-from, span-fits, span-contents, span-next, span-long}
 
 -- a line that must be certain bytes: byte 10 alone ends it
 pub line-not : (w : List ℕ) (l : Line) → (l .ending ≡ 1 → ⊥) → isLine w l ≡ false

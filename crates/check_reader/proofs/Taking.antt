@@ -1,22 +1,14 @@
--- A netlist read: its first lines, its gates, its outputs and `.end`. Assumes nothing.
-use Prim.Native.Nat.{ℕ, _+_, _*_, _≤_}
-use native.Mathlib.Omega.{arith}
-use mathlib.Core.Path.{_≡_, refl, sym, _∙_, ap, ap₂}
-use mathlib.Core.Bool.{Bool, true, false, true≢false}
-use mathlib.Core.List.{List, [], _∷_, _++_, append-assoc, append-nil}
-use lib.ListN.{length, replicate, length-append}
-use Rattle.model.specs.Base.{each}
-use Rattle.model.specs.Text.{Line, text}
-use Rattle.model.specs.Reading.{Read, holds, next, unless}
-use Rattle.model.specs.Cells.{cellsOf}
+-- A netlist read: its first lines, its gates, its outputs and `.end`.
+use Rattle.base.specs.{ℕ, _+_, _*_, _≤_, arith, _≡_, refl, sym, _∙_, ap, ap₂, Bool, true, false, true≢false, List, [], _∷_, _++_}
+use Rattle.base.specs.{append-assoc, append-nil, length, replicate, length-append}
+use Rattle.model.specs.{each, Line, text, Read, holds, next, unless, cellsOf, Driver, isLine, pastLines, frameOf, readNames, readDrivers}
+use Rattle.model.specs.{readNetlist}
 use Rattle.model.specs.Graph.{Graph}
-use Rattle.model.specs.Check.{Driver, isLine, pastLines, frameOf, readNames, readDrivers, readNetlist}
 use Rattle.model.specs.declared.Library.{Library}
-use Rattle.base_words.specs.Put.{putAt}
-use Rattle.base_words.proofs.Putting.{length-put, put-none, put-append}
-use Rattle.check_reader.specs.Frame.{linesAt, Due, Framed}
+use Rattle.base_words.specs.{putAt}
+use Rattle.base_words.proofs.{length-put, put-none, put-append}
+use Rattle.check_reader.specs.{linesAt, Due, Framed, driverWords, Gathered, Paired, Lined, progressOf, netsAfter, Taken}
 use Rattle.check_reader.specs.declared.Place.{Place}
-use Rattle.check_reader.specs.Store.{driverWords, Gathered, Paired, Lined, progressOf, netsAfter, Taken}
 use Rattle.check_reader.specs.declared.Progress.{Progress}
 use Rattle.check_reader.proofs.Gathering.{words-long}
 

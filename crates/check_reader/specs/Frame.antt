@@ -1,17 +1,10 @@
--- Lines that are due, and the first three of a netlist. Assumes nothing.
-use Prim.Native.Nat.{ℕ, zero, suc, _+_, _≤_, _<_}
-use mathlib.Core.Path.{_≡_}
-use mathlib.Core.Bool.{true, false, cond}
-use mathlib.Core.List.{List, [], _∷_, _++_}
-use lib.Dec.{ltb}
-use lib.ListN.{length, drop, getD}
-use Rattle.model.specs.Text.{Line, linesFrom, decimal}
-use Rattle.model.specs.Reading.{holds, fault}
+-- Lines that are due, and the first three of a netlist.
+use Rattle.base.specs.{ℕ, zero, suc, _+_, _≤_, _<_, _≡_, true, false, cond, List, [], _∷_, _++_, ltb, length, drop, getD}
+use Rattle.model.specs.{Line, linesFrom, decimal, holds, fault, isLine, pastLines}
 use Rattle.model.specs.Graph.{Graph}
-use Rattle.model.specs.Check.{isLine, pastLines}
 use Rattle.model.specs.declared.Header.{Header}
-use Rattle.base_words.specs.Layout.{Room, slotAt}
-use Rattle.base_text.specs.Lines.{lineAt}
+use Rattle.base_words.specs.{Room, slotAt}
+use Rattle.base_text.specs.{lineAt}
 use Rattle.check_reader.specs.declared.Place.{Place}
 
 -- the lines of a text from a place on

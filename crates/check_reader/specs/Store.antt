@@ -1,22 +1,12 @@
--- The numbers of a driver in the array, and what is gathered of a text's lines. Assumes nothing.
-use Prim.Native.Nat.{ℕ, suc, _+_, _*_, _≤_, _<_}
-use mathlib.Core.Path.{_≡_}
-use mathlib.Core.Bool.{true, false}
-use mathlib.Core.Option.{some}
-use mathlib.Core.List.{List, [], _∷_, _++_}
-use lib.ListN.{length, getD, replicate}
-use Rattle.model.specs.Base.{each}
-use Rattle.model.specs.Reading.{Read, holds, fault, next}
-use Rattle.model.specs.Cells.{noCell, cellsOf}
+-- The numbers of a driver in the array, and what is gathered of a text's lines.
+use Rattle.base.specs.{ℕ, suc, _+_, _*_, _≤_, _<_, _≡_, true, false, some, List, [], _∷_, _++_, length, getD, replicate}
+use Rattle.model.specs.{each, Read, holds, fault, next, noCell, cellsOf, outName, Driver, readNames, readDrivers, readNetlist}
 use Rattle.model.specs.Graph.{Graph}
-use Rattle.model.specs.Netlist.{outName}
-use Rattle.model.specs.Check.{Driver, readNames, readDrivers, readNetlist}
 use Rattle.model.specs.declared.Library.{Library}
-use Rattle.base_words.specs.Put.{putAt}
-use Rattle.check_reader.specs.Frame.{linesAt}
+use Rattle.base_words.specs.{putAt}
 use Rattle.check_names.specs.declared.Gate.{Gate}
-use Rattle.check_names.specs.Codes.{code}
-use Rattle.check_names.specs.Bound.{gateOf}
+use Rattle.check_names.specs.{code, gateOf}
+use Rattle.check_reader.specs.Frame.{linesAt}
 use Rattle.check_reader.specs.declared.Progress.{Progress}
 
 -- a library that was read: cells of at most four pins

@@ -4,23 +4,14 @@ use base_text::Span;
 use check_names::Gate;
 use model::Header;
 use model::Library;
-ghost use mathlib.Core.Path.{_≡_};
-ghost use mathlib.Core.List.{_∷_, _++_};
-ghost use Prim.Native.Nat.{_+_, _≤_, _*_, _<_};
-ghost use lib.ListN.{length, replicate};
-ghost use Rattle.model.specs.Text.{text, decimal};
+ghost use Rattle.base.specs.{_≡_, _∷_, _++_, _+_, _≤_, _*_, _<_, length, replicate};
+ghost use Rattle.model.specs.{text, decimal, outName, isLine, frameOf, gateDriver, nameDriver, cellsOf};
 ghost use Rattle.model.specs.Graph.{Graph};
-ghost use Rattle.model.specs.Netlist.{outName};
-ghost use Rattle.model.specs.Check.{isLine, frameOf, gateDriver, nameDriver};
-ghost use Rattle.base_words.specs.Layout.{Room};
-ghost use Rattle.base_text.specs.Lines.{lineAt, spanAt};
-ghost use Rattle.base_text.specs.Writing.{Wrote};
-ghost use Rattle.check_reader.specs.Frame.{namesFrom, inputName, Due, Framing, Framed};
-ghost use Rattle.model.specs.Cells.{cellsOf};
-ghost use Rattle.base_words.specs.Put.{putAt};
-ghost use Rattle.check_names.specs.Codes.{code};
-ghost use Rattle.check_names.specs.Bound.{gateOf, nameCode};
-ghost use Rattle.check_reader.specs.Store.{gateWords, Fitting, Gathered, wireGate, Stepped, Paired, Lined, Taken};
+ghost use Rattle.base_words.specs.{Room, putAt};
+ghost use Rattle.base_text.specs.{lineAt, spanAt, Wrote};
+ghost use Rattle.check_names.specs.{code, gateOf, nameCode};
+ghost use Rattle.check_reader.specs.{namesFrom, inputName, Due, Framing, Framed, gateWords, Fitting, Gathered, wireGate, Stepped};
+ghost use Rattle.check_reader.specs.{Paired, Lined, Taken};
 
 // The lines that an edited netlist must have as they are printed: "BLIF as we print it up to `.end`". A line that is due is printed and compared.
 
@@ -374,8 +365,8 @@ fn clear(nets: &mut [u64])
     }
 }
 
-// "32 when a line breaks its form, names no listed cell or has other inputs or outputs than the graph". Then the array is zeros; else the drivers stand first
-// in it, and no place is left to go on from.
+// "32 when a line breaks its form, names no listed cell or has other inputs or outputs than the graph". Then the array is zeros; else the
+// drivers stand first in it, and no place is left to go on from.
 pub fn read(s: &[u8], lib: Library, work: &[u16], h: Header, nets: &mut [u64]) -> Progress
     requires { ⌜ Fitting lib × (length (now s) ≤ 65536) × (87384 ≤ length (now nets)) × ((g : Graph) × Framing (now work) h g) ⌝ }
     ensures { λ r. ⌜ ((g : Graph) → Framing (now (work .entry)) h g → Taken (now (s .entry)) lib g r (now (nets .entry)) (now (nets .exit))) ⌝ }

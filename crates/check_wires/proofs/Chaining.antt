@@ -1,15 +1,8 @@
--- Chains walked and grown. Assumes nothing.
-use Prim.Native.Nat.{ℕ, zero, suc, _+_, _-_, _%_, _≤_, _<_}
-use native.Mathlib.Nat.{mod-lt}
-use native.Mathlib.Omega.{arith}
-use mathlib.Core.Path.{_≡_, refl, sym, ap, subst, _∙_}
-use mathlib.Core.List.{List}
-use lib.Dec.{lit<}
-use lib.ListN.{length, getD, set, replicate, length-replicate, length-set}
-use lib.Seq.{getD-set-same, getD-set-other}
-use Rattle.theory_graph.proofs.Lists.{by-eqb}
-use Rattle.check_wires.specs.Chains.{ownAt, On, here, later, Falling, headOf, Chained, Found, InputOf}
-use Rattle.check_wires.specs.Pins.{Looked}
+-- Chains walked and grown.
+use Rattle.base.specs.{ℕ, zero, suc, _+_, _-_, _%_, _≤_, _<_, mod-lt, arith, _≡_, refl, sym, ap, subst, _∙_, List, lit<, length, getD, set}
+use Rattle.base.specs.{replicate, length-replicate, length-set, getD-set-same, getD-set-other}
+use Rattle.theory_graph.proofs.{by-eqb}
+use Rattle.check_wires.specs.{ownAt, On, here, later, Falling, headOf, Chained, Found, InputOf, Looked}
 
 -- an empty chain has none
 pub on-none : (links : List ℕ) (k : ℕ) → On links k 0 → ⊥

@@ -1,21 +1,11 @@
 -- What is found is what is computed.
 --     twice-referred, loose-referred, whole-referred     the answer and what is left in the array, by what was found
--- Assumes nothing.
-use Prim.Native.Nat.{ℕ, zero, suc, _+_, _-_, _*_, _/_, _%_, _≤_, _<_}
-use native.Mathlib.Nat.{lt-of-not-le, div-add-mod', mod-lt}
-use native.Mathlib.Decide.{decLe}
-use native.Mathlib.Omega.{arith}
-use mathlib.Core.Path.{_≡_, refl, sym, ap, ap₂, subst, _∙_}
-use mathlib.Core.Bool.{Bool, true, false, cond, true≢false}
-use mathlib.Core.Logic.{inl, inr}
-use mathlib.Core.List.{List, [], _∷_}
-use lib.Dec.{eqb, ltb, lit<}
-use lib.ListN.{length, getD, replicate}
-use borrow.Author.Tests.{lt-ltb, le-ltb, ltb-true, ltb-false, eq-eqb, ne-eqb}
-use Rattle.theory_graph.proofs.Lists.{by-eqb}
-use Rattle.check_wires.specs.Chains.{pinsAt, useAt, ownAt}
-use Rattle.check_wires.specs.Refs.{firstFrom, valuesFrom, driverOf, pinOf, isTwice, isLoose, refusedAt, refAt, refsLeft}
-use Rattle.check_wires.specs.Pins.{Drivers, Undriven, Driven, Pin, Row, Loose, Once, Rows, Written, twice, once, Referred}
+use Rattle.base.specs.{ℕ, zero, suc, _+_, _-_, _*_, _/_, _%_, _≤_, _<_, lt-of-not-le, div-add-mod', mod-lt, decLe, arith, _≡_, refl, sym}
+use Rattle.base.specs.{ap, ap₂, subst, _∙_, Bool, true, false, cond, true≢false, inl, inr, List, [], _∷_, eqb, ltb, lit<, length, getD}
+use Rattle.base.specs.{replicate, lt-ltb, le-ltb, ltb-true, ltb-false, eq-eqb, ne-eqb}
+use Rattle.theory_graph.proofs.{by-eqb}
+use Rattle.check_wires.specs.{pinsAt, useAt, ownAt, firstFrom, valuesFrom, driverOf, pinOf, isTwice, isLoose, refusedAt, refAt}
+use Rattle.check_wires.specs.{refsLeft, Drivers, Undriven, Driven, Pin, Row, Loose, Once, Rows, Written, twice, once, Referred}
 
 -- ---- the first number at which a test holds
 

@@ -1,17 +1,8 @@
--- The numbers at pins, one by one. Assumes nothing.
-use Prim.Native.Nat.{ℕ, _+_, _-_, _*_, _≤_, _<_}
-use native.Mathlib.Nat.{lt-of-not-le}
-use native.Mathlib.Decide.{decLe}
-use native.Mathlib.Omega.{arith}
-use mathlib.Core.Path.{_≡_, refl, sym, subst, _∙_}
-use mathlib.Core.Bool.{Bool, true}
-use mathlib.Core.Logic.{inl, inr}
-use mathlib.Core.List.{List}
-use lib.ListN.{length, getD, set, length-set}
-use lib.Seq.{getD-set-same, getD-set-other}
-use Rattle.theory_graph.proofs.Lists.{by-eqb}
-use Rattle.check_wires.specs.Chains.{pinsAt, useAt}
-use Rattle.check_wires.specs.Pins.{Driven, Looked, Pin, PinLooked, Row, RowLooked}
+-- The numbers at pins, one by one.
+use Rattle.base.specs.{ℕ, _+_, _-_, _*_, _≤_, _<_, lt-of-not-le, decLe, arith, _≡_, refl, sym, subst, _∙_, Bool, true, inl, inr, List}
+use Rattle.base.specs.{length, getD, set, length-set, getD-set-same, getD-set-other}
+use Rattle.theory_graph.proofs.{by-eqb}
+use Rattle.check_wires.specs.{pinsAt, useAt, Driven, Looked, Pin, PinLooked, Row, RowLooked}
 
 -- what is found drives the net
 pub driven : (ws ins : List ℕ) (count i x r : ℕ) → Looked ws ins count i x r → (r ≡ 12 + i → ⊥) → Driven ws ins count i x

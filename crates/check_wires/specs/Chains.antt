@@ -1,8 +1,5 @@
--- Drivers found by the numbers of their nets: each stands on the chain of its number's remainder. Assumes nothing.
-use Prim.Native.Nat.{ℕ, _+_, _-_, _*_, _%_, _≤_, _<_}
-use mathlib.Core.Path.{_≡_}
-use mathlib.Core.List.{List}
-use lib.ListN.{length, getD}
+-- Drivers found by the numbers of their nets: each stands on the chain of its number's remainder.
+use Rattle.base.specs.{ℕ, _+_, _-_, _*_, _%_, _≤_, _<_, _≡_, List, length, getD}
 
 -- of the eight numbers of driver i: how many nets it uses, the number of net j of these, and that of its own net
 abbrev pub pinsAt : List ℕ → ℕ → ℕ

@@ -1,10 +1,5 @@
--- What stands at each pin of a netlist: below 12 the place of an input, from 12 on that of a driver. Assumes nothing.
-use Prim.Native.Nat.{ℕ, _+_, _-_, _*_, _≤_, _<_}
-use mathlib.Core.Path.{_≡_}
-use mathlib.Core.Logic.{_⊎_}
-use mathlib.Core.Bool.{Bool, true, false}
-use mathlib.Core.List.{List}
-use lib.ListN.{length, getD, replicate}
+-- What stands at each pin of a netlist: below 12 the place of an input, from 12 on that of a driver.
+use Rattle.base.specs.{ℕ, _+_, _-_, _*_, _≤_, _<_, _≡_, _⊎_, Bool, true, false, List, length, getD, replicate}
 use Rattle.check_wires.specs.Chains.{pinsAt, useAt, ownAt}
 use Rattle.check_wires.specs.Refs.{refusedAt, refsLeft}
 

@@ -1,9 +1,5 @@
--- The numbers at the pins computed: what drives the net of a number, the first driver that a part of 33 refuses, and what is left in the array. Assumes nothing.
-use Prim.Native.Nat.{ℕ, zero, suc, _+_, _*_, _/_, _%_}
-use mathlib.Core.Bool.{Bool, cond}
-use mathlib.Core.List.{List, [], _∷_}
-use lib.Dec.{eqb, ltb}
-use lib.ListN.{length, getD, replicate}
+-- The numbers at the pins computed: what drives the net of a number, the first driver that a part of 33 refuses, and what is left in the array.
+use Rattle.base.specs.{ℕ, zero, suc, _+_, _*_, _/_, _%_, Bool, cond, List, [], _∷_, eqb, ltb, length, getD, replicate}
 use Rattle.check_wires.specs.Chains.{pinsAt, useAt, ownAt}
 
 -- the first of k numbers from i on at which a test holds, the number behind them where there is none

@@ -1,11 +1,10 @@
-// What drives each net of an edited netlist: the first two parts of 33, and a number for what stands at each pin. A driver is eight numbers, as `check_reader`
-// stores them. Names are numbers already, so a net is found by the remainder of its number: the drivers of one remainder are a chain.
+// What drives each net of an edited netlist: the first two parts of 33, and a number for what stands at each pin. A driver is eight numbers, as
+// `check_reader` stores them. Names are numbers already, so a net is found by the remainder of its number: the drivers of one remainder are a
+// chain.
 use check_reader::DRIVERS;
-ghost use mathlib.Core.Path.{_≡_};
-ghost use Prim.Native.Nat.{_+_, _*_, _%_, _≤_, _<_};
-ghost use lib.ListN.{length, getD, set};
-ghost use Rattle.check_wires.specs.Chains.{Falling, ownAt, headOf, Chained, Found, InputOf};
-ghost use Rattle.check_wires.specs.Pins.{Drivers, Looked, PinLooked, RowLooked, Once, Written, Referred};
+ghost use Rattle.base.specs.{_≡_, _+_, _*_, _%_, _≤_, _<_, length, getD, set};
+ghost use Rattle.check_wires.specs.{Falling, ownAt, headOf, Chained, Found, InputOf, Drivers, Looked, PinLooked, RowLooked, Once};
+ghost use Rattle.check_wires.specs.{Written, Referred};
 
 // Four for each driver.
 pub const PINS: usize = 43692;

@@ -1,13 +1,7 @@
--- 1,036,288 words are enough: 124 * 4096 + 4096 for the graph, and 8 for each byte of the netlist. Assumes nothing.
-use Prim.Native.Nat.{ℕ, suc, _≤_}
-use native.Mathlib.Omega.{arith}
-use mathlib.Core.Bool.{Bool, true, false, cond}
-use mathlib.Core.List.{List, [], _∷_}
-use lib.Dec.{eqb}
-use lib.ListN.{length}
-use Rattle.model.specs.Limits.{need}
-use Rattle.model.specs.Check.{lineEnds}
-use Rattle.theory_text.proofs.ReadGraph.{header-fits}
+-- 1,036,288 words are enough: 124 * 4096 + 4096 for the graph, and 8 for each byte of the netlist.
+use Rattle.base.specs.{ℕ, suc, _≤_, arith, Bool, true, false, cond, List, [], _∷_, eqb, length}
+use Rattle.model.specs.{need, lineEnds}
+use Rattle.theory_text.proofs.{header-fits}
 use Rattle.checker.specs.Enough.{Enough}
 
 ends-within : (s : List ℕ) → lineEnds s ≤ length s

@@ -1,8 +1,8 @@
-// The program: `netlist.blif` of the current folder checked against `graph.aag` with the cells of `cells.txt`; `accepted`, `differs` with the setting and the
-// output, or one line of `refused`, number and place printed.
+// The program: `netlist.blif` of the current folder checked against `graph.aag` with the cells of `cells.txt`; `accepted`, `differs` with the
+// setting and the output, or one line of `refused`, number and place printed.
 use model::Checked;
 use program_files::Loaded;
-ghost use lib.ListN.{length};
+ghost use Rattle.base.specs.{length};
 ghost use Rattle.checker.specs.Enough.{Enough};
 
 fn show(c: Checked) {

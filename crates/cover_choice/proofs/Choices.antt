@@ -3,45 +3,28 @@
 --     direct-held         a phase without inverters
 --     up-held             after each turn the words have what is known
 --     choose-law          the chosen phases
--- Assumes nothing.
-use Prim.Native.Nat.{ℕ, zero, suc, _+_, _*_, _/_, _≤_, _<_}
-use native.Mathlib.Omega.{arith}
-use mathlib.Core.Path.{_≡_, refl, sym, ap, subst, _∙_}
-use mathlib.Core.Bool.{Bool, true, false, cond}
-use mathlib.Core.List.{List, [], _∷_, _++_, map, List·Memᴰ}
-use mathlib.Core.Logic.{inl}
-use lib.Dec.{eqb, ltb}
-use lib.ListN.{length, take, drop, getD, List·getD-eq-default}
-use lib.Seq.{take-suc, take-length, drop-cons, drop-length}
-use borrow.Author.Tests.{eqb-true, eqb-false, ltb-true, ltb-false}
-use Rattle.model.specs.Base.{any, same, find, run}
-use Rattle.model.specs.Table.{orders}
-use Rattle.model.specs.Cells.{cellAt}
-use Rattle.model.specs.Graph.{Graph, Node, constant, input, undefined, both, node, placingOrder, varOf, negated}
-use Rattle.model.specs.Cuts.{cutsOf, cutTable}
-use Rattle.model.specs.Matching.{phaseTable, matchNets}
-use Rattle.model.specs.Choice.{Phases, noPhase, noPhases, phaseOf, latest, absent, choose, matchPhase, cutMatches, cutPhases, matchPhases, direct, joined, choices, chosen}
+use Rattle.base.specs.{ℕ, zero, suc, _+_, _*_, _/_, _≤_, _<_, arith, _≡_, refl, sym, ap, subst, _∙_, Bool, true, false, cond, List, [], _∷_}
+use Rattle.base.specs.{_++_, map, List·Memᴰ, inl, eqb, ltb, length, take, drop, getD, List·getD-eq-default, take-suc, take-length}
+use Rattle.base.specs.{drop-cons, drop-length, eqb-true, eqb-false, ltb-true, ltb-false}
+use Rattle.model.specs.{any, same, find, run, orders, cellAt, Node, constant, input, undefined, both, node, placingOrder, varOf, negated}
+use Rattle.model.specs.{cutsOf, cutTable, phaseTable, matchNets, Phases, noPhase, noPhases, phaseOf, latest, absent, choose, matchPhase}
+use Rattle.model.specs.{cutMatches, cutPhases, matchPhases, direct, joined, choices, chosen}
+use Rattle.model.specs.Graph.{Graph}
 use Rattle.model.specs.declared.Cell.{Cell}
 use Rattle.model.specs.declared.Header.{Header}
 use Rattle.model.specs.declared.Match.{Match}
 use Rattle.model.specs.declared.Phase.{Phase}
 use Rattle.model.specs.declared.Source.the-variants.{Input, Cell as Matched}
-use Rattle.theory_graph.proofs.Lists.{map-same, getD-in}
-use Rattle.theory_graph.proofs.Placing.{order-small}
-use Rattle.theory_graph.proofs.Runs.{run-split}
-use Rattle.theory_cover.proofs.Turns.{phaseStep}
-use Rattle.base_words.specs.Layout.{placedOf, positiveAddr, negativeAddr, listsFrom}
-use Rattle.base_words.specs.Record.{leavesAt, functionOf}
-use Rattle.base_words.specs.Phases.{phaseIn, phasesAt}
-use Rattle.base_words.specs.Holding.{HoldsPhases}
-use Rattle.base_words.proofs.Chosen.{phase-none}
-use Rattle.base_words.proofs.Stored.{held-count, held-cut}
-use Rattle.cells_matching.specs.Sheet.{SheetOf}
-use Rattle.cells_matching.specs.Variants.{Matchable}
-use Rattle.cover_choice.specs.Choosing.{foundOn, foundAt, foundFrom, bestAt, ownPhase, directOf, directAt, chosenTurn, chosenUp, Early, Unchosen}
+use Rattle.theory_graph.proofs.{map-same, getD-in, order-small, run-split}
+use Rattle.theory_cover.proofs.{phaseStep}
+use Rattle.base_words.specs.{placedOf, positiveAddr, negativeAddr, listsFrom, leavesAt, functionOf, phaseIn, phasesAt, HoldsPhases}
+use Rattle.base_words.proofs.{phase-none, held-count, held-cut}
+use Rattle.cells_matching.specs.{SheetOf, Matchable}
+use Rattle.cover_choice.specs.{foundOn, foundAt, foundFrom, bestAt, ownPhase, directOf, directAt, chosenTurn, chosenUp, Early}
+use Rattle.cover_choice.specs.{Unchosen, HeaderOf}
 use Rattle.cover_choice.proofs.Keeping.{PhasesKept, graph-kept, order-kept, cuts-kept}
 use Rattle.cover_choice.proofs.Marks.{nets-in}
-use Rattle.cover_choice.specs.Held.{HeaderOf, Held}
+use Rattle.cover_choice.specs.Held.{Held}
 use Rattle.cover_choice.proofs.Held.{placed-is, leaf-small, slots-in, cuts-in, late-in}
 use Rattle.cover_choice.proofs.Needing.{Covered}
 use Rattle.cover_choice.proofs.Turning.{turn-here, turn-other, up-after}

@@ -1,27 +1,15 @@
 -- How many variables are placed, and how many cuts one has:
 --     few-placed, all-placed      at most all variables, and all that are defined
 --     few-cuts, count-few         at most as many as the limit
--- Assumes nothing.
-use Prim.Native.Nat.{ℕ, zero, suc, _+_, _≤_}
-use native.Mathlib.Omega.{arith}
-use mathlib.Core.Path.{_≡_, refl, sym, ap, subst}
-use mathlib.Core.Bool.{Bool, true, false}
-use mathlib.Core.List.{List, [], _∷_, _++_, List·Memᴰ, List·Memᴰ·not-nil}
-use lib.Dec.{T, ltb}
-use lib.ListN.{length, length-append, length-map}
-use borrow.Author.Tests.{ltb-false}
-use Rattle.model.specs.Limits.{cutLimit}
-use Rattle.model.specs.Base.{below, from}
-use Rattle.model.specs.Graph.{And, Graph, placingOrder, span, andVars}
-use Rattle.model.specs.Cuts.{cutsOf, crowded}
-use Rattle.base_words.specs.Layout.{countAt}
-use Rattle.base_words.specs.Holding.{HoldsCuts}
-use Rattle.base_words.proofs.Stored.{held-count}
-use Rattle.theory_graph.proofs.Lists.{below-in, keep-in}
+use Rattle.base.specs.{ℕ, zero, suc, _+_, _≤_, arith, _≡_, refl, sym, ap, subst, Bool, true, false, List, [], _∷_, _++_, List·Memᴰ}
+use Rattle.base.specs.{List·Memᴰ·not-nil, T, ltb, length, length-append, length-map, ltb-false}
+use Rattle.model.specs.{cutLimit, below, from, And, placingOrder, andVars, cutsOf, crowded}
+use Rattle.model.specs.Graph.{Graph, span}
+use Rattle.theory_graph.proofs.{below-in, keep-in, order-once, order-small, defined-placed, length-order, cuts-none}
 use Rattle.theory_graph.specs.Accepted.{Accepted}
-use Rattle.theory_graph.proofs.Placing.{order-once, order-small, defined-placed}
-use Rattle.theory_graph.proofs.CutFacts.{length-order, cuts-none}
-use Rattle.theory_order.proofs.Splits.{no-more, by-elem, distinct-yes}
+use Rattle.theory_order.proofs.{no-more, by-elem, distinct-yes}
+use Rattle.base_words.specs.{countAt, HoldsCuts}
+use Rattle.base_words.proofs.{held-count}
 
 length-from : (i n : ℕ) → length (from i n) ≡ n
 unfolding from

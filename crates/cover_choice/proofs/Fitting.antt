@@ -2,36 +2,21 @@
 --     found-fit           what the matches give
 --     direct-fit          a phase without inverters: at most one delay more
 --     joined-fit          a phase: at most two delays more
--- Assumes nothing.
-use Prim.Native.Nat.{ℕ, zero, suc, _+_, _/_, _^_, _≤_, _<_}
-use native.Mathlib.Nat.{max-le}
-use native.Mathlib.Omega.{arith}
-use mathlib.Core.Path.{_≡_, refl, sym, ap, subst, _∙_}
-use mathlib.Core.Bool.{Bool, true, false, cond, _&&_}
-use mathlib.Core.List.{List, [], _∷_, map, List·Memᴰ, List·Memᴰ·head, List·Memᴰ·tail, List·Memᴰ·not-nil, List·Memᴰ·append-cases}
-use mathlib.Core.Logic.{⊎-elim}
-use lib.Dec.{T, ltb, ltb→lt}
-use lib.ListN.{length, getD, List·getD-eq-default}
-use borrow.Author.Tests.{ltb-true, ltb-false}
-use Rattle.model.specs.Limits.{cutLimit}
-use Rattle.model.specs.Base.{any, same}
-use Rattle.model.specs.Table.{orders}
-use Rattle.model.specs.Cells.{noCell, cellAt}
-use Rattle.model.specs.Graph.{Node, constant, input, undefined, both}
-use Rattle.model.specs.Matching.{phaseTable, placesFit, rowsAgree, fits, matchNets}
-use Rattle.model.specs.Choice.{phaseOf, noPhase, latest, absent, earlier, choose, matchPhase, cutMatches, inverterPhases}
+use Rattle.base.specs.{ℕ, zero, suc, _+_, _/_, _^_, _≤_, _<_, max-le, arith, _≡_, refl, sym, ap, subst, _∙_, Bool, true, false, cond, _&&_}
+use Rattle.base.specs.{List, [], _∷_, map, List·Memᴰ, List·Memᴰ·head, List·Memᴰ·tail, List·Memᴰ·not-nil, List·Memᴰ·append-cases, ⊎-elim, T}
+use Rattle.base.specs.{ltb, ltb→lt, length, getD, List·getD-eq-default, ltb-true, ltb-false}
+use Rattle.model.specs.{cutLimit, any, same, orders, noCell, cellAt, Node, constant, input, undefined, both, phaseTable, placesFit}
+use Rattle.model.specs.{rowsAgree, fits, matchNets, phaseOf, noPhase, latest, absent, earlier, choose, matchPhase, cutMatches}
+use Rattle.model.specs.{inverterPhases}
 use Rattle.model.specs.declared.Cell.{Cell}
 use Rattle.model.specs.declared.Match.{Match}
 use Rattle.model.specs.declared.Phase.{Phase}
 use Rattle.model.specs.declared.Source.the-variants.{Input, Cell as Matched}
-use Rattle.theory_graph.proofs.Lists.{map-out}
-use Rattle.theory_cover.proofs.Matches.{cutMatches-out, inverter-out}
-use Rattle.base_words.specs.Layout.{countAt, lateAt}
-use Rattle.base_words.specs.Record.{nodeAt, leavesAt, functionOf}
-use Rattle.base_words.specs.Phases.{MatchFits, PhaseFits, phasesAt, phaseAt}
-use Rattle.cells_matching.specs.Variants.{Matchable}
-use Rattle.cover_choice.specs.Asked.{CutsIn, LateIn}
-use Rattle.cover_choice.specs.Choosing.{foundOn, foundAt, foundFrom, bestAt, ownPhase, directOf, directAt, Early}
+use Rattle.theory_graph.proofs.{map-out}
+use Rattle.theory_cover.proofs.{cutMatches-out, inverter-out}
+use Rattle.base_words.specs.{countAt, lateAt, nodeAt, leavesAt, functionOf, MatchFits, PhaseFits, phasesAt, phaseAt}
+use Rattle.cells_matching.specs.{Matchable}
+use Rattle.cover_choice.specs.{CutsIn, LateIn, foundOn, foundAt, foundFrom, bestAt, ownPhase, directOf, directAt, Early}
 use Rattle.cover_choice.proofs.Marks.{nets-in}
 
 -- a phase has room in the words and comes at t at the latest

@@ -3,31 +3,16 @@
 --     on-best, on-none            the best of the chain of its function, or none where the chain is empty
 --     at-alone, at-cut            nothing on the variable alone
 --     from-more, from-none        one cut more, from the first to the last
--- Assumes nothing.
-use Prim.Native.Nat.{ℕ, zero, suc, _+_, _≤_, _<_}
-use native.Mathlib.Nat.{add-zero, zero-add, add-suc, suc-add}
-use native.Mathlib.Numerals.{add-one}
-use native.Mathlib.Omega.{arith}
-use mathlib.Core.Path.{_≡_, refl, sym, ap, _∙_}
-use mathlib.Core.Bool.{Bool, true, false, cond}
-use mathlib.Core.List.{List, [], _∷_, _++_, append-nil, append-assoc}
-use lib.ListN.{length, getD, length-take}
-use Rattle.model.specs.Base.{same}
-use Rattle.model.specs.Matching.{phaseTable}
-use Rattle.model.specs.Choice.{noPhase, choose, earlier}
+use Rattle.base.specs.{ℕ, zero, suc, _+_, _≤_, _<_, add-zero, zero-add, add-suc, suc-add, add-one, arith, _≡_, refl, sym, ap, _∙_, Bool}
+use Rattle.base.specs.{true, false, cond, List, [], _∷_, _++_, append-nil, append-assoc, length, getD, length-take}
+use Rattle.model.specs.{same, phaseTable, noPhase, choose, earlier}
 use Rattle.model.specs.declared.Cell.{Cell}
 use Rattle.model.specs.declared.Phase.{Phase}
-use Rattle.base_words.specs.Layout.{countAt}
-use Rattle.base_words.specs.Record.{cutOf, leavesAt, functionOf}
-use Rattle.base_words.proofs.Stored.{four-leaves}
-use Rattle.base_words.specs.Phases.{phasesAt}
-use Rattle.cells_matching.specs.Sheet.{SheetOf, isListed}
-use Rattle.cells_matching.specs.Best.{lastTime, unmatched, bestOf, phaseAs}
-use Rattle.cells_matching.proofs.Choosing.{choose-append}
-use Rattle.cells_matching.proofs.Arriving.{phase-late}
-use Rattle.cells_matching.proofs.Walking.{walking-none}
-use Rattle.cells_matching.proofs.Matching.{best-match-chosen}
-use Rattle.cover_choice.specs.Choosing.{timesAt, foundOn, foundAt, foundFrom, bestAt, Early}
+use Rattle.base_words.specs.{countAt, cutOf, leavesAt, functionOf, phasesAt}
+use Rattle.base_words.proofs.{four-leaves}
+use Rattle.cells_matching.specs.{SheetOf, isListed, lastTime, unmatched, bestOf, phaseAs}
+use Rattle.cells_matching.proofs.{choose-append, phase-late, walking-none, best-match-chosen}
+use Rattle.cover_choice.specs.{timesAt, foundOn, foundAt, foundFrom, bestAt, Early}
 use Rattle.cover_choice.proofs.Leaves.{times-of, times-quick}
 
 pub few-leaves : (w : List ℕ) (m v k : ℕ) → length (leavesAt w m v k) ≤ 4

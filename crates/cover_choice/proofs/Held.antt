@@ -1,40 +1,25 @@
 -- What the passes before have left gives what is asked of the words:
 --     slots-in, outputs-in, cuts-in, late-in      from the graph, its placing order and its cuts
 --     matches-in                          from the chosen phases
--- Assumes nothing.
-use Prim.Native.Nat.{ℕ, _/_, _≤_, _<_}
-use native.Mathlib.Omega.{arith}
-use mathlib.Core.Path.{_≡_, sym, ap, subst, _∙_}
-use mathlib.Core.List.{List, [], _∷_, List·Memᴰ, List·Memᴰ·tail, Memᴰ·append-left}
-use lib.Dec.{T}
-use lib.ListN.{length, getD}
-use Rattle.model.specs.Base.{each}
-use Rattle.model.specs.Cells.{cellAt}
-use Rattle.model.specs.Graph.{And, Graph, varOf, negated, placingOrder}
-use Rattle.model.specs.Cuts.{cutsOf, cutTable, cutAt as listedAt}
-use Rattle.model.specs.Matching.{phaseTable}
-use Rattle.model.specs.Table.{orders}
-use Rattle.model.specs.Cover.{IsMatch}
+use Rattle.base.specs.{ℕ, _/_, _≤_, _<_, arith, _≡_, sym, ap, subst, _∙_, List, [], _∷_, List·Memᴰ, List·Memᴰ·tail, Memᴰ·append-left, T}
+use Rattle.base.specs.{length, getD}
+use Rattle.model.specs.{each, cellAt, And, varOf, negated, placingOrder, cutsOf, cutTable, cutAt as listedAt, phaseTable, orders, IsMatch}
+use Rattle.model.specs.Graph.{Graph}
 use Rattle.model.specs.declared.Cell.{Cell}
 use Rattle.model.specs.declared.Header.{Header}
 use Rattle.model.specs.declared.Match.{Match}
 use Rattle.model.specs.declared.Phase.{Phase}
-use Rattle.base_words.specs.Layout.{placedOf, Room, countAt}
-use Rattle.base_words.specs.Record.{leavesAt}
-use Rattle.base_words.specs.Holding.{HoldsPhases}
-use Rattle.base_words.proofs.Columns.{room-need}
-use Rattle.base_words.proofs.Stored.{held-count, held-cut}
-use Rattle.base_truth.specs.Variant.{placesOf, placesBelow}
-use Rattle.base_truth.proofs.Variants.{places-fit}
-use Rattle.theory_graph.proofs.Lists.{getD-in}
+use Rattle.theory_graph.proofs.{getD-in, order-once, order-small, defined-placed}
 use Rattle.theory_graph.specs.Accepted.{Accepted}
-use Rattle.theory_graph.proofs.Placing.{order-once, order-small, defined-placed}
-use Rattle.theory_order.proofs.Recursion.{cuts-exactly, cut-leaf}
-use Rattle.theory_cover.proofs.Matches.{fits-places}
-use Rattle.theory_cover.proofs.Sound.{is-match}
-use Rattle.cover_choice.specs.Held.{HeaderOf, Held}
-use Rattle.cells_matching.specs.Variants.{Matchable}
-use Rattle.cover_choice.specs.Asked.{OutputsIn, SlotsIn, CutsIn, LateIn, MatchIn, MatchesIn}
+use Rattle.theory_order.proofs.{cuts-exactly, cut-leaf}
+use Rattle.theory_cover.proofs.{fits-places, is-match}
+use Rattle.base_words.specs.{placedOf, Room, countAt, leavesAt, HoldsPhases}
+use Rattle.base_words.proofs.{room-need, held-count, held-cut}
+use Rattle.base_truth.specs.{placesOf, placesBelow}
+use Rattle.base_truth.proofs.{places-fit}
+use Rattle.cells_matching.specs.{Matchable}
+use Rattle.cover_choice.specs.{HeaderOf, OutputsIn, SlotsIn, CutsIn, LateIn, MatchIn, MatchesIn}
+use Rattle.cover_choice.specs.Held.{Held}
 use Rattle.cover_choice.proofs.Counting.{few-placed, all-placed, few-cuts}
 
 module _ (h : Header) (g : Graph) (e : HeaderOf h g) (ok : Accepted g) where

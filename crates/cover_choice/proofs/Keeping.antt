@@ -2,33 +2,19 @@
 --     kept-same, kept-on, kept-put    nothing written, two passes, one store
 --     room-kept .. phase-kept         a word or a record elsewhere
 --     graph-kept, order-kept, cuts-kept, phases-kept      what the words hold
--- Assumes nothing.
-use Prim.Native.Nat.{ℕ, _+_, _*_, _/_, _≤_, _<_}
-use native.Mathlib.Omega.{arith}
-use mathlib.Core.Path.{_≡_, refl, sym, ap, subst, _∙_}
-use mathlib.Core.Bool.{cond}
-use mathlib.Core.List.{List, [], _∷_}
-use mathlib.Core.Logic.{_⊎_, inl, inr}
-use lib.ListN.{length, getD}
-use Rattle.model.specs.Limits.{cutLimit}
-use Rattle.model.specs.Graph.{Graph, varOf, negated, placingOrder}
-use Rattle.model.specs.Cuts.{crowded}
-use Rattle.model.specs.Choice.{Phases, phaseOf}
+use Rattle.base.specs.{ℕ, _+_, _*_, _/_, _≤_, _<_, arith, _≡_, refl, sym, ap, subst, _∙_, cond, List, [], _∷_, _⊎_, inl, inr, length, getD}
+use Rattle.model.specs.{cutLimit, varOf, negated, placingOrder, crowded, Phases, phaseOf}
+use Rattle.model.specs.Graph.{Graph}
 use Rattle.model.specs.declared.Cell.{Cell}
 use Rattle.model.specs.declared.Phase.{Phase}
-use Rattle.base_words.specs.Put.{putAt}
-use Rattle.base_words.specs.Layout.{Room, RoomFor, kindAt, leftAt, rightAt, slotAt, placeAt, countAt, lateAt, outputAt, neededAddr, lateAddr, positiveAddr, negativeAddr, countsTo, listsFrom}
-use Rattle.base_words.specs.Record.{leavesOf, leavesAt, functionOf, nodeOf, nodeAt, cutsAt}
-use Rattle.base_words.specs.Phases.{sourceOf, phaseIn, phasesAt, phaseAt, putNeeded}
-use Rattle.base_words.specs.Holding.{HoldsGraph, HoldsOrder, HoldsCuts, HoldsPhases}
-use Rattle.base_words.proofs.Putting.{length-put, get-put-below, get-put-above}
-use Rattle.base_words.proofs.Stored.{cut-same, cuts-same}
-use Rattle.base_words.proofs.Tabled.{function-same}
 use Rattle.theory_graph.specs.Accepted.{Accepted}
-use Rattle.theory_graph.proofs.Lists.{getD-in}
-use Rattle.theory_graph.proofs.Placing.{order-small}
+use Rattle.theory_graph.proofs.{getD-in, order-small}
+use Rattle.base_words.specs.{putAt, Room, RoomFor, kindAt, leftAt, rightAt, slotAt, placeAt, countAt, lateAt, outputAt, neededAddr}
+use Rattle.base_words.specs.{lateAddr, positiveAddr, negativeAddr, countsTo, listsFrom, leavesOf, leavesAt, functionOf, nodeOf, nodeAt}
+use Rattle.base_words.specs.{cutsAt, sourceOf, phaseIn, phasesAt, phaseAt, putNeeded, HoldsGraph, HoldsOrder, HoldsCuts, HoldsPhases}
+use Rattle.base_words.proofs.{length-put, get-put-below, get-put-above, cut-same, cuts-same, function-same}
 use Rattle.cover_choice.proofs.Counting.{few-placed, few-cuts, count-few}
-use Rattle.cover_choice.specs.Asked.{OutputsIn, SlotsIn, CutsIn, LateIn, MatchesIn}
+use Rattle.cover_choice.specs.{OutputsIn, SlotsIn, CutsIn, LateIn, MatchesIn}
 
 -- all words before a and from b on are as before, and so is their number
 pub record Kept (a b : ℕ) (v w : List ℕ) : Type 0 where

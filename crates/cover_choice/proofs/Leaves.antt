@@ -2,25 +2,14 @@
 --     size-few, size-four, alone-one, alone-not       by the word of its size
 --     leaf-there, leaf-past                           the arrival of a leaf
 --     times-of, times-timely                          those of all are what matching asks for
--- Assumes nothing.
-use Prim.Native.Nat.{ℕ, zero, suc, _+_, _*_, _≤_, _<_}
-use native.Mathlib.Omega.{arith}
-use mathlib.Core.Path.{_≡_, refl, sym, ap, _∙_}
-use mathlib.Core.Bool.{Bool, true, false, cond, _&&_}
-use mathlib.Core.List.{List, [], _∷_}
-use lib.Dec.{eqb, ltb}
-use lib.ListN.{length, take, getD, length-take}
-use lib.Seq.{getD-take}
-use borrow.Author.Tests.{eqb-true, eqb-false, ltb-true, lt-ltb, le-ltb}
-use Rattle.model.specs.Base.{same}
-use Rattle.model.specs.Graph.{literal}
-use Rattle.model.specs.Choice.{absent}
+use Rattle.base.specs.{ℕ, zero, suc, _+_, _*_, _≤_, _<_, arith, _≡_, refl, sym, ap, _∙_, Bool, true, false, cond, _&&_, List, [], _∷_, eqb}
+use Rattle.base.specs.{ltb, length, take, getD, length-take, getD-take, eqb-true, eqb-false, ltb-true, lt-ltb, le-ltb}
+use Rattle.model.specs.{same, literal, absent}
 use Rattle.model.specs.declared.Cut.{Cut}
 use Rattle.model.specs.declared.Phase.{Phase}
-use Rattle.base_words.specs.Record.{leavesOf}
-use Rattle.base_words.specs.Phases.{phasesAt, phaseAt}
-use Rattle.cells_matching.specs.Best.{never, lastTime, timeOf, Timely, TimesOf, Quick}
-use Rattle.cover_choice.specs.Choosing.{leafTime, timesAt, Early}
+use Rattle.base_words.specs.{leavesOf, phasesAt, phaseAt}
+use Rattle.cells_matching.specs.{never, lastTime, timeOf, Timely, TimesOf, Quick}
+use Rattle.cover_choice.specs.{leafTime, timesAt, Early}
 
 pub size-few : (c : Cut) → length (c .leaves) ≡ 4 → c .count < 4 → c .count ≡ length (leavesOf c)
 size-few c e h = omega (arith, length-take (c .count) (c .leaves))

@@ -14,3 +14,11 @@ pub mod Fitting
 pub mod Turning
 pub mod Choices
 pub mod Lending
+pub use Counting.{all-placed, few-cuts, few-placed}
+pub use Keeping.{Kept, NeedsKept, cuts-kept, graph-kept, kept-on, kept-same, order-kept, phases-kept}
+pub use Marks.{match-nets, match-pins, needs-matches, needs-slots}
+pub use Held.{output-small, placed-is}
+pub use Needing.{Covered, MarkedFrom, mark-asked, mark-law}
+pub use Missed.{uncovered-asked, uncovered-law}
+pub use Turning.{up-after}
+pub use Choices.{ChosenFrom, choose-asked, choose-law, unchosen}

@@ -2,40 +2,28 @@
 --     match-pins, match-nets      the pins of a match that the words have, and the nets that feed them
 --     feeds-matched, feeds-in     what feeds a phase is of the graph
 --     once-kept .. down-kept      only words of the needed phases are written
--- Assumes nothing.
-use Prim.Native.Nat.{ℕ, zero, suc, _+_, _*_, _/_, _≤_, _<_}
-use native.Mathlib.Omega.{arith}
-use mathlib.Core.Path.{_≡_, refl, ap, subst, _∙_}
-use mathlib.Core.Bool.{Bool, true, false, cond}
-use mathlib.Core.List.{List, [], _∷_, List·Memᴰ, List·Memᴰ·head, List·Memᴰ·tail, List·Memᴰ·not-nil, List·Memᴰ·eq-of-singleton}
-use lib.ListN.{length, getD, length-take}
-use lib.Seq.{getD-take}
-use Rattle.model.specs.Base.{bit}
-use Rattle.model.specs.Cells.{cellAt}
-use Rattle.model.specs.Graph.{literal, varOf, opposite}
-use Rattle.model.specs.Cuts.{cutAt as listedAt}
-use Rattle.model.specs.Matching.{fedNets, matchNets}
-use Rattle.model.specs.Choice.{Phases, phaseOf, feeds}
-use Rattle.model.specs.Netlist.{isInverted, backwards}
+use Rattle.base.specs.{ℕ, zero, suc, _+_, _*_, _/_, _≤_, _<_, arith, _≡_, refl, ap, subst, _∙_, Bool, true, false, cond, List, [], _∷_}
+use Rattle.base.specs.{List·Memᴰ, List·Memᴰ·head, List·Memᴰ·tail, List·Memᴰ·not-nil, List·Memᴰ·eq-of-singleton, length, getD, length-take}
+use Rattle.base.specs.{getD-take}
+use Rattle.model.specs.{bit, cellAt, literal, varOf, opposite, cutAt as listedAt, fedNets, matchNets, Phases, phaseOf, feeds, isInverted}
+use Rattle.model.specs.{backwards}
 use Rattle.model.specs.declared.Cell.{Cell}
 use Rattle.model.specs.declared.Cut.{Cut}
 use Rattle.model.specs.declared.Match.{Match}
 use Rattle.model.specs.declared.Phase.{Phase}
 use Rattle.model.specs.declared.Source.{Source}
 use Rattle.model.specs.declared.Source.the-variants.{Input, Cell as Matched, Inverter as Inverted, Nothing}
-use Rattle.theory_graph.proofs.Literals.{lit-var, lit-neg, opposite-var}
-use Rattle.base_truth.specs.Variant.{placesOf}
-use Rattle.base_truth.proofs.Variants.{places-four}
-use Rattle.base_words.specs.Layout.{Room, neededAddr, slotAt, outputAt}
-use Rattle.base_words.specs.Record.{cutOf, leavesOf, leavesAt, cutsAt}
-use Rattle.base_words.specs.Phases.{putNeeded, phasesAt, phaseAt, positiveAt, isNeeded}
-use Rattle.base_words.proofs.Columns.{room-need}
-use Rattle.base_words.proofs.Stored.{cut-listed}
-use Rattle.cells_matching.specs.Variants.{Matchable}
-use Rattle.cover_choice.specs.Asked.{PinsIn, OutputsIn, SlotsIn, CutsIn, MatchIn, MatchesIn}
-use Rattle.cover_choice.specs.Marking.{putAll, putOutputs, feedsAt, fedOnce, fedAll, fedTurn, fedDown}
-use Rattle.base_truth.proofs.Nets.{place-below, nets-taken}
-use Rattle.cover_choice.proofs.Keeping.{NeedsKept, kept-same, kept-on, need-kept, room-kept, outputs-in-kept, slots-in-kept, matches-in-kept}
+use Rattle.theory_graph.proofs.{lit-var, lit-neg, opposite-var}
+use Rattle.base_words.specs.{Room, neededAddr, slotAt, outputAt, cutOf, leavesOf, leavesAt, cutsAt, putNeeded, phasesAt, phaseAt}
+use Rattle.base_words.specs.{positiveAt, isNeeded}
+use Rattle.base_words.proofs.{room-need, cut-listed}
+use Rattle.base_truth.specs.{placesOf}
+use Rattle.base_truth.proofs.{places-four, place-below, nets-taken}
+use Rattle.cells_matching.specs.{Matchable}
+use Rattle.cover_choice.specs.{PinsIn, OutputsIn, SlotsIn, CutsIn, MatchIn, MatchesIn, putAll, putOutputs, feedsAt, fedOnce, fedAll}
+use Rattle.cover_choice.specs.{fedTurn, fedDown}
+use Rattle.cover_choice.proofs.Keeping.{NeedsKept, kept-same, kept-on, need-kept, room-kept, outputs-in-kept, slots-in-kept}
+use Rattle.cover_choice.proofs.Keeping.{matches-in-kept}
 
 -- ---- one mark
 

@@ -1,26 +1,15 @@
--- The law of `missing`: it is the verdict of the cover. Assumes nothing.
-use Prim.Native.Nat.{ℕ, zero, suc, _+_, _/_, _≤_, _<_}
-use native.Mathlib.Omega.{arith}
-use mathlib.Core.Path.{_≡_, refl, sym, ap, _∙_}
-use mathlib.Core.Bool.{cond}
-use mathlib.Core.List.{List, [], _∷_, List·Memᴰ, List·Memᴰ·head, List·Memᴰ·tail}
-use lib.ListN.{length, drop, getD}
-use lib.Seq.{drop-cons, drop-length}
-use Rattle.model.specs.Base.{from}
-use Rattle.model.specs.Reading.{refusedAt, firstOf}
+-- The law of `missing`: it is the verdict of the cover.
+use Rattle.base.specs.{ℕ, zero, suc, _+_, _/_, _≤_, _<_, arith, _≡_, refl, sym, ap, _∙_, cond, List, [], _∷_, List·Memᴰ, List·Memᴰ·head}
+use Rattle.base.specs.{List·Memᴰ·tail, length, drop, getD, drop-cons, drop-length}
+use Rattle.model.specs.{from, refusedAt, firstOf, absent, chosen, uncovered, coverVerdict}
 use Rattle.model.specs.Graph.{Graph}
-use Rattle.model.specs.Choice.{absent, chosen}
-use Rattle.model.specs.Netlist.{uncovered, coverVerdict}
 use Rattle.model.specs.declared.Cell.{Cell}
 use Rattle.model.specs.declared.Header.{Header}
 use Rattle.model.specs.declared.Phase.{Phase}
-use Rattle.base_words.specs.Layout.{outputAt}
-use Rattle.base_words.specs.Phases.{phaseAt}
-use Rattle.base_words.specs.Holding.{HoldsGraph, HoldsPhases}
 use Rattle.theory_graph.specs.Accepted.{Accepted}
-use Rattle.cover_choice.specs.Asked.{OutputsIn}
-use Rattle.cover_choice.specs.Missing.{outputsFrom, missingFrom, missing}
-use Rattle.cover_choice.specs.Held.{HeaderOf, Held}
+use Rattle.base_words.specs.{outputAt, phaseAt, HoldsGraph, HoldsPhases}
+use Rattle.cover_choice.specs.{OutputsIn, outputsFrom, missingFrom, missing, HeaderOf}
+use Rattle.cover_choice.specs.Held.{Held}
 use Rattle.cover_choice.proofs.Held.{output-small, outputs-in}
 
 uncovered-same : (p q : ℕ → Phase) (k : ℕ) (ls : List ℕ) → ((l : ℕ) → List·Memᴰ l ls → p l ≡ q l) → uncovered p k ls ≡ uncovered q k ls

@@ -1,41 +1,26 @@
 -- The law of `marked`: what it leaves is what `needed` says.
 --     marks-put, marks-all        a mark more, and several
 --     marked-needed               the needed phases
--- Assumes nothing.
-use Prim.Native.Nat.{ℕ, zero, suc, _+_, _*_, _/_, _≤_, _<_}
-use native.Mathlib.Omega.{arith}
-use mathlib.Core.Path.{_≡_, refl, sym, ap, subst, _∙_}
-use mathlib.Core.Bool.{Bool, true, false, cond, _||_}
-use mathlib.Core.List.{List, [], _∷_, _++_, append-nil, reverse, reverse-append, List·Memᴰ, List·Memᴰ·head, List·Memᴰ·tail}
-use mathlib.Core.Logic.{inr}
-use lib.Dec.{eqb}
-use lib.ListN.{length, take, drop, getD}
-use lib.Seq.{take-suc, take-length, drop-cons, drop-length}
-use borrow.Author.Tests.{eqb-true, eqb-false}
-use Rattle.model.specs.Base.{any, elem, each}
-use Rattle.model.specs.Graph.{Graph, varOf, negated, literal, placingOrder}
-use Rattle.model.specs.Cuts.{cutsOf, cutAt as listedAt}
-use Rattle.model.specs.Choice.{feeds, chosen}
-use Rattle.model.specs.Matching.{matchNets}
-use Rattle.model.specs.Netlist.{isInverted, backwards, spread, needed}
+use Rattle.base.specs.{ℕ, zero, suc, _+_, _*_, _/_, _≤_, _<_, arith, _≡_, refl, sym, ap, subst, _∙_, Bool, true, false, cond, _||_, List}
+use Rattle.base.specs.{[], _∷_, _++_, append-nil, reverse, reverse-append, List·Memᴰ, List·Memᴰ·head, List·Memᴰ·tail, inr, eqb, length}
+use Rattle.base.specs.{take, drop, getD, take-suc, take-length, drop-cons, drop-length, eqb-true, eqb-false}
+use Rattle.model.specs.{any, elem, each, varOf, negated, literal, placingOrder, cutsOf, cutAt as listedAt, feeds, chosen, matchNets}
+use Rattle.model.specs.{isInverted, backwards, spread, needed}
+use Rattle.model.specs.Graph.{Graph}
 use Rattle.model.specs.declared.Cell.{Cell}
 use Rattle.model.specs.declared.Header.{Header}
 use Rattle.model.specs.declared.Phase.{Phase}
 use Rattle.model.specs.declared.Source.{Source}
 use Rattle.model.specs.declared.Source.the-variants.{Input, Cell as Matched, Inverter as Inverted, Nothing}
-use Rattle.base_words.specs.Layout.{placedOf, Room, neededAddr, neededAt}
-use Rattle.base_words.specs.Record.{cutsAt}
-use Rattle.base_words.specs.Phases.{phaseAt, flagOf, isNeeded, putNeeded}
-use Rattle.base_words.specs.Holding.{HoldsPhases, HoldsNeeded}
-use Rattle.base_words.proofs.Chosen.{needed-put, needed-other}
-use Rattle.theory_graph.proofs.Lists.{getD-in}
-use Rattle.theory_graph.proofs.Placing.{order-small}
-use Rattle.cells_matching.specs.Variants.{Matchable}
-use Rattle.cover_choice.specs.Asked.{OutputsIn, SlotsIn, MatchesIn}
-use Rattle.cover_choice.specs.Marking.{putAll, putOutputs, feedsAt, fedOnce, fedAll, fedTurn, fedDown, marked}
+use Rattle.theory_graph.proofs.{getD-in, order-small}
+use Rattle.base_words.specs.{placedOf, Room, neededAddr, neededAt, cutsAt, phaseAt, flagOf, isNeeded, putNeeded, HoldsPhases, HoldsNeeded}
+use Rattle.base_words.proofs.{needed-put, needed-other}
+use Rattle.cells_matching.specs.{Matchable}
+use Rattle.cover_choice.specs.{OutputsIn, SlotsIn, MatchesIn, putAll, putOutputs, feedsAt, fedOnce, fedAll, fedTurn, fedDown, marked}
+use Rattle.cover_choice.specs.{HeaderOf}
 use Rattle.cover_choice.proofs.Keeping.{NeedsKept, kept-on, need-kept, graph-kept, order-kept, cuts-kept, phases-kept}
 use Rattle.cover_choice.proofs.Marks.{mark-room, outputs-kept, down-kept, once-kept, turn-kept, feeds-in, backwards-in}
-use Rattle.cover_choice.specs.Held.{HeaderOf, Held}
+use Rattle.cover_choice.specs.Held.{Held}
 use Rattle.cover_choice.proofs.Held.{placed-is, output-small, slots-in, outputs-in, matches-in}
 
 -- ---- lists of literals

@@ -3,30 +3,18 @@
 --     stored-here, stored-other       the phases of the variable, and those of others
 --     turn-kept, turn-early           only words of the phases are written; arrivals grow by two delays at most
 --     up-kept, up-early               so for the first variables of the placing order
--- Assumes nothing.
-use Prim.Native.Nat.{ℕ, zero, suc, _+_, _*_, _/_, _≤_, _<_}
-use native.Mathlib.Omega.{arith}
-use mathlib.Core.Path.{_≡_, refl, sym, ap, subst, _∙_}
-use mathlib.Core.Bool.{Bool, true, false, not, cond}
-use mathlib.Core.List.{List, _∷_}
-use lib.Dec.{eqb}
-use lib.ListN.{length}
-use borrow.Author.Tests.{eqb-true, eqb-false}
-use Rattle.model.specs.Graph.{varOf, negated}
-use Rattle.model.specs.Choice.{Phases, phaseOf, earlier, choose, inverterPhases, joined}
+use Rattle.base.specs.{ℕ, zero, suc, _+_, _*_, _/_, _≤_, _<_, arith, _≡_, refl, sym, ap, subst, _∙_, Bool, true, false, not, cond, List}
+use Rattle.base.specs.{_∷_, eqb, length, eqb-true, eqb-false}
+use Rattle.model.specs.{varOf, negated, Phases, phaseOf, earlier, choose, inverterPhases, joined}
 use Rattle.model.specs.declared.Cell.{Cell}
 use Rattle.model.specs.declared.Phase.{Phase}
-use Rattle.base_words.specs.Put.{putAt}
-use Rattle.base_words.specs.Layout.{Room, positiveAddr, negativeAddr, listsFrom, slotAt}
-use Rattle.base_words.specs.Phases.{PhaseFits, phaseWords, positiveAt, negativeAt, phasesAt, phaseAt}
-use Rattle.base_words.proofs.Putting.{length-put}
-use Rattle.base_words.proofs.Chosen.{length-phase, phase-put, phase-apart}
+use Rattle.base_words.specs.{putAt, Room, positiveAddr, negativeAddr, listsFrom, slotAt, PhaseFits, phaseWords, positiveAt, negativeAt}
+use Rattle.base_words.specs.{phasesAt, phaseAt}
+use Rattle.base_words.proofs.{length-put, length-phase, phase-put, phase-apart}
 use Rattle.cells_matching.specs.declared.Inverter.{Inverter}
-use Rattle.cells_matching.specs.Inverters.{inverterOf, inverted}
-use Rattle.cells_matching.proofs.Inverting.{inverter-chosen}
-use Rattle.cells_matching.specs.Variants.{Matchable}
-use Rattle.cover_choice.specs.Asked.{CutsIn, LateIn}
-use Rattle.cover_choice.specs.Choosing.{directAt, putPhases, chosenTurn, chosenUp, Early, Choosable, Unchosen}
+use Rattle.cells_matching.specs.{inverterOf, inverted, Matchable}
+use Rattle.cells_matching.proofs.{inverter-chosen}
+use Rattle.cover_choice.specs.{CutsIn, LateIn, directAt, putPhases, chosenTurn, chosenUp, Early, Choosable, Unchosen}
 use Rattle.cover_choice.proofs.Keeping.{PhasesKept, kept-same, kept-on, kept-put, cuts-in-kept, late-in-kept, slots-in-kept}
 use Rattle.cover_choice.proofs.Fitting.{Fitting, direct-fit, with-fit}
 

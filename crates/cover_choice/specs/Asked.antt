@@ -1,20 +1,13 @@
--- What is asked of the words, so that every access lies among them and every record that is read is one. Assumes nothing.
-use Prim.Native.Nat.{ℕ, _+_, _/_, _≤_, _<_}
-use mathlib.Core.Path.{_≡_}
-use mathlib.Core.List.{List}
-use lib.Dec.{T}
-use lib.ListN.{length, getD}
-use Rattle.model.specs.Limits.{cutLimit}
-use Rattle.model.specs.Cells.{cellAt}
+-- What is asked of the words, so that every access lies among them and every record that is read is one.
+use Rattle.base.specs.{ℕ, _+_, _/_, _≤_, _<_, _≡_, List, T, length, getD}
+use Rattle.model.specs.{cutLimit, cellAt}
 use Rattle.model.specs.declared.Cell.{Cell}
 use Rattle.model.specs.declared.Cut.{Cut}
 use Rattle.model.specs.declared.Match.{Match}
 use Rattle.model.specs.declared.Source.the-variants.{Cell as Matched}
-use Rattle.base_words.specs.Layout.{Room, RoomFor, slotAt, countAt, lateAt, outputAt}
-use Rattle.base_words.specs.Record.{leavesOf, leavesAt}
-use Rattle.base_words.specs.Phases.{phaseAt}
-use Rattle.base_truth.specs.Variant.{placesOf, placesBelow}
-use Rattle.cells_matching.specs.Variants.{Matchable}
+use Rattle.base_words.specs.{Room, RoomFor, slotAt, countAt, lateAt, outputAt, leavesOf, leavesAt, phaseAt}
+use Rattle.base_truth.specs.{placesOf, placesBelow}
+use Rattle.cells_matching.specs.{Matchable}
 
 -- each output is a literal of the graph
 pub record OutputsIn (w : List ℕ) (m o : ℕ) : Type 0 where

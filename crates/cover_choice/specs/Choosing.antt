@@ -1,26 +1,15 @@
 -- The choice for both phases of every variable, from the words and into them: `model`'s definitions, with the phases, cuts and functions that the
--- words have. Assumes nothing.
-use mathlib.Core.Path.{_≡_}
-use Prim.Native.Nat.{ℕ, zero, suc, _+_, _*_, _≤_}
-use mathlib.Core.Bool.{Bool, true, false, cond}
-use mathlib.Core.List.{List, [], _∷_, _++_, map}
-use lib.Dec.{ltb}
-use lib.ListN.{length, getD}
-use Rattle.model.specs.Base.{same}
-use Rattle.model.specs.Graph.{Node, constant, input, undefined, both, literal}
-use Rattle.model.specs.Matching.{phaseTable}
-use Rattle.model.specs.Choice.{Phases, noPhase, choose, matchPhase, cutMatches, joined}
+-- words have.
+use Rattle.base.specs.{_≡_, ℕ, zero, suc, _+_, _*_, _≤_, Bool, true, false, cond, List, [], _∷_, _++_, map, ltb, length, getD}
+use Rattle.model.specs.{same, Node, constant, input, undefined, both, literal, phaseTable, Phases, noPhase, choose, matchPhase, cutMatches}
+use Rattle.model.specs.{joined}
 use Rattle.model.specs.declared.Cell.{Cell}
 use Rattle.model.specs.declared.Phase.{Phase}
 use Rattle.model.specs.declared.Source.the-variants.{Input}
-use Rattle.base_words.specs.Put.{putAt}
-use Rattle.base_words.specs.Layout.{slotAt, countAt, lateAt, positiveAddr, negativeAddr}
-use Rattle.base_words.specs.Record.{nodeAt, leavesAt, functionOf}
-use Rattle.base_words.specs.Phases.{phaseWords, phasesAt, phaseAt}
-use Rattle.cells_matching.specs.Sheet.{SheetOf}
-use Rattle.cells_matching.specs.Inverters.{inverterOf}
+use Rattle.base_words.specs.{putAt, slotAt, countAt, lateAt, positiveAddr, negativeAddr, nodeAt, leavesAt, functionOf, phaseWords, phasesAt}
+use Rattle.base_words.specs.{phaseAt}
+use Rattle.cells_matching.specs.{SheetOf, inverterOf, never, timeOf, phaseAs}
 use Rattle.cells_matching.specs.declared.Inverter.{Inverter}
-use Rattle.cells_matching.specs.Best.{never, timeOf, phaseAs}
 use Rattle.cover_choice.specs.declared.CutMatch.{CutMatch}
 use Rattle.cover_choice.specs.Asked.{SlotsIn, CutsIn, LateIn}
 

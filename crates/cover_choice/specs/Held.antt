@@ -1,13 +1,10 @@
--- What the passes before have left in the words. Assumes nothing.
-use mathlib.Core.Path.{_≡_}
-use mathlib.Core.List.{List, []}
-use Prim.Native.Nat.{ℕ, _≤_}
-use lib.ListN.{length}
+-- What the passes before have left in the words.
+use Rattle.base.specs.{_≡_, List, [], ℕ, _≤_, length}
 use Rattle.model.specs.Graph.{Graph}
-use Rattle.model.specs.Cuts.{crowded}
+use Rattle.model.specs.{crowded}
 use Rattle.model.specs.declared.Header.{Header}
-use Rattle.base_words.specs.Holding.{HoldsGraph, HoldsOrder, HoldsCuts}
 use Rattle.theory_graph.specs.Accepted.{Accepted}
+use Rattle.base_words.specs.{HoldsGraph, HoldsOrder, HoldsCuts}
 
 -- the numbers of the header are those of the graph
 pub record HeaderOf (h : Header) (g : Graph) : Type 0 where

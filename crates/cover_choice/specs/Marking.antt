@@ -1,14 +1,8 @@
 -- The needed phases, marked in the words: those of the outputs, then what feeds the needed phases of each variable, in reverse placing order.
--- Assumes nothing.
-use Prim.Native.Nat.{ℕ, zero, suc}
-use mathlib.Core.Bool.{cond}
-use mathlib.Core.List.{List, [], _∷_}
-use Rattle.model.specs.Choice.{feeds}
-use Rattle.model.specs.Netlist.{backwards}
+use Rattle.base.specs.{ℕ, zero, suc, cond, List, [], _∷_}
+use Rattle.model.specs.{feeds, backwards}
 use Rattle.model.specs.declared.Cell.{Cell}
-use Rattle.base_words.specs.Layout.{slotAt, outputAt}
-use Rattle.base_words.specs.Record.{cutsAt}
-use Rattle.base_words.specs.Phases.{phaseAt, isNeeded, putNeeded}
+use Rattle.base_words.specs.{slotAt, outputAt, cutsAt, phaseAt, isNeeded, putNeeded}
 
 -- the words once the phases of some literals are needed
 unfoldable pub putAll : List ℕ → ℕ → List ℕ → List ℕ

@@ -1,12 +1,8 @@
--- The first output without a source, as the words have it. Assumes nothing.
-use Prim.Native.Nat.{ℕ}
-use mathlib.Core.List.{List, map}
-use Rattle.model.specs.Base.{from}
-use Rattle.model.specs.Reading.{refusedAt, firstOf}
-use Rattle.model.specs.Netlist.{uncovered}
+-- The first output without a source, as the words have it.
+use Rattle.base.specs.{ℕ, List, map}
+use Rattle.model.specs.{from, refusedAt, firstOf, uncovered}
 use Rattle.model.specs.declared.Verdict.{Verdict}
-use Rattle.base_words.specs.Layout.{outputAt}
-use Rattle.base_words.specs.Phases.{phaseAt}
+use Rattle.base_words.specs.{outputAt, phaseAt}
 
 -- n outputs' literals from output k on
 unfoldable pub outputsFrom : List ℕ → ℕ → ℕ → ℕ → List ℕ

@@ -6,24 +6,14 @@
 --     node-begin, node-turn, node-end     the cuts of one variable, one after the other
 --     pass-reached, pass-turn     the variables, one after the other
 --     filled-low, filled-above, filled-word   what is filled, word by word
--- Assumes nothing.
-use mathlib.Core.Path.{_≡_, refl, sym, ap, _∙_, subst}
-use mathlib.Core.Bool.{Bool, true, false}
-use mathlib.Core.List.{List, [], _∷_, map}
-use Prim.Native.Nat.{ℕ, zero, suc, _+_, _/_, _≤_, _<_}
-use native.Mathlib.Numerals.{add-one, lt-of-le-of-ne}
-use native.Mathlib.Omega.{arith}
-use lib.Dec.{eqb}
-use lib.ListN.{length, take, getD, set, length-map}
-use lib.Seq.{take-all, length-take-le}
-use borrow.Author.Tests.{eqb-true, eqb-false}
-use Rattle.model.specs.Limits.{cutLimit}
-use Rattle.base_words.specs.Layout.{Room, andKind, kindAt, leftAt, rightAt, placeAt, slotAt, countAt, kindAddr, leftAddr, rightAddr, placeAddr, countAddr, outputAddr, slotAddr, listsTo}
-use Rattle.base_words.specs.Record.{nodeAt, leavesOf, leavesAt, cutsAt, functionOf, putFunctions, Sound}
-use Rattle.base_words.proofs.Stored.{count-listed, cut-listed, cut-same, cuts-same, sound-same}
-use Rattle.base_words.proofs.Tabled.{function-stored, function-apart, functions-none, functions-more, put-functions-length, put-functions-before, put-functions-behind}
-use Rattle.cut_functions.specs.Table.{walkWord, Noted, Placed, Walked}
-use Rattle.cut_functions.specs.Filling.{cutWord, functionsOf, filled, Done, Reached, Earlier, Ready}
+use Rattle.base.specs.{_≡_, refl, sym, ap, _∙_, subst, Bool, true, false, List, [], _∷_, map, ℕ, zero, suc, _+_, _/_, _≤_, _<_, add-one}
+use Rattle.base.specs.{lt-of-le-of-ne, arith, eqb, length, take, getD, set, length-map, take-all, length-take-le, eqb-true, eqb-false}
+use Rattle.model.specs.{cutLimit}
+use Rattle.base_words.specs.{Room, andKind, kindAt, leftAt, rightAt, placeAt, slotAt, countAt, kindAddr, leftAddr, rightAddr, placeAddr}
+use Rattle.base_words.specs.{countAddr, outputAddr, slotAddr, listsTo, nodeAt, leavesOf, leavesAt, cutsAt, functionOf, putFunctions, Sound}
+use Rattle.base_words.proofs.{count-listed, cut-listed, cut-same, cuts-same, sound-same, function-stored, function-apart, functions-none}
+use Rattle.base_words.proofs.{functions-more, put-functions-length, put-functions-before, put-functions-behind}
+use Rattle.cut_functions.specs.{walkWord, Noted, Placed, Walked, cutWord, functionsOf, filled, Done, Reached, Earlier, Ready}
 use Rattle.cut_functions.proofs.Walks.{placed-kept, same-place, same-walk, fuel, noted-more}
 
 -- words v that agree with w below the functions

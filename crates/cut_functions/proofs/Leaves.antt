@@ -4,24 +4,14 @@
 --     four-same                   four leaves are equal one by one
 --     leaves-small                a leaf is a variable, so that it has a note
 --     cut-..., begun              a cut that is loaded, and the notes with its leaves
--- Assumes nothing.
-use mathlib.Core.Path.{_≡_, refl, sym, ap, _∙_, subst}
-use mathlib.Core.Bool.{Bool, true, false, cond}
-use mathlib.Core.Logic.{_⊎_, inl, inr, ⊎-elim}
-use mathlib.Core.List.{List, [], _∷_}
-use Prim.Native.Nat.{ℕ, zero, suc, _+_, _≤_, _<_}
-use native.Mathlib.Nat.{not-suc-le-zero, le-of-suc-le-suc}
-use native.Mathlib.Omega.{arith}
-use lib.Dec.{eqb}
-use lib.ListN.{length, drop, getD, set, length-set, drop-of-length-le}
-use lib.Seq.{drop-cons, getD-set-same, getD-set-other, ext-getD, length-take-le, getD-take}
-use borrow.Author.Tests.{eqb-true, eqb-false}
-use Rattle.base_truth.specs.Variant.{leafTable}
+use Rattle.base.specs.{_≡_, refl, sym, ap, _∙_, subst, Bool, true, false, cond, _⊎_, inl, inr, ⊎-elim, List, [], _∷_, ℕ, zero, suc, _+_}
+use Rattle.base.specs.{_≤_, _<_, not-suc-le-zero, le-of-suc-le-suc, arith, eqb, length, drop, getD, set, length-set, drop-of-length-le}
+use Rattle.base.specs.{drop-cons, getD-set-same, getD-set-other, ext-getD, length-take-le, getD-take, eqb-true, eqb-false}
 use Rattle.model.specs.declared.Cut.{Cut}
-use Rattle.base_words.specs.Layout.{countAt}
-use Rattle.base_words.specs.Record.{nodeAt, leavesOf, leavesAt, cutOf, cutsAt, Leaves, Sound}
-use Rattle.base_words.proofs.Stored.{four-leaves, count-listed, cut-listed, good-get}
-use Rattle.cut_functions.specs.Table.{leafWord, leafNotes, Early, Noted}
+use Rattle.base_words.specs.{countAt, nodeAt, leavesOf, leavesAt, cutOf, cutsAt, Leaves, Sound}
+use Rattle.base_words.proofs.{four-leaves, count-listed, cut-listed, good-get}
+use Rattle.base_truth.specs.{leafTable}
+use Rattle.cut_functions.specs.{leafWord, leafNotes, Early, Noted}
 use Rattle.cut_functions.proofs.Truth.{leaf-small}
 use Rattle.cut_functions.proofs.Walks.{walk-leaf}
 

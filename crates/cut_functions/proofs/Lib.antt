@@ -5,3 +5,6 @@ pub mod Walks
 pub mod Fills
 pub mod Truth
 pub mod Meaning
+pub use Walks.{placed-kept, same-place}
+pub use Fills.{Under, filled-above, filled-low, filled-under, filled-word, under-cuts, under-sound}
+pub use Meaning.{functions-of}

@@ -1,18 +1,11 @@
 -- The functions that `functions` leaves are those of `model`, where the words represent a graph:
 --     word-is-table               a cut's function in the words is `cutTable`
 --     functions-of                so for all cuts of a variable
--- Assumes nothing.
-use mathlib.Core.Path.{_≡_, refl, sym, ap, _∙_}
-use mathlib.Core.List.{List, [], _∷_, map}
-use Prim.Native.Nat.{ℕ, zero, suc, _/_, _≤_, _<_}
-use native.Mathlib.Omega.{arith}
-use lib.ListN.{length}
-use Rattle.model.specs.Graph.{Graph, node, span}
-use Rattle.model.specs.Cuts.{cutTable}
-use Rattle.base_words.specs.Layout.{kindAt, leftAt, rightAt, placeAt}
-use Rattle.base_words.specs.Record.{nodeAt, cutsAt, AllGood, Sound}
-use Rattle.cut_functions.specs.Table.{leafWord, nodeWord, orWord, walkWord, Placed}
-use Rattle.cut_functions.specs.Filling.{cutWord, functionsOf}
+use Rattle.base.specs.{_≡_, refl, sym, ap, _∙_, List, [], _∷_, map, ℕ, zero, suc, _/_, _≤_, _<_, arith, length}
+use Rattle.model.specs.Graph.{Graph, span}
+use Rattle.model.specs.{node, cutTable}
+use Rattle.base_words.specs.{kindAt, leftAt, rightAt, placeAt, nodeAt, cutsAt, AllGood, Sound}
+use Rattle.cut_functions.specs.{leafWord, nodeWord, orWord, walkWord, Placed, cutWord, functionsOf}
 use Rattle.cut_functions.proofs.Walks.{node-word, fuel}
 use Rattle.cut_functions.proofs.Truth.{walk-table}
 

@@ -1,26 +1,14 @@
 -- The word that a walk finds is the table of `model`: bit r of it is what the walk of `model` gives in row r.
 --     walk-bit                    a bit of the word
 --     walk-table                  the word is `tabulate` of the walk
--- Assumes nothing.
-use mathlib.Core.Path.{_≡_, refl, sym, ap, ap₂, _∙_}
-use mathlib.Core.Bool.{Bool, true, false, not, cond, _&&_}
-use mathlib.Core.Option.{none, some}
-use mathlib.Core.Logic.{_⊎_, inl, inr}
-use mathlib.Core.List.{List, [], _∷_}
-use Prim.Native.Nat.{ℕ, zero, suc, _+_, _≤_, _<_}
-use native.Mathlib.Omega.{arith}
-use lib.Bits.{and-le-l}
-use lib.Dec.{eqb, ltb}
-use lib.ListN.{length}
-use borrow.Author.Tests.{lt-ltb}
-use Rattle.model.specs.Base.{bit, flip, orElse}
-use Rattle.model.specs.Graph.{Graph, Node, constant, input, undefined, both, node, span, varOf, negated, literalValue, nodeValue}
-use Rattle.model.specs.Cuts.{leafBit, walk, cutTable}
-use Rattle.model.specs.Matching.{phaseTable}
-use Rattle.model.specs.Table.{value}
-use Rattle.base_truth.specs.Variant.{leafTable}
-use Rattle.base_truth.proofs.Tables.{table-small, tabulate-same, tabulate-value, value-and, value-complement, value-pattern}
-use Rattle.cut_functions.specs.Table.{leafWord, literalWord, nodeWord, orWord, walkWord}
+use Rattle.base.specs.{_≡_, refl, sym, ap, ap₂, _∙_, Bool, true, false, not, cond, _&&_, none, some, _⊎_, inl, inr, List, [], _∷_, ℕ, zero}
+use Rattle.base.specs.{suc, _+_, _≤_, _<_, arith, and-le-l, eqb, ltb, length, lt-ltb}
+use Rattle.model.specs.{bit, flip, orElse, Node, constant, input, undefined, both, node, varOf, negated, literalValue, nodeValue, leafBit}
+use Rattle.model.specs.{walk, cutTable, phaseTable, value}
+use Rattle.model.specs.Graph.{Graph, span}
+use Rattle.base_truth.specs.{leafTable}
+use Rattle.base_truth.proofs.{table-small, tabulate-same, tabulate-value, value-and, value-complement, value-pattern}
+use Rattle.cut_functions.specs.{leafWord, literalWord, nodeWord, orWord, walkWord}
 
 -- a leaf's table is a word, and its rows are the leaf's bits
 pub leaf-small : (j : ℕ) → leafTable j < 65536

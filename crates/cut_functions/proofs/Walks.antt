@@ -5,21 +5,13 @@
 --     walked-known, walked-none, and-found    a walk that ends at what is noted, at no AND, and one that goes on to both operands
 --     left-operand, right-operand the operands of an AND are placed before it
 --     found-..., near-...         what the functions that walk answer and leave
--- Assumes nothing.
-use mathlib.Core.Path.{_≡_, refl, sym, ap, _∙_, subst}
-use mathlib.Core.Bool.{Bool, true, false, cond}
-use mathlib.Core.Logic.{_⊎_, inl, inr, ⊎-elim}
-use mathlib.Core.List.{List}
-use Prim.Native.Nat.{ℕ, zero, suc, _+_, _-_, _*_, _/_, _≤_, _<_}
-use native.Mathlib.Omega.{arith}
-use lib.Dec.{eqb, ltb}
-use lib.ListN.{length, getD, set, length-set}
-use lib.Seq.{getD-set-same, getD-set-other}
-use borrow.Author.Tests.{lt-ltb, le-ltb, ltb-true, ltb-false, ne-eqb, eqb-true, eqb-false}
-use Rattle.model.specs.Graph.{Node, constant, input, undefined, varOf}
-use Rattle.base_words.specs.Layout.{constantKind, inputKind, andKind, kindAt, leftAt, rightAt, placeAt, leftAddr, rightAddr, placeAddr, countsFrom}
-use Rattle.base_words.specs.Record.{nodeOf, nodeAt}
-use Rattle.cut_functions.specs.Table.{leafWord, literalWord, nodeWord, orWord, walkWord, joined, Early, Noted, Placed, Walked, Near}
+use Rattle.base.specs.{_≡_, refl, sym, ap, _∙_, subst, Bool, true, false, cond, _⊎_, inl, inr, ⊎-elim, List, ℕ, zero, suc, _+_, _-_, _*_}
+use Rattle.base.specs.{_/_, _≤_, _<_, arith, eqb, ltb, length, getD, set, length-set, getD-set-same, getD-set-other, lt-ltb, le-ltb}
+use Rattle.base.specs.{ltb-true, ltb-false, ne-eqb, eqb-true, eqb-false}
+use Rattle.model.specs.{Node, constant, input, undefined, varOf}
+use Rattle.base_words.specs.{constantKind, inputKind, andKind, kindAt, leftAt, rightAt, placeAt, leftAddr, rightAddr, placeAddr, countsFrom}
+use Rattle.base_words.specs.{nodeOf, nodeAt}
+use Rattle.cut_functions.specs.{leafWord, literalWord, nodeWord, orWord, walkWord, joined, Early, Noted, Placed, Walked, Near}
 
 -- the walk at one variable, with fuel
 pub walk-leaf : (f : ℕ) (node : ℕ → Node) (ls : List ℕ) (v : ℕ) → leafWord ls 0 v < 65536 → walkWord (suc f) node ls v ≡ leafWord ls 0 v

@@ -1,10 +1,8 @@
--- The functions of all cuts, in placing order, and the words that hold them. Assumes nothing.
-use mathlib.Core.Path.{_≡_}
-use mathlib.Core.List.{List, map}
-use Prim.Native.Nat.{ℕ, zero, suc, _+_, _/_, _≤_, _<_}
-use Rattle.model.specs.Limits.{cutLimit}
-use Rattle.base_words.specs.Layout.{andKind, kindAt, leftAt, rightAt, placeAt, slotAt, countAt}
-use Rattle.base_words.specs.Record.{nodeAt, leavesAt, cutsAt, functionOf, putFunctions, Sound}
+-- The functions of all cuts, in placing order, and the words that hold them.
+use Rattle.base.specs.{_≡_, List, map, ℕ, zero, suc, _+_, _/_, _≤_, _<_}
+use Rattle.model.specs.{cutLimit}
+use Rattle.base_words.specs.{andKind, kindAt, leftAt, rightAt, placeAt, slotAt, countAt, nodeAt, leavesAt, cutsAt, functionOf, putFunctions}
+use Rattle.base_words.specs.{Sound}
 use Rattle.cut_functions.specs.Table.{walkWord, Placed}
 
 -- the function of the cut of v that has these leaves

@@ -1,16 +1,8 @@
--- The function of a cut as a word of 16 rows, by the walk from the root down, and what a walk has noted. Assumes nothing.
-use mathlib.Core.Path.{_≡_}
-use mathlib.Core.Bool.{cond}
-use mathlib.Core.List.{List, [], _∷_}
-use Prim.Native.Nat.{ℕ, zero, suc, _+_, _*_, _/_, _≤_, _<_}
-use lib.Bits.{bitAnd}
-use lib.Dec.{eqb, ltb}
-use lib.ListN.{length, getD, set}
-use Rattle.model.specs.Graph.{Node, constant, input, undefined, both, varOf, negated}
-use Rattle.model.specs.Matching.{phaseTable}
-use Rattle.base_truth.specs.Variant.{leafTable}
-use Rattle.base_words.specs.Layout.{Room, andKind, kindAt, leftAt, rightAt, placeAt}
-use Rattle.base_words.specs.Record.{nodeAt}
+-- The function of a cut as a word of 16 rows, by the walk from the root down, and what a walk has noted.
+use Rattle.base.specs.{_≡_, cond, List, [], _∷_, ℕ, zero, suc, _+_, _*_, _/_, _≤_, _<_, bitAnd, eqb, ltb, length, getD, set}
+use Rattle.model.specs.{Node, constant, input, undefined, both, varOf, negated, phaseTable}
+use Rattle.base_words.specs.{Room, andKind, kindAt, leftAt, rightAt, placeAt, nodeAt}
+use Rattle.base_truth.specs.{leafTable}
 
 -- "leaf number i (ascending, from 0) is bit i of the row"; 65536 where v is none
 unfoldable pub leafWord : List ℕ → ℕ → ℕ → ℕ

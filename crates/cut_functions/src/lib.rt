@@ -1,15 +1,10 @@
 // The function of a cut: the walk from the root down to the leaves, with each variable's table noted, so that none is walked twice. Where an operand of
 // the root has the very same cut its function is stored already, and the walk stops there.
-ghost use mathlib.Core.Path.{_≡_};
-ghost use mathlib.Core.Bool.{true, false};
-ghost use mathlib.Core.List.{_∷_, []};
-ghost use Prim.Native.Nat.{ℕ, _+_, _*_, _/_, _≤_, _<_};
-ghost use lib.ListN.{take, getD, set};
-ghost use Rattle.model.specs.Limits.{cutLimit};
-ghost use Rattle.base_words.specs.Layout.{Room, andKind, kindAt, leftAt, rightAt, countAt, placeAt};
-ghost use Rattle.base_words.specs.Record.{leavesAt, putFunctions};
-ghost use Rattle.cut_functions.specs.Table.{leafNotes, Early, Noted, Placed, Walked, Near, joined};
-ghost use Rattle.cut_functions.specs.Filling.{cutWord, functionsOf, SameCut, Done, Reached, Ready, filled};
+ghost use Rattle.base.specs.{_≡_, true, false, _∷_, [], ℕ, _+_, _*_, _/_, _≤_, _<_, take, getD, set};
+ghost use Rattle.model.specs.{cutLimit};
+ghost use Rattle.base_words.specs.{Room, andKind, kindAt, leftAt, rightAt, countAt, placeAt, leavesAt, putFunctions};
+ghost use Rattle.cut_functions.specs.{leafNotes, Early, Noted, Placed, Walked, Near, joined, cutWord, functionsOf, SameCut, Done};
+ghost use Rattle.cut_functions.specs.{Reached, Ready, filled};
 
 // A note for each variable: "M exceeds 4,095" is turned back.
 const NOTES: usize = 4096;

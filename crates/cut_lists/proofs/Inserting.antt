@@ -2,17 +2,11 @@
 --     one-more, put-more, put-at  a key more before a place, and a key put there
 --     passed, stopped, same       the key at a place is below the one that is put in, above it, or the same
 --     added-room, added-full      what adding a key comes to
--- Assumes nothing.
-use mathlib.Core.Path.{_≡_, sym, ap, _∙_}
-use mathlib.Core.List.{List, [], _∷_, _++_}
-use Prim.Native.Nat.{ℕ, suc, _+_, _≤_, _<_, compare}
-use native.Mathlib.Omega.{arith}
-use native.Mathlib.Numerals.{add-one}
-use lib.ListN.{length, take, drop, getD, set, take-append-drop, drop-of-length-le, length-take}
-use lib.Seq.{drop-cons, take-suc, take-suc-set, set-split, drop-append-le, append-snoc, length-take-le}
-use borrow.Author.Tests.{lt-ltb, le-ltb}
-use Rattle.model.specs.Base.{insert}
-use Rattle.cut_lists.specs.Keys.{added, keyRoom}
+use Rattle.base.specs.{_≡_, sym, ap, _∙_, List, [], _∷_, _++_, ℕ, suc, _+_, _≤_, _<_, compare, arith, add-one, length, take, drop, getD}
+use Rattle.base.specs.{set, take-append-drop, drop-of-length-le, length-take, drop-cons, take-suc, take-suc-set, set-split, drop-append-le}
+use Rattle.base.specs.{append-snoc, length-take-le, lt-ltb, le-ltb}
+use Rattle.model.specs.{insert}
+use Rattle.cut_lists.specs.{added, keyRoom}
 use Rattle.cut_lists.proofs.Merging.{insert-before, insert-past, insert-same}
 
 pub none-between : (L : List ℕ) (p : ℕ) → drop p (take p L) ≡ []

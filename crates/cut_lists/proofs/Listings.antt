@@ -2,27 +2,16 @@
 --     Held                        the words in the course of listing
 --     held-begin, held-next       at first, and after one variable more
 --     listing-next, listing-stop  one variable more of `listing`, listed or turned back
--- Assumes nothing.
-use mathlib.Core.Path.{_≡_, refl, sym, ap, _∙_, subst}
-use mathlib.Core.Bool.{Bool, true, false, cond}
-use mathlib.Core.List.{List, [], _∷_}
-use Prim.Native.Nat.{ℕ, zero, suc, _+_, _-_, _/_, _≤_, _<_}
-use native.Mathlib.Nat.{add-zero, add-suc}
-use native.Mathlib.Numerals.{add-one}
-use native.Mathlib.Omega.{arith}
-use lib.Dec.{eqb, leb}
-use lib.ListN.{length, getD}
-use borrow.Author.Tests.{leb-true, eqb-true, eqb-false}
-use Rattle.model.specs.Limits.{cutLimit}
-use Rattle.model.specs.Base.{find}
-use Rattle.model.specs.Graph.{constant, input, undefined, both, varOf}
-use Rattle.model.specs.Cuts.{nodeCuts}
+use Rattle.base.specs.{_≡_, refl, sym, ap, _∙_, subst, Bool, true, false, cond, List, [], _∷_, ℕ, zero, suc, _+_, _-_, _/_, _≤_, _<_}
+use Rattle.base.specs.{add-zero, add-suc, add-one, arith, eqb, leb, length, getD, leb-true, eqb-true, eqb-false}
+use Rattle.model.specs.{cutLimit, find, constant, input, undefined, both, varOf, nodeCuts}
 use Rattle.model.specs.declared.Verdict.{Verdict}
 use Rattle.model.specs.declared.Verdict.the-variants.{Accepted, Refused}
-use Rattle.base_words.specs.Layout.{Room, constantKind, inputKind, andKind, kindAt, leftAt, rightAt, slotAt, countAt, leftAddr, rightAddr, slotAddr, countsFrom, countsTo, listsFrom, listsTo}
-use Rattle.base_words.specs.Record.{nodeOf, nodeAt, cutsAt, putList, AllGood, Sound}
-use Rattle.base_words.proofs.Stored.{none-listed, put-list-length, put-list-below, put-list-middle, put-list-above, put-list-cuts, put-list-other, put-list-sound, put-list-sound-other}
-use Rattle.cut_lists.specs.Listing.{Known, Ready, Operands, State, cutsNow, few, listed, stepCuts, join, onward, listing, stored}
+use Rattle.base_words.specs.{Room, constantKind, inputKind, andKind, kindAt, leftAt, rightAt, slotAt, countAt, leftAddr, rightAddr}
+use Rattle.base_words.specs.{slotAddr, countsFrom, countsTo, listsFrom, listsTo, nodeOf, nodeAt, cutsAt, putList, AllGood, Sound}
+use Rattle.base_words.proofs.{none-listed, put-list-length, put-list-below, put-list-middle, put-list-above, put-list-cuts, put-list-other}
+use Rattle.base_words.proofs.{put-list-sound, put-list-sound-other}
+use Rattle.cut_lists.specs.{Known, Ready, Operands, State, cutsNow, few, listed, stepCuts, join, onward, listing, stored}
 use Rattle.cut_lists.proofs.Nodes.{now-good}
 
 -- the words v, in the course of listing those of w

@@ -2,19 +2,12 @@
 --     compare-..                  the native comparison and the order
 --     first-less, first-same ..   the union by the heads of the two lists
 --     union-long                  a union is no shorter than either list; where it is no longer, that one's signature has the other's
--- Assumes nothing.
-use mathlib.Core.Path.{_≡_, refl, sym, ap, _∙_, subst}
-use mathlib.Core.Bool.{Bool, true, false}
-use mathlib.Core.List.{List, [], _∷_}
-use Prim.Native.Nat.{ℕ, zero, suc, _+_, _≤_, _<_, compare, Ordering, Ordering·lt, Ordering·eq, Ordering·gt}
-use native.Mathlib.Omega.{arith}
-use lib.Dec.{isEq, isLe}
-use lib.ListN.{length}
-use borrow.Author.Tests.{eq-eqb, lt-leb}
-use Rattle.model.specs.Base.{put, insert, union}
-use Rattle.theory_graph.proofs.CutFacts.{compare-found}
-use Rattle.theory_order.proofs.Ascending.{compare-less, compare-more, less-compare}
-use Rattle.cut_lists.specs.Keys.{Rising}
+use Rattle.base.specs.{_≡_, refl, sym, ap, _∙_, subst, Bool, true, false, List, [], _∷_, ℕ, zero, suc, _+_, _≤_, _<_, compare, Ordering}
+use Rattle.base.specs.{Ordering·lt, Ordering·eq, Ordering·gt, arith, isEq, isLe, length, eq-eqb, lt-leb}
+use Rattle.model.specs.{put, insert, union}
+use Rattle.theory_graph.proofs.{compare-found}
+use Rattle.theory_order.proofs.{compare-less, compare-more, less-compare}
+use Rattle.cut_lists.specs.{Rising}
 use Rattle.cut_lists.proofs.Signing.{Within, mark, signed, one-within, within-more, within-both}
 
 -- the native comparison, by the order

@@ -4,35 +4,19 @@
 --     verdict-model               the answer is `cutsVerdict`: refusal 16 names "the first such variable in placing order"
 --     listed-model                all listed: what is known is `cutLists`
 --     cuts-of                     the lists in the words are `cutsOf`
--- Assumes nothing.
-use mathlib.Core.Path.{_≡_, refl, sym, ap, _∙_, subst}
-use mathlib.Core.Bool.{Bool, true, false, cond}
-use mathlib.Core.List.{List, [], _∷_, _++_}
-use Prim.Native.Nat.{ℕ, zero, suc, _≤_, _<_}
-use native.Mathlib.Numerals.{add-one}
-use native.Mathlib.Omega.{arith}
-use lib.Dec.{leb, ltb}
-use lib.ListN.{length, take, drop, getD, take-append-drop}
-use lib.Seq.{take-suc, take-all, drop-cons}
-use borrow.Author.Tests.{leb-true, leb-false, lt-ltb, le-ltb}
-use Rattle.model.specs.Limits.{cutLimit}
-use Rattle.model.specs.Base.{find, run, keep}
-use Rattle.model.specs.Reading.{refusedAt, firstOf}
-use Rattle.model.specs.Graph.{Graph, node, placingOrder}
-use Rattle.model.specs.Cuts.{nodeCuts, cutLists, cutsOf, crowded}
-use Rattle.model.specs.Netlist.{cutsVerdict}
+use Rattle.base.specs.{_≡_, refl, sym, ap, _∙_, subst, Bool, true, false, cond, List, [], _∷_, _++_, ℕ, zero, suc, _≤_, _<_, add-one, arith}
+use Rattle.base.specs.{leb, ltb, length, take, drop, getD, take-append-drop, take-suc, take-all, drop-cons, leb-true, leb-false, lt-ltb}
+use Rattle.base.specs.{le-ltb}
+use Rattle.model.specs.{cutLimit, find, run, keep, refusedAt, firstOf, node, placingOrder, nodeCuts, cutLists, cutsOf, crowded, cutsVerdict}
+use Rattle.model.specs.Graph.{Graph}
 use Rattle.model.specs.declared.Verdict.{Verdict}
 use Rattle.model.specs.declared.Verdict.the-variants.{Accepted, Refused}
-use Rattle.theory_graph.specs.Accepted as accepted
-use Rattle.theory_graph.proofs.Lists.{getD-in, keep-append}
-use Rattle.theory_graph.proofs.Runs.{run-split}
-use Rattle.theory_graph.proofs.Placing.{order-once, order-small}
-use Rattle.theory_graph.proofs.CutFacts.{cutStep, cutsKnown, cuts-entry}
-use Rattle.base_words.specs.Layout.{slotAt, leftAddr, rightAddr, slotAddr, placeAddr, countsFrom}
-use Rattle.base_words.specs.Record.{nodeOf, nodeAt, cutsAt}
-use Rattle.cut_lists.specs.Listing.{Known, State, Ready, few, stepCuts, onward, listing, listed, stored}
-use Rattle.cut_lists.specs.Represents.{Represents, Uncut}
+use Rattle.theory_graph.proofs.{getD-in, keep-append, run-split, order-once, order-small, cutStep, cutsKnown, cuts-entry}
+use Rattle.base_words.specs.{slotAt, leftAddr, rightAddr, slotAddr, placeAddr, countsFrom, nodeOf, nodeAt, cutsAt}
+use Rattle.cut_lists.specs.{Known, State, Ready, few, stepCuts, onward, listing, listed, stored, Uncut}
+use Rattle.cut_lists.specs.Represents.{Represents}
 use Rattle.cut_lists.proofs.Listings.{Held, held-begin, turn-on, few-same, listing-next, listing-stop}
+use Rattle.theory_graph.specs.Accepted as accepted
 
 -- ---- the words and the graph
 

@@ -2,23 +2,12 @@
 --     reads                       the operands' lists can be read
 --     too-many, few-enough        what a list of 19 keys says, and a shorter one
 --     keys-small                  each key has a size of at most four
--- Assumes nothing.
-use mathlib.Core.Path.{_≡_, sym, ap, _∙_, subst}
-use mathlib.Core.Logic.{_⊎_, inl, inr}
-use mathlib.Core.Bool.{Bool, true, false, cond}
-use mathlib.Core.List.{List, []}
-use Prim.Native.Nat.{ℕ, _/_, _≤_, _<_}
-use native.Mathlib.Omega.{arith}
-use lib.Dec.{eqb, leb}
-use lib.ListN.{length, getD, length-map, List·getD-map}
-use borrow.Author.Tests.{le-leb, lt-leb}
-use Rattle.model.specs.Limits.{cutLimit}
-use Rattle.model.specs.Graph.{constant, input, undefined, both, varOf}
-use Rattle.base_words.specs.Layout.{constantKind, inputKind, andKind, kindAt, leftAt, rightAt}
-use Rattle.base_words.specs.Record.{nodeOf, nodeAt, cutsAt, putList, Good, AllGood}
-use Rattle.base_words.proofs.Stored.{good-get}
-use Rattle.cut_lists.specs.Keys.{key, keyFrom, nodeKeys, putKeys, keyRoom}
-use Rattle.cut_lists.specs.Listing.{Operands, cutsNow, few, listed}
+use Rattle.base.specs.{_≡_, sym, ap, _∙_, subst, _⊎_, inl, inr, Bool, true, false, cond, List, [], ℕ, _/_, _≤_, _<_, arith, eqb, leb}
+use Rattle.base.specs.{length, getD, length-map, List·getD-map, le-leb, lt-leb}
+use Rattle.model.specs.{cutLimit, constant, input, undefined, both, varOf}
+use Rattle.base_words.specs.{constantKind, inputKind, andKind, kindAt, leftAt, rightAt, nodeOf, nodeAt, cutsAt, putList, Good, AllGood}
+use Rattle.base_words.proofs.{good-get}
+use Rattle.cut_lists.specs.{key, keyFrom, nodeKeys, putKeys, keyRoom, Operands, cutsNow, few, listed}
 use Rattle.cut_lists.proofs.Storing.{put-keys-list, key-size}
 use Rattle.cut_lists.proofs.Tracking.{Tracks, Reads, node-tracks}
 

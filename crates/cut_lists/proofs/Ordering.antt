@@ -1,18 +1,13 @@
 -- The order of the keys of good cuts is the order in which cuts are listed.
 --     key-compare                 the comparison of two keys is that of the cuts
 --     keys-insert                 a key put among keys is the cut put among the cuts
--- Assumes nothing.
-use mathlib.Core.Path.{_≡_, refl, ap, _∙_}
-use mathlib.Core.List.{List, [], _∷_, map}
-use Prim.Native.Nat.{ℕ, zero, suc, _+_, _*_, _≤_, _<_, compare, Ordering, Ordering·lt, Ordering·eq, Ordering·gt}
-use native.Mathlib.Omega.{arith}
-use lib.ListN.{length}
-use Rattle.model.specs.Base.{put, insert}
-use Rattle.model.specs.Cuts.{after, compareLeaves, compareCuts}
-use Rattle.theory_graph.proofs.CutFacts.{compare-found}
-use Rattle.theory_order.proofs.Ascending.{compare-less, compare-more, less-compare}
-use Rattle.base_words.specs.Record.{Leaves, Good, AllGood}
-use Rattle.cut_lists.specs.Keys.{keyFrom, key}
+use Rattle.base.specs.{_≡_, refl, ap, _∙_, List, [], _∷_, map, ℕ, zero, suc, _+_, _*_, _≤_, _<_, compare, Ordering, Ordering·lt}
+use Rattle.base.specs.{Ordering·eq, Ordering·gt, arith, length}
+use Rattle.model.specs.{put, insert, after, compareLeaves, compareCuts}
+use Rattle.theory_graph.proofs.{compare-found}
+use Rattle.theory_order.proofs.{compare-less, compare-more, less-compare}
+use Rattle.base_words.specs.{Leaves, Good, AllGood}
+use Rattle.cut_lists.specs.{keyFrom, key}
 use Rattle.cut_lists.proofs.Merging.{compare-eq, compare-gt}
 
 after-after : (a b c : Ordering) → after (after a b) c ≡ after a (after b c)

@@ -6,23 +6,12 @@
 --     over-left, over-right       a fifth leaf
 --     at-end                      the union is done
 --     barred                      masks with a bit in common say that a fifth leaf comes
--- Assumes nothing.
-use mathlib.Core.Path.{_≡_, refl, sym, ap, _∙_}
-use mathlib.Core.Bool.{Bool, true, false, cond}
-use mathlib.Core.List.{List, [], _∷_, _++_, append-nil, append-assoc}
-use Prim.Native.Nat.{ℕ, zero, suc, _+_, _-_, _*_, _/_, _%_, _^_, _≤_, _<_, compare}
-use native.Mathlib.Numerals.{add-one}
-use native.Mathlib.Omega.{arith}
-use lib.Bits.{bitAnd, bitOr, or-lt, and-comm, and-block}
-use lib.Dec.{eqb}
-use lib.ListN.{length, take, getD, length-append}
-use lib.Pow.{pow-lt}
-use lib.Seq.{getD-take, length-take-le}
-use borrow.Author.Tests.{eqb-true}
-use Rattle.model.specs.Base.{union}
-use Rattle.base_words.specs.Record.{Leaves, Good}
-use Rattle.cut_lists.specs.Keys.{keyFrom, key}
-use Rattle.cut_lists.specs.Packs.{Digit, pack, signature, shut, columnMask, rowMask, unitAt}
+use Rattle.base.specs.{_≡_, refl, sym, ap, _∙_, Bool, true, false, cond, List, [], _∷_, _++_, append-nil, append-assoc, ℕ, zero, suc, _+_}
+use Rattle.base.specs.{_-_, _*_, _/_, _%_, _^_, _≤_, _<_, compare, add-one, arith, bitAnd, bitOr, or-lt, and-comm, and-block, eqb, length}
+use Rattle.base.specs.{take, getD, length-append, pow-lt, getD-take, length-take-le, eqb-true}
+use Rattle.model.specs.{union}
+use Rattle.base_words.specs.{Leaves, Good}
+use Rattle.cut_lists.specs.{keyFrom, key, Digit, pack, signature, shut, columnMask, rowMask, unitAt}
 use Rattle.cut_lists.proofs.Signing.{Within, signed, within-shut}
 use Rattle.cut_lists.proofs.Merging.{three, union-long, first-less, first-same, union-past, union-nil}
 use Rattle.cut_lists.proofs.Rows.{leaves-from, leaves-rising, left-wide, right-wide}

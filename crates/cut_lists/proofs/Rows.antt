@@ -3,19 +3,12 @@
 --     at-hand                     the list from a cut on begins with that cut
 --     row-narrow, row-wide        a pair more, whose union has at most four leaves, or more
 --     left-wide, right-wide       what is left of either cut is in the union
--- Assumes nothing.
-use mathlib.Core.Path.{_≡_, ap, _∙_, subst}
-use mathlib.Core.List.{List, [], _∷_, _++_}
-use Prim.Native.Nat.{ℕ, suc, _+_, _≤_, _<_, compare}
-use native.Mathlib.Omega.{arith}
-use lib.ListN.{length, drop, length-append}
-use lib.Seq.{drop-cons, drop-length}
-use borrow.Author.Tests.{le-leb, lt-leb}
-use Rattle.model.specs.Base.{union}
-use Rattle.base_words.specs.Layout.{countAt}
-use Rattle.base_words.specs.Record.{leavesAt, cutsAt, Leaves, Good, Sound}
-use Rattle.base_words.proofs.Stored.{count-listed, cut-listed, good-get}
-use Rattle.cut_lists.specs.Keys.{Rising, key, added, addedCut, rowKeys}
+use Rattle.base.specs.{_≡_, ap, _∙_, subst, List, [], _∷_, _++_, ℕ, suc, _+_, _≤_, _<_, compare, arith, length, drop, length-append}
+use Rattle.base.specs.{drop-cons, drop-length, le-leb, lt-leb}
+use Rattle.model.specs.{union}
+use Rattle.base_words.specs.{countAt, leavesAt, cutsAt, Leaves, Good, Sound}
+use Rattle.base_words.proofs.{count-listed, cut-listed, good-get}
+use Rattle.cut_lists.specs.{Rising, key, added, addedCut, rowKeys}
 use Rattle.cut_lists.proofs.Merging.{union-long}
 
 pub leaves-from : {lo hi : ℕ} (xs : List ℕ) → lo ≤ hi → Leaves hi xs → Leaves lo xs

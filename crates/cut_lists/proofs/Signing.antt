@@ -3,14 +3,9 @@
 --     signed                      the signature of leaves, one by one
 --     one-within .. within-both   within a leaf more on one side, or on both
 --     within-shut                 nothing within b is shut out by it
--- Assumes nothing.
-use mathlib.Core.Path.{_≡_, refl, sym, ap, _∙_}
-use mathlib.Core.List.{List, [], _∷_}
-use Prim.Native.Nat.{ℕ, zero, suc, _-_, _/_, _%_, _^_, _<_, min, max}
-use native.Mathlib.Nat.{pow-suc}
-use native.Mathlib.Omega.{arith}
 use lib.Arith.{bin-ind}
-use lib.Bits.{bitAnd, bitOr, or-step, and-step, or-comm, or-self}
+use Rattle.base.specs.{_≡_, refl, sym, ap, _∙_, List, [], _∷_, ℕ, zero, suc, _-_, _/_, _%_, _^_, _<_, min, max, pow-suc, arith, bitAnd}
+use Rattle.base.specs.{bitOr, or-step, and-step, or-comm, or-self}
 
 abbrev pub Within : ℕ → ℕ → Type 0
 Within a b = bitOr a b ≡ b

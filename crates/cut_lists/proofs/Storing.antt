@@ -2,19 +2,11 @@
 --     keys-more                   one key more
 --     key-words-cut               the words of a cut's key are the cut's
 --     put-keys-list               keys of good cuts, stored, are the cuts stored
--- Assumes nothing.
-use mathlib.Core.Path.{_≡_, refl, sym, ap, _∙_}
-use mathlib.Core.List.{List, [], _∷_, _++_, map, map-append}
-use Prim.Native.Nat.{ℕ, _+_, _*_, _/_, _%_, _≤_, _<_}
-use native.Mathlib.Numerals.{add-one}
-use native.Mathlib.Omega.{arith}
-use lib.ListN.{length, take, getD, length-map}
-use lib.Seq.{take-suc, length-take-le}
-use Rattle.base_words.specs.Put.{putAt}
-use Rattle.base_words.specs.Layout.{countAddr}
-use Rattle.base_words.specs.Record.{cutWords, putCut, putCuts, putList, Good, AllGood}
-use Rattle.base_words.proofs.Stored.{cuts-more}
-use Rattle.cut_lists.specs.Keys.{keyFrom, key, keyWords, putKeys}
+use Rattle.base.specs.{_≡_, refl, sym, ap, _∙_, List, [], _∷_, _++_, map, map-append, ℕ, _+_, _*_, _/_, _%_, _≤_, _<_, add-one, arith}
+use Rattle.base.specs.{length, take, getD, length-map, take-suc, length-take-le}
+use Rattle.base_words.specs.{putAt, countAddr, cutWords, putCut, putCuts, putList, Good, AllGood}
+use Rattle.base_words.proofs.{cuts-more}
+use Rattle.cut_lists.specs.{keyFrom, key, keyWords, putKeys}
 
 -- a turn: key i stored behind the keys before it
 pub keys-more : (w : List ℕ) (m v i : ℕ) (keys : List ℕ) → i < length keys

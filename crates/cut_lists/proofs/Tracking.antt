@@ -2,22 +2,13 @@
 --     Tracks                      keys and a list of cuts: the same, or both too many
 --     node-tracks                 so it is for the cuts of each node
 --     keep-append                 what is kept of two lists, one after the other
--- Assumes nothing.
-use mathlib.Core.Path.{_≡_, refl, sym, ap, _∙_, subst}
-use mathlib.Core.Logic.{_⊎_, inl, inr}
-use mathlib.Core.Bool.{Bool, true, false, cond}
-use mathlib.Core.List.{List, [], _∷_, _++_, map}
-use Prim.Native.Nat.{ℕ, suc, _≤_, _<_, compare, Ordering, Ordering·lt, Ordering·eq, Ordering·gt}
-use native.Mathlib.Omega.{arith}
-use lib.Dec.{ltb, leb}
-use lib.ListN.{length, length-map}
-use borrow.Author.Tests.{ltb-true, ltb-false, leb-true}
-use Rattle.model.specs.Base.{put, insert, union, keep, each}
-use Rattle.model.specs.Graph.{Node, constant, input, undefined, both, varOf}
-use Rattle.model.specs.Cuts.{compareCuts, unions, nodeCuts}
-use Rattle.theory_graph.proofs.Lists.{keep-append}
-use Rattle.base_words.specs.Record.{Leaves, Good, AllGood}
-use Rattle.cut_lists.specs.Keys.{key, added, addedCut, rowKeys, crossKeys, nodeKeys, keyRoom}
+use Rattle.base.specs.{_≡_, refl, sym, ap, _∙_, subst, _⊎_, inl, inr, Bool, true, false, cond, List, [], _∷_, _++_, map, ℕ, suc, _≤_, _<_}
+use Rattle.base.specs.{compare, Ordering, Ordering·lt, Ordering·eq, Ordering·gt, arith, ltb, leb, length, length-map, ltb-true, ltb-false}
+use Rattle.base.specs.{leb-true}
+use Rattle.model.specs.{put, insert, union, keep, each, Node, constant, input, undefined, both, varOf, compareCuts, unions, nodeCuts}
+use Rattle.theory_graph.proofs.{keep-append}
+use Rattle.base_words.specs.{Leaves, Good, AllGood}
+use Rattle.cut_lists.specs.{key, added, addedCut, rowKeys, crossKeys, nodeKeys, keyRoom}
 use Rattle.cut_lists.proofs.Merging.{three, insert-first, insert-same, insert-past}
 use Rattle.cut_lists.proofs.Rows.{leaves-from, leaves-rising}
 use Rattle.cut_lists.proofs.Ordering.{keys-insert}

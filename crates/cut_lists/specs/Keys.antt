@@ -1,17 +1,9 @@
 -- A cut as one number, its key: its size and its four leaves, the first highest, so that "by size, then by ascending leaves compared left to right" is the order of the keys.
--- A list being built has room for one cut more than the limit; what comes after that is left out. Assumes nothing.
-use mathlib.Core.Bool.{cond}
-use mathlib.Core.List.{List, [], _∷_, _++_, map}
-use Prim.Native.Nat.{ℕ, zero, suc, _+_, _-_, _*_, _/_, _%_, _≤_, _<_, compare}
-use lib.Dec.{ltb, leb}
-use lib.ListN.{length, take, drop}
-use mathlib.Core.Path.{_≡_}
-use Rattle.model.specs.Base.{insert, union}
-use Rattle.model.specs.Graph.{Node, constant, input, undefined, both, varOf}
-use Rattle.model.specs.Limits.{cutLimit}
-use Rattle.base_words.specs.Put.{putAt}
-use Rattle.base_words.specs.Layout.{countAddr}
-use Rattle.base_words.specs.Record.{putCuts}
+-- A list being built has room for one cut more than the limit; what comes after that is left out.
+use Rattle.base.specs.{cond, List, [], _∷_, _++_, map, ℕ, zero, suc, _+_, _-_, _*_, _/_, _%_, _≤_, _<_, compare, ltb, leb, length, take}
+use Rattle.base.specs.{drop, _≡_}
+use Rattle.model.specs.{insert, union, Node, constant, input, undefined, both, varOf, cutLimit}
+use Rattle.base_words.specs.{putAt, countAddr, putCuts}
 
 -- n leaves more, in base 4096: a leaf is a variable, and "M exceeds 4,095" is turned back
 unfoldable pub keyFrom : ℕ → ℕ → List ℕ → ℕ

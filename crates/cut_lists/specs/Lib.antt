@@ -4,3 +4,10 @@ pub mod Keys
 pub mod Packs
 pub mod Listing
 pub mod Represents
+pub use Keys.{Building, Moved, Place, Rising, keyRoom}
+unfoldable pub use Keys.{added, addedCut, crossKeys, key, keyFrom, keyWords, nodeKeys, putKeys, rowKeys}
+pub use Packs.{Digit, Masked, Packed, columnMask, rowMask}
+unfoldable pub use Packs.{pack, shut, signature, unitAt}
+pub use Listing.{Known, Operands, Ready, State}
+unfoldable pub use Listing.{cutsNow, few, join, listed, listing, onward, stepCuts, stored}
+pub use Represents.{Uncut}

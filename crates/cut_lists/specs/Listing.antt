@@ -1,17 +1,9 @@
--- The cut lists of all variables, in placing order, in terms of `model`, and the words that hold them. Assumes nothing.
-use mathlib.Core.Bool.{Bool, cond}
-use mathlib.Core.List.{List, [], _∷_}
-use mathlib.Core.Path.{_≡_}
-use Prim.Native.Nat.{ℕ, zero, suc, _+_, _*_, _≤_, _<_}
-use lib.Dec.{leb}
-use lib.ListN.{length}
-use Rattle.model.specs.Limits.{cutLimit}
-use Rattle.model.specs.Base.{find}
-use Rattle.model.specs.Cuts.{nodeCuts}
+-- The cut lists of all variables, in placing order, in terms of `model`, and the words that hold them.
+use Rattle.base.specs.{Bool, cond, List, [], _∷_, _≡_, ℕ, zero, suc, _+_, _*_, _≤_, _<_, leb, length}
+use Rattle.model.specs.{cutLimit, find, nodeCuts}
 use Rattle.model.specs.declared.Verdict.{Verdict}
 use Rattle.model.specs.declared.Verdict.the-variants.{Accepted, Refused}
-use Rattle.base_words.specs.Layout.{Room, leftAt, rightAt, slotAt, countAt}
-use Rattle.base_words.specs.Record.{nodeAt, cutsAt, putList, Sound}
+use Rattle.base_words.specs.{Room, leftAt, rightAt, slotAt, countAt, nodeAt, cutsAt, putList, Sound}
 
 -- the cuts of v, from the lists in the words
 unfoldable pub cutsNow : List ℕ → ℕ → ℕ → List (List ℕ)

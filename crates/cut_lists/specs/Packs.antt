@@ -1,14 +1,7 @@
 -- A cut's leaves as digits of one number, the first lowest, each counted back from 4096: past the last there are zeros, so that of two heads the greater digit is the
--- lesser leaf, and a cut that has ended comes last. Assumes nothing.
-use mathlib.Core.Bool.{cond}
-use mathlib.Core.List.{List, [], _∷_}
-use mathlib.Core.Path.{_≡_}
-use Prim.Native.Nat.{ℕ, zero, suc, _+_, _-_, _*_, _/_, _%_, _^_, _≤_, _<_}
-use lib.Bits.{bitOr}
-use lib.Dec.{eqb}
-use lib.ListN.{length, getD}
-use Rattle.base_words.specs.Layout.{countAt}
-use Rattle.base_words.specs.Record.{leavesAt}
+-- lesser leaf, and a cut that has ended comes last.
+use Rattle.base.specs.{cond, List, [], _∷_, _≡_, ℕ, zero, suc, _+_, _-_, _*_, _/_, _%_, _^_, _≤_, _<_, bitOr, eqb, length, getD}
+use Rattle.base_words.specs.{countAt, leavesAt}
 
 -- r is leaf i of n as a digit
 pub record Digit (leaves : List ℕ) (n i r : ℕ) : Type 0 where

@@ -1,11 +1,8 @@
--- The words in which the placing leaves a graph: its nodes and its placing order, and no cuts. Assumes nothing.
-use mathlib.Core.Path.{_≡_}
-use mathlib.Core.List.{List}
-use Prim.Native.Nat.{ℕ, _+_, _*_, _≤_, _<_}
-use lib.ListN.{length, getD}
-use Rattle.model.specs.Graph.{Graph, node, placingOrder}
-use Rattle.base_words.specs.Layout.{Room, leftAt, rightAt, slotAt, placeAt, countAt}
-use Rattle.base_words.specs.Record.{nodeAt}
+-- The words in which the placing leaves a graph: its nodes and its placing order, and no cuts.
+use Rattle.base.specs.{_≡_, List, ℕ, _+_, _*_, _≤_, _<_, length, getD}
+use Rattle.model.specs.Graph.{Graph}
+use Rattle.model.specs.{node, placingOrder}
+use Rattle.base_words.specs.{Room, leftAt, rightAt, slotAt, placeAt, countAt, nodeAt}
 
 -- the words hold graph g of M = m, of which n variables are placed. All of this stands below the counts, and no layer above changes it
 pub record Represents (w : List ℕ) (m n : ℕ) (g : Graph) : Type 0 where

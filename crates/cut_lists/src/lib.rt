@@ -2,17 +2,11 @@
 // Each branch of the merge's body is a small function with an equation for its contract, so that no arms meet in the loop.
 use model::Cut;
 use model::Verdict;
-ghost use mathlib.Core.Path.{_≡_};
-ghost use mathlib.Core.List.{_∷_, []};
-ghost use Prim.Native.Nat.{ℕ, _+_, _-_, _*_, _/_, _%_, _^_, _≤_, _<_};
-ghost use lib.Bits.{bitOr};
-ghost use lib.ListN.{length, drop, getD};
-ghost use Rattle.model.specs.Limits.{cutLimit};
-ghost use Rattle.base_words.specs.Layout.{Room, leftAt, rightAt};
-ghost use Rattle.base_words.specs.Record.{leavesOf, Good, Sound, cutsAt, nodeAt};
-ghost use Rattle.cut_lists.specs.Keys.{keyRoom, key, keyWords, Building, Place, Moved, added, rowKeys, crossKeys, nodeKeys, putKeys};
-ghost use Rattle.cut_lists.specs.Packs.{Digit, pack, Packed, signature, shut, Masked};
-ghost use Rattle.cut_lists.specs.Listing.{Ready, Operands, few, listed, listing, stored};
+ghost use Rattle.base.specs.{_≡_, _∷_, [], ℕ, _+_, _-_, _*_, _/_, _%_, _^_, _≤_, _<_, bitOr, length, drop, getD};
+ghost use Rattle.model.specs.{cutLimit};
+ghost use Rattle.base_words.specs.{Room, leftAt, rightAt, leavesOf, Good, Sound, cutsAt, nodeAt};
+ghost use Rattle.cut_lists.specs.{keyRoom, key, keyWords, Building, Place, Moved, added, rowKeys, crossKeys, nodeKeys, putKeys};
+ghost use Rattle.cut_lists.specs.{Digit, pack, Packed, signature, shut, Masked, Ready, Operands, few, listed, listing, stored};
 
 // Cuts being listed are keys in ascending order at the end of an array: at most one more than the limit, which then says that there are too
 // many. Pairs of cuts are taken from the last to the first, so that most keys go to the front, where few have to move.

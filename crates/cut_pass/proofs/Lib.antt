@@ -3,3 +3,5 @@
 pub mod Passes
 pub mod Places
 pub mod Whole
+pub use Places.{earlier-slot}
+pub use Whole.{enumerate-listed, enumerate-ready, enumerate-represents, enumerate-verdict}

@@ -1,21 +1,15 @@
 -- What joins the two passes of the layer:
 --     ready-filling               what `lists` leaves is what `functions` asks for
 --     after-accepted, -refused    what both leave
--- Assumes nothing.
-use mathlib.Core.Path.{_≡_, sym, ap, _∙_, subst}
-use mathlib.Core.List.{List}
-use Prim.Native.Nat.{ℕ, _/_, _≤_, _<_}
-use native.Mathlib.Omega.{arith}
-use lib.ListN.{getD}
+use Rattle.base.specs.{_≡_, sym, ap, _∙_, subst, List, ℕ, _/_, _≤_, _<_, arith, getD}
 use Rattle.model.specs.declared.Verdict.{Verdict}
 use Rattle.model.specs.declared.Verdict.the-variants.{Accepted, Refused}
-use Rattle.base_words.specs.Layout.{andKind, kindAt, slotAt, slotAddr, placeAt, kindAddr, leftAddr, rightAddr, countsFrom}
+use Rattle.base_words.specs.{andKind, kindAt, slotAt, slotAddr, placeAt, kindAddr, leftAddr, rightAddr, countsFrom}
+use Rattle.cut_lists.proofs.{Held, all-held}
+use Rattle.cut_functions.proofs.{placed-kept, same-place}
+use Rattle.cut_pass.specs.{Ready, filledAfter, enumerated}
 use Rattle.cut_lists.specs.Listing as lists
-use Rattle.cut_lists.proofs.Listings.{Held}
-use Rattle.cut_lists.proofs.Model.{all-held}
 use Rattle.cut_functions.specs.Filling as filling
-use Rattle.cut_functions.proofs.Walks.{placed-kept, same-place}
-use Rattle.cut_pass.specs.Enumerated.{Ready, filledAfter, enumerated}
 
 pub ready-filling : (w : List ℕ) (m n : ℕ) → Ready w m n → filling.Ready (lists.stored w m (lists.listing w m n .known)) m n
 ready-filling w m n r =

@@ -2,27 +2,18 @@
 --     and-placed, operands-in     an AND and its operands' variables are placed
 --     place-of                    a variable's place is 1 and its index in the placing order
 --     placed, earlier-slot        what the walks over cones ask for
--- Assumes nothing.
-use mathlib.Core.Path.{_≡_, refl, sym, ap, _∙_, subst}
-use mathlib.Core.Logic.{_⊎_, inl, inr}
-use mathlib.Core.List.{List, [], _∷_, _++_, append-assoc, List·Memᴰ, List·Memᴰ·head, List·Memᴰ·tail, List·Memᴰ·not-nil, List·Memᴰ·append-cases, Memᴰ·append-right}
-use Prim.Native.Nat.{ℕ, _+_, _/_, _≤_, _<_}
-use native.Mathlib.Omega.{arith}
-use lib.ListN.{length, getD, length-append}
-use lib.Seq.{getD-append-add}
-use Rattle.model.specs.Graph.{Graph, And, node, both, varOf, placingOrder, andVars}
-use Rattle.model.specs.Demands.{Distinct}
+use Rattle.base.specs.{_≡_, refl, sym, ap, _∙_, subst, _⊎_, inl, inr, List, [], _∷_, _++_, append-assoc, List·Memᴰ, List·Memᴰ·head}
+use Rattle.base.specs.{List·Memᴰ·tail, List·Memᴰ·not-nil, List·Memᴰ·append-cases, Memᴰ·append-right, ℕ, _+_, _/_, _≤_, _<_, arith, length}
+use Rattle.base.specs.{getD, length-append, getD-append-add}
+use Rattle.model.specs.Graph.{Graph}
+use Rattle.model.specs.{And, node, both, varOf, placingOrder, andVars, Distinct}
 use Rattle.theory_graph.specs.Accepted.{Accepted}
-use Rattle.theory_graph.proofs.Lists.{map-in, each-in}
-use Rattle.theory_graph.proofs.Placing.{order-once, defined-placed}
-use Rattle.theory_graph.proofs.Values.{Found, node-and, Closed, order-closed, operands-before}
-use Rattle.theory_order.proofs.Splits.{split-at}
-use Rattle.base_words.specs.Layout.{andKind, kindAt, leftAt, rightAt, slotAt, placeAt}
-use Rattle.base_words.specs.Record.{nodeOf, nodeAt}
+use Rattle.theory_graph.proofs.{map-in, each-in, order-once, defined-placed, Found, node-and, Closed, order-closed, operands-before}
+use Rattle.theory_order.proofs.{split-at}
+use Rattle.base_words.specs.{andKind, kindAt, leftAt, rightAt, slotAt, placeAt, nodeOf, nodeAt}
 use Rattle.cut_lists.specs.Represents.{Represents}
-use Rattle.cut_lists.proofs.Model.{slot-inside}
-use Rattle.cut_functions.specs.Table.{Placed}
-use Rattle.cut_functions.specs.Filling.{Earlier}
+use Rattle.cut_lists.proofs.{slot-inside}
+use Rattle.cut_functions.specs.{Placed, Earlier}
 
 -- an AND of an accepted graph
 module _ (g : Graph) (ok : Accepted g) (v l r : ℕ) (e : node g v ≡ both l r) where

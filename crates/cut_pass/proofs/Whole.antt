@@ -3,34 +3,26 @@
 --     enumerate-verdict           its answer is `cutsVerdict`
 --     enumerate-listed            without a refusal the words hold the cuts of `model` and their functions, and all else stays
 --     enumerate-represents        the words go on representing the graph
--- Assumes nothing.
-use mathlib.Core.Path.{_≡_, refl, sym, ap, _∙_, subst}
-use mathlib.Core.List.{List, [], _∷_, map, List·Memᴰ}
-use Prim.Native.Nat.{ℕ, zero, suc, _+_, _≤_, _<_}
-use native.Mathlib.Omega.{arith}
-use lib.ListN.{length, getD, length-append}
-use lib.Seq.{getD-append-add}
-use Rattle.model.specs.Graph.{Graph, placingOrder}
-use Rattle.model.specs.Cuts.{cutsOf, cutAt, cutTable}
-use Rattle.model.specs.Netlist.{cutsVerdict}
+use Rattle.base.specs.{_≡_, refl, sym, ap, _∙_, subst, List, [], _∷_, map, List·Memᴰ, ℕ, zero, suc, _+_, _≤_, _<_, arith, length, getD}
+use Rattle.base.specs.{length-append, getD-append-add}
+use Rattle.model.specs.Graph.{Graph}
+use Rattle.model.specs.{placingOrder, cutsOf, cutAt, cutTable, cutsVerdict}
 use Rattle.model.specs.declared.Verdict.the-variants.{Accepted}
-use Rattle.theory_graph.specs.Accepted as accepted
-use Rattle.theory_graph.proofs.CutFacts.{cuts-none, length-order}
-use Rattle.theory_order.proofs.Splits.{by-elem, split-at}
-use Rattle.base_words.specs.Layout.{slotAt, placeAt, countAt, listsTo}
-use Rattle.base_words.specs.Record.{cutsAt, functionOf}
-use Rattle.base_words.proofs.Stored.{count-listed}
-use Rattle.cut_lists.specs.Listing as lists
-use Rattle.cut_lists.specs.Represents.{Represents, Uncut}
-use Rattle.cut_lists.proofs.Listings.{Held}
-use Rattle.cut_lists.proofs.Model.{represents-kept, ready-listing, all-held, verdict-model, cuts-of}
-use Rattle.cut_functions.specs.Filling as filling
-use Rattle.cut_functions.proofs.Fills.{Under, under-cuts, under-sound, filled-under, filled-low, filled-above, filled-word}
-use Rattle.cut_functions.proofs.Meaning.{functions-of}
-use Rattle.cut_pass.specs.Enumerated.{Ready, enumerated}
+use Rattle.theory_graph.proofs.{cuts-none, length-order}
+use Rattle.theory_order.proofs.{by-elem, split-at}
+use Rattle.base_words.specs.{slotAt, placeAt, countAt, listsTo, cutsAt, functionOf}
+use Rattle.base_words.proofs.{count-listed}
+use Rattle.cut_lists.specs.Represents.{Represents}
+use Rattle.cut_lists.specs.{Uncut}
+use Rattle.cut_lists.proofs.{Held, represents-kept, ready-listing, all-held, verdict-model, cuts-of}
+use Rattle.cut_functions.proofs.{Under, under-cuts, under-sound, filled-under, filled-low, filled-above, filled-word, functions-of}
+use Rattle.cut_pass.specs.{Ready, enumerated}
 use Rattle.cut_pass.specs.Listed.{Listed}
 use Rattle.cut_pass.proofs.Passes.{ready-filling, after-accepted}
 use Rattle.cut_pass.proofs.Places.{place-of, placed, earlier-slot}
+use Rattle.theory_graph.specs.Accepted as accepted
+use Rattle.cut_lists.specs.Listing as lists
+use Rattle.cut_functions.specs.Filling as filling
 
 module _ (w : List ℕ) (m n : ℕ) (g : Graph) (rep : Represents w m n g) (ok : accepted.Accepted g) (fresh : Uncut w m) where
   pub enumerate-ready : Ready w m n

@@ -1,14 +1,10 @@
 -- What the cut layer asks of the words and what it leaves: the cut lists, and then the functions of the cuts, unless there are too many.
--- Assumes nothing.
-use mathlib.Core.Path.{_≡_}
-use mathlib.Core.List.{List}
-use Prim.Native.Nat.{ℕ, _/_, _<_}
+use Rattle.base.specs.{_≡_, List, ℕ, _/_, _<_}
 use Rattle.model.specs.declared.Verdict.{Verdict}
 use Rattle.model.specs.declared.Verdict.the-variants.{Accepted, Refused}
-use Rattle.base_words.specs.Layout.{andKind, kindAt, leftAt, rightAt, placeAt, slotAt}
+use Rattle.base_words.specs.{andKind, kindAt, leftAt, rightAt, placeAt, slotAt}
+use Rattle.cut_functions.specs.{Placed, Earlier, filled}
 use Rattle.cut_lists.specs.Listing as lists
-use Rattle.cut_functions.specs.Table.{Placed}
-use Rattle.cut_functions.specs.Filling.{Earlier, filled}
 
 -- the words hold a placed graph of which n variables are placed, each AND behind its operands, and no cuts
 pub record Ready (w : List ℕ) (m n : ℕ) : Type 0 where

@@ -1,12 +1,8 @@
--- What the cut layer leaves where no variable has too many cuts, in terms of `model`. Assumes nothing.
-use mathlib.Core.Path.{_≡_}
-use mathlib.Core.List.{List}
-use Prim.Native.Nat.{ℕ, _≤_, _<_}
-use lib.ListN.{length, getD}
+-- What the cut layer leaves where no variable has too many cuts, in terms of `model`.
+use Rattle.base.specs.{_≡_, List, ℕ, _≤_, _<_, length, getD}
 use Rattle.model.specs.Graph.{Graph}
-use Rattle.model.specs.Cuts.{cutsOf, cutAt, cutTable}
-use Rattle.base_words.specs.Layout.{countsFrom, countsTo, listsFrom, outputAddr}
-use Rattle.base_words.specs.Record.{cutsAt, functionOf, Sound}
+use Rattle.model.specs.{cutsOf, cutAt, cutTable}
+use Rattle.base_words.specs.{countsFrom, countsTo, listsFrom, outputAddr, cutsAt, functionOf, Sound}
 
 -- the words `out` are those of w with the cuts of g and their functions. All other words stay: kind to place, needed, free, both phases, and from the outputs on
 pub record Listed (w : List ℕ) (m : ℕ) (g : Graph) (out : List ℕ) : Type 0 where

@@ -1,10 +1,10 @@
 // Layer three: the cut lists of all placed variables and the functions of their cuts, or refusal 16.
 use model::Header;
 use model::Verdict;
-ghost use mathlib.Core.Path.{_≡_};
-ghost use Rattle.base_words.specs.Layout.{placedOf};
-ghost use Rattle.cut_lists.specs.Listing.{listing};
-ghost use Rattle.cut_pass.specs.Enumerated.{Ready, enumerated};
+ghost use Rattle.base.specs.{_≡_};
+ghost use Rattle.base_words.specs.{placedOf};
+ghost use Rattle.cut_lists.specs.{listing};
+ghost use Rattle.cut_pass.specs.{Ready, enumerated};
 
 // "16. An AND, used or not, has more than 18 cuts; place, the first such variable in placing order."
 pub fn enumerate(work: &mut [u16], h: Header) -> Verdict

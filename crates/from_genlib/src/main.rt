@@ -1,8 +1,7 @@
 // The program: `cells.genlib` of the current folder converted, our cell text or one line of `refused`, number and place printed.
 use model::Written;
 use program_files::Loaded;
-ghost use mathlib.Core.Path.{_≡_};
-ghost use lib.ListN.{length};
+ghost use Rattle.base.specs.{_≡_, length};
 
 // It lends 65,536 bytes.
 fn convert_file(genlib: &[u8], text: &mut [u8])

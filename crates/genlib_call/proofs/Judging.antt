@@ -4,27 +4,18 @@
 --     gate-found, no-area, no-delays       24
 --     sized-many, sized-deep, sized-fits   23
 --     at-unended, at-broken, at-formed     22
--- Assumes nothing.
-use mathlib.Core.Path.{_≡_, refl, sym, ap, ap₂, _∙_}
-use mathlib.Core.Bool.{Bool, true, false, cond, _&&_}
-use mathlib.Core.Option.{Option, none, some}
-use mathlib.Core.List.{List, [], _∷_, map}
-use Prim.Native.Nat.{ℕ, _+_, _-_, _^_, _≤_, _<_}
-use native.Mathlib.Omega.{arith}
-use lib.Dec.{leb, ltb}
-use lib.ListN.{length, take, drop, getD, length-drop}
-use lib.Seq.{length-take-le, take-take, take-add, drop-at, drop-drop}
-use borrow.Author.Tests.{ltb-false, lt-ltb, le-ltb, le-leb, lt-leb}
-use Rattle.model.specs.Base.{all, keep, andThen}
-use Rattle.model.specs.Text.{Line, ended}
-use Rattle.model.specs.Reading.{Read, fault, unless, from?}
-use Rattle.model.specs.GenlibWords.{tokens, thousandths}
-use Rattle.model.specs.GenlibFormula.{isPin, pinsOf, nameValue, valueOf, rowBits, shallow}
-use Rattle.model.specs.Genlib.{Gate, Group, isGateLine, isPinLine, lineIs, lineTokens, formulaOf, hasLine, pinDelay, delaysOf, gateFrom, gateOf, tableOf, grouped, groupFormed, groupSmall, readGroup}
-use Rattle.base_text.specs.Lines.{lineAt}
-use Rattle.genlib_expression.specs.Places.{part}
-use Rattle.genlib_groups.specs.Lines.{linesOf, linesBehind, pinHas, delayFor, groupIs, groupAt}
-use Rattle.genlib_call.specs.Gates.{gateOption, Only24, judgedRead, sizedRead, InLine}
+use Rattle.base.specs.{_≡_, refl, sym, ap, ap₂, _∙_, Bool, true, false, cond, _&&_, Option, none, some, List, [], _∷_, map, ℕ, _+_, _-_}
+use Rattle.base.specs.{_^_, _≤_, _<_, arith, leb, ltb, length, take, drop, getD, length-drop, length-take-le, take-take, take-add, drop-at}
+use Rattle.base.specs.{drop-drop, ltb-false, lt-ltb, le-ltb, le-leb, lt-leb}
+use Rattle.model.specs.{all, keep, andThen, Line, ended, Read, fault, unless, from?, tokens, thousandths, isPin, pinsOf, nameValue, rowBits}
+use Rattle.model.specs.{shallow, Group, isGateLine, isPinLine, lineIs, lineTokens, formulaOf, hasLine, pinDelay, delaysOf, gateFrom}
+use Rattle.model.specs.{tableOf, grouped, groupFormed, groupSmall, readGroup}
+use Rattle.model.specs.GenlibFormula.{valueOf}
+use Rattle.model.specs.Genlib.{Gate, gateOf}
+use Rattle.base_text.specs.{lineAt}
+use Rattle.genlib_expression.specs.{part}
+use Rattle.genlib_groups.specs.{linesOf, linesBehind, pinHas, delayFor, groupIs, groupAt}
+use Rattle.genlib_call.specs.{gateOption, Only24, judgedRead, sizedRead, InLine}
 use Rattle.genlib_call.specs.declared.Judged.{Judged}
 use Rattle.genlib_call.specs.declared.Judged.the-variants.{Cell, Refused}
 

@@ -5,28 +5,17 @@
 --     too-long, refused, over, fine    what the call writes: 1; 22 to 24; 18; the text
 --     refuses, writes                  its answer and the memory after it
 --     length-within                    a length that it answers is within the memory
--- Assumes nothing.
-use mathlib.Core.Path.{_≡_, refl, sym, ap, _∙_}
-use mathlib.Core.Bool.{Bool, true, false}
-use mathlib.Core.List.{List, [], _∷_, _++_, append-nil}
-use Prim.Native.Nat.{ℕ, _+_, _≤_, _<_}
-use native.Mathlib.Nat.{add-zero}
-use native.Mathlib.Omega.{arith}
-use lib.Dec.{leb}
-use lib.ListN.{length, drop, length-append}
-use borrow.Author.Tests.{leb-true, le-leb, lt-leb}
-use Rattle.model.specs.Base.{each}
-use Rattle.model.specs.Text.{Line, text, linesFrom}
-use Rattle.model.specs.Reading.{Read, holds, fault, next, unless}
-use Rattle.model.specs.Genlib.{Gate, Group, grouped, groups, readGroup, readGroups, readGenlib, gateText, cellsText, genlibText, writtenAnswer, writtenAfter}
+use Rattle.base.specs.{_≡_, refl, sym, ap, _∙_, Bool, true, false, List, [], _∷_, _++_, append-nil, ℕ, _+_, _≤_, _<_, add-zero, arith, leb}
+use Rattle.base.specs.{length, drop, length-append, leb-true, le-leb, lt-leb}
+use Rattle.model.specs.{each, Line, text, linesFrom, Read, holds, fault, next, unless, Group, grouped, groups, readGroup, readGroups}
+use Rattle.model.specs.{readGenlib, gateText, cellsText, genlibText, writtenAnswer, writtenAfter}
+use Rattle.model.specs.Genlib.{Gate}
 use Rattle.model.specs.declared.Written.the-variants.{Length, Refused}
-use Rattle.base_text.specs.Lines.{lineAt, spanAt}
-use Rattle.base_text.specs.Writing.{Wrote}
-use Rattle.base_text.proofs.Bridge.{lines-none}
-use Rattle.base_text.proofs.Progress.{put-front}
-use Rattle.genlib_groups.specs.Lines.{linesOf, groupAt}
-use Rattle.genlib_groups.proofs.LineLaws.{bounded}
-use Rattle.genlib_call.specs.Passes.{measured, found, lineOf, linesFor, textFor}
+use Rattle.base_text.specs.{lineAt, spanAt, Wrote}
+use Rattle.base_text.proofs.{lines-none, put-front}
+use Rattle.genlib_groups.specs.{linesOf, groupAt}
+use Rattle.genlib_groups.proofs.{bounded}
+use Rattle.genlib_call.specs.{measured, found, lineOf, linesFor, textFor}
 
 -- ---- groups
 

@@ -1,18 +1,10 @@
--- What the functions that judge a gate answer. Assumes nothing.
-use Prim.Native.Nat.{ℕ, _+_, _≤_}
-use mathlib.Core.Path.{_≡_}
-use mathlib.Core.Bool.{_&&_}
-use mathlib.Core.Option.{Option, none, some}
-use mathlib.Core.List.{List, [], _∷_}
-use lib.Dec.{leb}
-use lib.ListN.{length, drop}
-use Rattle.model.specs.Reading.{Read, holds, fault, unless, from?}
-use Rattle.model.specs.GenlibWords.{tokens}
-use Rattle.model.specs.GenlibFormula.{pinsOf, shallow}
-use Rattle.model.specs.Genlib.{Gate, gateFrom}
-use Rattle.genlib_celltext.specs.Gates.{gateIn, Stands}
-use Rattle.genlib_expression.specs.Places.{part, namesAt}
+-- What the functions that judge a gate answer.
+use Rattle.base.specs.{ℕ, _+_, _≤_, _≡_, _&&_, Option, none, some, List, [], _∷_, leb, length, drop}
+use Rattle.model.specs.{Read, holds, fault, unless, from?, tokens, pinsOf, shallow, gateFrom}
+use Rattle.model.specs.Genlib.{Gate}
+use Rattle.genlib_expression.specs.{part, namesAt}
 use Rattle.genlib_expression.specs.declared.Pins.{Pins}
+use Rattle.genlib_celltext.specs.{gateIn, Stands}
 use Rattle.genlib_call.specs.declared.Delays.{Delays}
 use Rattle.genlib_call.specs.declared.Delays.the-variants.{Four, Broken}
 use Rattle.genlib_call.specs.declared.Judged.{Judged}

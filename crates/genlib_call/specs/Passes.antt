@@ -1,11 +1,7 @@
--- What the two passes over the groups of a text find: how long the cell text is, and its lines. Assumes nothing.
-use Prim.Native.Nat.{ℕ, _+_}
-use mathlib.Core.List.{List, [], _∷_, _++_}
-use lib.ListN.{length}
-use Rattle.model.specs.Base.{each}
-use Rattle.model.specs.Text.{text, linesFrom}
-use Rattle.model.specs.Reading.{Read, holds, fault}
-use Rattle.model.specs.Genlib.{Gate, Group, groups, readGroup, gateText}
+-- What the two passes over the groups of a text find: how long the cell text is, and its lines.
+use Rattle.base.specs.{ℕ, _+_, List, [], _∷_, _++_, length}
+use Rattle.model.specs.{each, text, linesFrom, Read, holds, fault, Group, groups, readGroup, gateText}
+use Rattle.model.specs.Genlib.{Gate}
 use Rattle.model.specs.declared.Written.{Written}
 use Rattle.model.specs.declared.Written.the-variants.{Length, Refused}
 

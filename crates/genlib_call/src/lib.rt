@@ -1,18 +1,14 @@
 // A genlib text, converted: our cell text written into lent text memory, or the first refusal of 1, 22 to 24 and 18.
 // Two passes judge each group by the same function: the first measures, the second writes, so that "a refusal leaves it unchanged" and no group is stored.
-ghost use mathlib.Core.Path.{_≡_};
-ghost use Prim.Native.Nat.{_+_, _≤_, _<_};
-ghost use lib.ListN.{length};
-ghost use Rattle.model.specs.GenlibWords.{tokens};
-ghost use Rattle.model.specs.Genlib.{pinDelay, delaysOf, gateFrom, groups, readGroup, readGenlib, genlibText, writtenAnswer, writtenPair, writtenBy};
-ghost use Rattle.model.specs.Genlib.{writtenAfter};
-ghost use Rattle.model.specs.GenlibDemands.{GenlibDemand};
-ghost use Rattle.theory_foundry.specs.GateRefusals.{GenlibRefusals};
-ghost use Rattle.base_text.specs.Writing.{Wrote};
-ghost use Rattle.genlib_expression.specs.Places.{namesAt};
-ghost use Rattle.genlib_groups.specs.Lines.{valueIn, linesOf, linesBehind, groupAt};
-ghost use Rattle.genlib_call.specs.Gates.{delaysIn, GateIs, gateOption, Only24, judgedRead, sizedRead, InLine, Few};
-ghost use Rattle.genlib_call.specs.Passes.{measured, lineOf, linesFor, textFor};
+ghost use Rattle.base.specs.{_≡_, _+_, _≤_, _<_, length};
+ghost use Rattle.model.specs.{tokens, pinDelay, delaysOf, gateFrom, groups, readGroup, readGenlib, genlibText, writtenAnswer, writtenPair};
+ghost use Rattle.model.specs.{writtenBy, writtenAfter, GenlibDemand};
+ghost use Rattle.theory_foundry.specs.{GenlibRefusals};
+ghost use Rattle.base_text.specs.{Wrote};
+ghost use Rattle.genlib_expression.specs.{namesAt};
+ghost use Rattle.genlib_groups.specs.{valueIn, linesOf, linesBehind, groupAt};
+ghost use Rattle.genlib_call.specs.{delaysIn, GateIs, gateOption, Only24, judgedRead, sizedRead, InLine, Few, measured, lineOf};
+ghost use Rattle.genlib_call.specs.{linesFor, textFor};
 use base_text::Value;
 use genlib_celltext::Gate;
 use genlib_expression::Pins;

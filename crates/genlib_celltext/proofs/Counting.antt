@@ -1,18 +1,10 @@
 -- The parts of a gate's line in the order in which they are written, and their lengths.
--- Assumes nothing.
-use mathlib.Core.Path.{_≡_, refl, sym, ap, _∙_}
-use mathlib.Core.List.{List, [], _∷_, _++_, append-assoc}
-use Prim.Native.Nat.{ℕ, _+_, _-_, _≤_, _<_}
-use native.Mathlib.Numerals.{add-one}
-use native.Mathlib.Omega.{arith}
-use lib.ListN.{length, drop, length-append, length-drop}
-use lib.Seq.{length-take-le}
-use Rattle.model.specs.Base.{each}
-use Rattle.model.specs.Text.{decimal}
-use Rattle.model.specs.Genlib.{hexText, numberText, gateText}
-use Rattle.base_text.proofs.Decimal.{dec-below}
+use Rattle.base.specs.{_≡_, refl, sym, ap, _∙_, List, [], _∷_, _++_, append-assoc, ℕ, _+_, _-_, _≤_, _<_, add-one, arith, length, drop}
+use Rattle.base.specs.{length-append, length-drop, length-take-le}
+use Rattle.model.specs.{each, decimal, hexText, numberText, gateText}
+use Rattle.base_text.proofs.{dec-below}
 use Rattle.genlib_celltext.specs.declared.Gate.{Gate}
-use Rattle.genlib_celltext.specs.Gates.{delaysOf, nameIn, gateIn, Stands}
+use Rattle.genlib_celltext.specs.{delaysOf, nameIn, gateIn, Stands}
 
 -- ---- a field
 

@@ -1,7 +1,5 @@
--- The gate that is written, as `model` has it. Assumes nothing.
-use Prim.Native.Nat.{ℕ, _-_, _≤_}
-use mathlib.Core.List.{List, [], _∷_}
-use lib.ListN.{length, take, drop}
+-- The gate that is written, as `model` has it.
+use Rattle.base.specs.{ℕ, _-_, _≤_, List, [], _∷_, length, take, drop}
 use Rattle.model.specs.Genlib.{Gate}
 use Rattle.genlib_celltext.specs.declared.Gate.{Gate as GateFound}
 

@@ -1,12 +1,8 @@
 // A gate of a genlib text as a line of our cell text: "cell pins table area d0 d1 d2 d3". How long it is, and its bytes.
-ghost use mathlib.Core.Path.{_≡_};
-ghost use mathlib.Core.List.{List, _∷_, [], _++_};
-ghost use Prim.Native.Nat.{ℕ, _+_, _≤_, _<_};
-ghost use lib.ListN.{length};
-ghost use Rattle.model.specs.Base.{each};
-ghost use Rattle.model.specs.Genlib.{hexByte, hexText, numberText, gateText};
-ghost use Rattle.base_text.specs.Writing.{Wrote};
-ghost use Rattle.genlib_celltext.specs.Gates.{delaysOf, gateIn, Stands};
+ghost use Rattle.base.specs.{_≡_, List, _∷_, [], _++_, ℕ, _+_, _≤_, _<_, length};
+ghost use Rattle.model.specs.{each, hexByte, hexText, numberText, gateText};
+ghost use Rattle.base_text.specs.{Wrote};
+ghost use Rattle.genlib_celltext.specs.{delaysOf, gateIn, Stands};
 
 // What is written of a gate. Its name is the bytes of the genlib text from `from` to `to`.
 pub struct Gate {

@@ -6,3 +6,8 @@ pub mod Walk
 pub mod Scanning
 pub mod Pinning
 pub mod Values
+pub use Spans.{span-all, span-from, span-le, span-out, span-part, span-passes, span-past, span-short, span-step, span-stop, span-take}
+pub use Tokens.{lead-part}
+pub use Walk.{all-turn, nothing-left, step}
+pub use Scanning.{lead-none}
+pub use Pinning.{length-names, name-of}

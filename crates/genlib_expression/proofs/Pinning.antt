@@ -1,22 +1,12 @@
--- Laws of the list of pins. Assumes nothing.
-use Prim.Native.Nat.{ℕ, zero, suc, _+_, _-_, _≤_, _<_}
-use native.Mathlib.Nat.{add-zero}
-use native.Mathlib.Numerals.{add-one}
-use native.Mathlib.Omega.{arith}
-use mathlib.Core.Path.{_≡_, refl, sym, ap, _∙_}
-use mathlib.Core.Bool.{Bool, true, false, cond, _||_}
-use mathlib.Core.List.{List, [], _∷_, _++_, map, map-append}
-use lib.Dec.{ltb}
-use lib.ListN.{length, drop, getD, length-map, length-append}
-use lib.Seq.{getD-set-same, getD-set-other}
-use borrow.Author.Tests.{lt-ltb, le-ltb, ltb-true, ltb-false}
-use Rattle.model.specs.Base.{from, below, any, same}
-use Rattle.model.specs.GenlibWords.{isWord, isWordByte, span}
-use Rattle.model.specs.GenlibFormula.{isPin, withName, addPins, indexOf}
-use Rattle.base_text.proofs.Bytes.{and-left}
+-- Laws of the list of pins.
+use Rattle.base.specs.{ℕ, zero, suc, _+_, _-_, _≤_, _<_, add-zero, add-one, arith, _≡_, refl, sym, ap, _∙_, Bool, true, false, cond, _||_}
+use Rattle.base.specs.{List, [], _∷_, _++_, map, map-append, ltb, length, drop, getD, length-map, length-append, getD-set-same}
+use Rattle.base.specs.{getD-set-other, lt-ltb, le-ltb, ltb-true, ltb-false}
+use Rattle.model.specs.{from, below, any, same, isWord, isWordByte, span, isPin, withName, addPins, indexOf}
+use Rattle.base_text.proofs.{and-left}
 use Rattle.genlib_expression.specs.declared.Token.{Token}
 use Rattle.genlib_expression.specs.declared.Pins.{Pins}
-use Rattle.genlib_expression.specs.Places.{tokenAt, restAt, part, pickL, partsAt, nameAt, namesAt, pushed, addPin, pinsFrom}
+use Rattle.genlib_expression.specs.{tokenAt, restAt, part, pickL, partsAt, nameAt, namesAt, pushed, addPin, pinsFrom}
 use Rattle.genlib_expression.proofs.Walk.{Step}
 
 ltb-suc : (m n : ℕ) → ltb (suc m) (suc n) ≡ ltb m n

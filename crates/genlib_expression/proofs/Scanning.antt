@@ -1,21 +1,12 @@
--- Laws of the scan of an expression, token by token. Assumes nothing.
-use Prim.Native.Nat.{ℕ, suc, _+_, _-_, _≤_, _<_}
-use native.Mathlib.Omega.{arith}
-use mathlib.Core.Path.{_≡_, refl, sym, ap, _∙_}
-use mathlib.Core.Bool.{Bool, true, false, cond, _&&_, _||_}
-use mathlib.Core.List.{List, [], _∷_}
-use lib.Dec.{eqb, ltb}
-use lib.ListN.{length, drop, getD}
-use lib.Seq.{drop-cons}
-use native.Mathlib.Numerals.{add-one}
-use borrow.Author.Tests.{lt-ltb, le-ltb, ltb-true, ltb-false, le-leb, lt-leb, eqb-true}
-use Rattle.model.specs.Text.{isNameByte, isLetter, between}
-use Rattle.model.specs.GenlibWords.{isSign, isWord, lead, isBlank, isWordByte, startsWord, span, tokens}
-use Rattle.model.specs.GenlibFormula.{scanDue, scanAfter, scanToken, scan, opened, shallow}
+-- Laws of the scan of an expression, token by token.
+use Rattle.base.specs.{ℕ, suc, _+_, _-_, _≤_, _<_, arith, _≡_, refl, sym, ap, _∙_, Bool, true, false, cond, _&&_, _||_, List, [], _∷_, eqb}
+use Rattle.base.specs.{ltb, length, drop, getD, drop-cons, add-one, lt-ltb, le-ltb, ltb-true, ltb-false, le-leb, lt-leb, eqb-true}
+use Rattle.model.specs.{isNameByte, isLetter, between, isSign, isWord, lead, isBlank, isWordByte, startsWord, span, tokens, scanDue}
+use Rattle.model.specs.{scanAfter, scanToken, scan, opened, shallow}
 use Rattle.model.specs.declared.Scan.{Scan}
 use Rattle.model.specs.declared.Scan.the-variants.{Due, After, Done, Broken}
 use Rattle.genlib_expression.specs.declared.Token.{Token}
-use Rattle.genlib_expression.specs.Places.{restAt, part, pickL, partsAt, dueStep, closeStep, endStep, afterStep, scanStep, depthOf, openedBy}
+use Rattle.genlib_expression.specs.{restAt, part, pickL, partsAt, dueStep, closeStep, endStep, afterStep, scanStep, depthOf, openedBy}
 use Rattle.genlib_expression.proofs.Tokens.{lead-part, tokens-blank, tokens-sign, tokens-word}
 use Rattle.genlib_expression.proofs.Walk.{Step}
 

@@ -1,18 +1,9 @@
--- Laws of the longest beginning of which every byte passes a test, by places. Assumes nothing.
-use Prim.Native.Nat.{ℕ, suc, _+_, _-_, _≤_, _<_}
-use native.Mathlib.Nat.{add-zero, le-of-lt}
-use native.Mathlib.Numerals.{add-one}
-use native.Mathlib.Omega.{arith}
-use mathlib.Core.Path.{_≡_, refl, sym, ap, _∙_}
-use mathlib.Core.Bool.{Bool, true, false, not, cond, _&&_}
-use mathlib.Core.List.{List, [], _∷_}
-use lib.Dec.{eqb, ltb, eqb·suc-suc}
-use borrow.Author.Tests.{eq-eqb, ne-eqb, ltb-true, ltb-false}
-use lib.ListN.{length, take, drop, getD, length-drop, drop-of-length-le}
-use lib.Seq.{drop-cons, getD-drop, drop-drop}
-use Rattle.model.specs.Base.{all, same}
-use Rattle.model.specs.GenlibWords.{span}
-use Rattle.genlib_expression.specs.Places.{spanEnd}
+-- Laws of the longest beginning of which every byte passes a test, by places.
+use Rattle.base.specs.{ℕ, suc, _+_, _-_, _≤_, _<_, add-zero, le-of-lt, add-one, arith, _≡_, refl, sym, ap, _∙_, Bool, true, false, not}
+use Rattle.base.specs.{cond, _&&_, List, [], _∷_, eqb, ltb, eqb·suc-suc, eq-eqb, ne-eqb, ltb-true, ltb-false, length, take, drop, getD}
+use Rattle.base.specs.{length-drop, drop-of-length-le, drop-cons, getD-drop, drop-drop}
+use Rattle.model.specs.{all, same, span}
+use Rattle.genlib_expression.specs.{spanEnd}
 
 module _ (p : ℕ → Bool) where
   pub span-short : (l : List ℕ) → length (span p l) ≤ length l

@@ -1,18 +1,8 @@
--- The token at a place is the first of the line's tokens from there on. Assumes nothing.
-use Prim.Native.Nat.{ℕ, suc, _+_, _-_, _≤_, _<_}
-use native.Mathlib.Numerals.{add-one}
-use native.Mathlib.Omega.{arith}
-use mathlib.Core.Path.{_≡_, refl, sym, ap, _∙_}
-use mathlib.Core.Bool.{Bool, true, false, cond, _&&_, _||_}
-use mathlib.Core.List.{List, [], _∷_}
-use lib.Dec.{eqb, ltb}
-use lib.ListN.{length, drop, getD, drop-of-length-le}
-use lib.Seq.{drop-cons}
-use borrow.Author.Tests.{lt-ltb, le-ltb, ltb-true, ltb-false, eqb-true}
-use Rattle.model.specs.Text.{isNameByte, isLetter, between, onto}
-use Rattle.model.specs.GenlibWords.{isBlank, isWordByte, startsWord, placed, tokens, span, lead, isSign}
-use Rattle.model.specs.GenlibFormula.{begins}
-use Rattle.genlib_expression.specs.Places.{spanEnd, endAt, fromAt, behindAt, restAt, part}
+-- The token at a place is the first of the line's tokens from there on.
+use Rattle.base.specs.{ℕ, suc, _+_, _-_, _≤_, _<_, add-one, arith, _≡_, refl, sym, ap, _∙_, Bool, true, false, cond, _&&_, _||_, List, []}
+use Rattle.base.specs.{_∷_, eqb, ltb, length, drop, getD, drop-of-length-le, drop-cons, lt-ltb, le-ltb, ltb-true, ltb-false, eqb-true}
+use Rattle.model.specs.{isNameByte, isLetter, between, onto, isBlank, isWordByte, startsWord, placed, tokens, span, lead, isSign, begins}
+use Rattle.genlib_expression.specs.{spanEnd, endAt, fromAt, behindAt, restAt, part}
 use Rattle.genlib_expression.proofs.Spans.{span-from, span-le, span-part, span-end, span-step, span-drop}
 
 -- ---- one byte in front of a line

@@ -1,22 +1,13 @@
--- The steps of the expression's readers: signs that turn a value, names, brackets, and parts with a sign between them. Assumes nothing.
-use Prim.Native.Nat.{ℕ, zero, suc, _+_, _-_, _≤_, _<_}
-use native.Mathlib.Numerals.{add-one, sub-one}
-use native.Mathlib.Omega.{arith}
-use mathlib.Core.Path.{_≡_, refl, sym, ap, subst, _∙_}
-use mathlib.Core.Bool.{Bool, true, false, not, cond}
-use mathlib.Core.Option.{none, some}
-use mathlib.Core.List.{List, [], _∷_, map}
-use lib.Dec.{ltb}
-use lib.ListN.{length, drop}
-use borrow.Author.Tests.{ltb-true, ltb-false}
-use Rattle.model.specs.Base.{bit, from, same, flip, andThen}
-use Rattle.model.specs.GenlibWords.{isBlank, isSign, isWord, isEmpty}
-use Rattle.model.specs.GenlibFormula.{Taken, begins, turns, chain, quoted, closeBracket, named, atom, factorOf, sumOf, within, indexOf}
-use Rattle.model.specs.Table.{value}
-use Rattle.base_truth.proofs.Tables.{value-complement}
+-- The steps of the expression's readers: signs that turn a value, names, brackets, and parts with a sign between them.
+use Rattle.base.specs.{ℕ, zero, suc, _+_, _-_, _≤_, _<_, add-one, sub-one, arith, _≡_, refl, sym, ap, subst, _∙_, Bool, true, false, not}
+use Rattle.base.specs.{cond, none, some, List, [], _∷_, map, ltb, length, drop, ltb-true, ltb-false}
+use Rattle.model.specs.{bit, from, same, flip, andThen, isBlank, isSign, isWord, isEmpty, Taken, begins, turns, chain, quoted, closeBracket}
+use Rattle.model.specs.{atom, factorOf, sumOf, indexOf, value}
+use Rattle.model.specs.GenlibFormula.{named, within}
+use Rattle.base_truth.proofs.{value-complement}
 use Rattle.genlib_expression.specs.declared.Parsed.{Parsed}
 use Rattle.genlib_expression.specs.declared.Parsed.the-variants.{At, Broken}
-use Rattle.genlib_expression.specs.Places.{endAt, fromAt, restAt, takenAt, Within, part}
+use Rattle.genlib_expression.specs.{endAt, fromAt, restAt, takenAt, Within, part}
 use Rattle.genlib_expression.proofs.Spans.{span-from, span-le}
 use Rattle.genlib_expression.proofs.Tokens.{token-none, token-first, end-after, end-out}
 

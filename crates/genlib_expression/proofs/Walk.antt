@@ -1,19 +1,9 @@
--- A turn of a reader that goes from token to token: what it read is the first of the tokens that were left, or none was. Assumes nothing.
-use Prim.Native.Nat.{ℕ, _+_, _-_, _≤_, _<_}
-use native.Mathlib.Numerals.{add-one}
-use native.Mathlib.Omega.{arith}
-use mathlib.Core.Path.{_≡_, refl, sym, ap, subst, _∙_}
-use mathlib.Core.Bool.{Bool, true, false, _&&_}
-use mathlib.Core.List.{List, [], _∷_}
-use lib.Dec.{ltb}
-use lib.ListN.{length, take, drop, getD, drop-of-length-le}
-use lib.Seq.{getD-drop, drop-drop, drop-cons}
-use Rattle.model.specs.Base.{all}
-use Rattle.model.specs.Text.{isNameByte}
-use Rattle.base_text.proofs.Bytes.{and-left}
-use borrow.Author.Tests.{ltb-true, ltb-false}
-use Rattle.model.specs.GenlibWords.{isBlank, isWord, isEmpty, isWordByte, span, tokens}
-use Rattle.genlib_expression.specs.Places.{WordPart, endAt, fromAt, tokenAt, restAt, part, nthAt, Nth}
+-- A turn of a reader that goes from token to token: what it read is the first of the tokens that were left, or none was.
+use Rattle.base.specs.{ℕ, _+_, _-_, _≤_, _<_, add-one, arith, _≡_, refl, sym, ap, subst, _∙_, Bool, true, false, _&&_, List, [], _∷_, ltb}
+use Rattle.base.specs.{length, take, drop, getD, drop-of-length-le, getD-drop, drop-drop, drop-cons, ltb-true, ltb-false}
+use Rattle.model.specs.{all, isNameByte, isBlank, isWord, isEmpty, isWordByte, span, tokens}
+use Rattle.base_text.proofs.{and-left}
+use Rattle.genlib_expression.specs.{WordPart, endAt, fromAt, tokenAt, restAt, part, nthAt, Nth}
 use Rattle.genlib_expression.specs.declared.Token.{Token}
 use Rattle.genlib_expression.proofs.Spans.{span-from, span-le, span-part}
 use Rattle.genlib_expression.proofs.Tokens.{token-none, token-first, end-after, end-out, end-word, end-sign}

@@ -1,17 +1,10 @@
--- What the readers of a line find at its places. Assumes nothing.
-use Prim.Native.Nat.{ℕ, zero, suc, _+_, _-_, _≤_, _<_}
-use mathlib.Core.Path.{_≡_}
-use mathlib.Core.Bool.{Bool, true, false, cond, _&&_, _||_}
-use mathlib.Core.Option.{none, some}
-use mathlib.Core.List.{List, [], _∷_, map}
-use lib.Dec.{eqb, ltb}
-use lib.ListN.{length, take, drop, getD, set}
-use Rattle.base_text.specs.Fields.{pickN}
+-- What the readers of a line find at its places.
+use Rattle.base.specs.{ℕ, zero, suc, _+_, _-_, _≤_, _<_, _≡_, Bool, true, false, cond, _&&_, _||_, none, some, List, [], _∷_, map, eqb, ltb}
+use Rattle.base.specs.{length, take, drop, getD, set}
 use Rattle.model.specs.declared.Scan.{Scan}
 use Rattle.model.specs.declared.Scan.the-variants.{Due, After, Done, Broken as NoForm}
-use Rattle.model.specs.Base.{bit, below}
-use Rattle.model.specs.GenlibWords.{isBlank, isWordByte, isWord, tokens, span}
-use Rattle.model.specs.GenlibFormula.{Taken, isPin, indexOf}
+use Rattle.model.specs.{bit, below, isBlank, isWordByte, isWord, tokens, span, Taken, isPin, indexOf}
+use Rattle.base_text.specs.{pickN}
 use Rattle.genlib_expression.specs.declared.Token.{Token}
 use Rattle.genlib_expression.specs.declared.Pins.{Pins}
 use Rattle.genlib_expression.specs.declared.Turned.{Turned}

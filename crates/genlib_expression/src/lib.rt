@@ -1,19 +1,14 @@
 // The expression of a GATE line: its tokens, its form, its pins and its table.
-// "The expression has any number of `!` before a factor and of `'` after it, `*`, `+`, brackets, CONST0 and CONST1; a sum is made of products, a product of
-// factors, and a bracketed factor of a sum again." Its form and its value are those of the crate `model`, which reads the list of a line's tokens; here a
-// place in the line stands for the tokens from there on.
-ghost use mathlib.Core.Path.{_≡_};
-ghost use mathlib.Core.Bool.{true, _&&_, _||_};
-ghost use Prim.Native.Nat.{ℕ, _^_, _≤_, _<_};
-ghost use lib.ListN.{length, drop};
-ghost use Rattle.model.specs.Base.{bit, same, flip};
-ghost use Rattle.model.specs.Text.{isNameByte};
-ghost use Rattle.model.specs.GenlibWords.{isBlank, isWordByte, isWord, span};
-ghost use Rattle.model.specs.GenlibFormula.{shallow, scan, isDone, formed, isPin, withName, addPins, pinsOf, indexOf, nameValue, valueOf, rowBits, turns};
-ghost use Rattle.model.specs.GenlibFormula.{closeBracket, named, factorOf, productOf, sumOf, within};
-ghost use Rattle.genlib_expression.specs.Places.{Nth, partsAt, dueStep, closeStep, endStep, afterStep, scanStep, depthOf, openedBy, spanEnd, endAt};
-ghost use Rattle.genlib_expression.specs.Places.{tokenAt, behindAt, restAt, namesAt, takenAt, turnedAt, Within, pushed, Listed, WordPart, withPin, addPin};
-ghost use Rattle.genlib_expression.specs.Places.{pinsFrom, noPins};
+// "The expression has any number of `!` before a factor and of `'` after it, `*`, `+`, brackets, CONST0 and CONST1; a sum is made of products, a
+// product of factors, and a bracketed factor of a sum again." Its form and its value are those of the crate `model`, which reads the list of a
+// line's tokens; here a place in the line stands for the tokens from there on.
+ghost use Rattle.base.specs.{_≡_, true, _&&_, _||_, ℕ, _^_, _≤_, _<_, length, drop};
+ghost use Rattle.model.specs.{bit, same, flip, isNameByte, isBlank, isWordByte, isWord, span, shallow, scan, isDone, formed, isPin};
+ghost use Rattle.model.specs.{withName, addPins, pinsOf, indexOf, nameValue, rowBits, turns, closeBracket, factorOf, productOf, sumOf};
+ghost use Rattle.model.specs.GenlibFormula.{valueOf, named, within};
+ghost use Rattle.genlib_expression.specs.{Nth, partsAt, dueStep, closeStep, endStep, afterStep, scanStep, depthOf, openedBy, spanEnd};
+ghost use Rattle.genlib_expression.specs.{endAt, tokenAt, behindAt, restAt, namesAt, takenAt, turnedAt, Within, pushed, Listed};
+ghost use Rattle.genlib_expression.specs.{WordPart, withPin, addPin, pinsFrom, noPins};
 use model::Scan;
 
 // A token's place in its line.
@@ -531,8 +526,8 @@ fn name(w: &[u8], at: usize, p: Pins, odd: bool) -> Parsed
 }
 
 // "a sum is made of products, a product of factors, and a bracketed factor of a sum again": three functions in a cycle. `depth`, the brackets
-// that may still open, falls from `factor` to `sum`, so the stack is at most three calls for each of them, whatever the text; the bytes that remain fall from
-// turn to turn of each loop.
+// that may still open, falls from `factor` to `sum`, so the stack is at most three calls for each of them, whatever the text; the bytes that
+// remain fall from turn to turn of each loop.
 fn sum(w: &[u8], from: usize, p: Pins, depth: usize) -> Parsed
     requires { ⌜ (from ≤ length (now w)) × (p .n ≤ 4) ⌝ }
     ensures within { λ r. ⌜ Within from (length (now (w .entry))) r ⌝ }

@@ -1,23 +1,14 @@
--- Laws of figures, by where their digits end. Assumes nothing.
-use Prim.Native.Nat.{ℕ, zero, suc, _+_, _-_, _*_, _≤_, _<_, min}
-use native.Mathlib.Nat.{zero-add}
-use native.Mathlib.Numerals.{add-one}
-use native.Mathlib.Omega.{arith}
-use mathlib.Core.Path.{_≡_, refl, sym, ap, subst, _∙_}
-use mathlib.Core.Bool.{Bool, true, false, not}
-use mathlib.Core.List.{List, [], _∷_, _++_}
-use lib.Dec.{eqb, leb, ltb}
-use lib.ListN.{length, take, drop, getD, replicate, drop-of-length-le, length-drop}
-use lib.Seq.{drop-cons, drop-drop, getD-drop, take-suc}
-use borrow.Author.Tests.{eq-eqb, ne-eqb, le-leb, lt-leb, leb-true, ltb-true, ltb-false}
-use Rattle.model.specs.Base.{all, only}
-use Rattle.model.specs.Text.{asDigits, between}
-use Rattle.base_text.proofs.Bytes.{and-left, and-right}
+-- Laws of figures, by where their digits end.
+use Rattle.base.specs.{ℕ, zero, suc, _+_, _-_, _*_, _≤_, _<_, min, zero-add, add-one, arith, _≡_, refl, sym, ap, subst, _∙_, Bool, true}
+use Rattle.base.specs.{false, not, List, [], _∷_, _++_, eqb, leb, ltb, length, take, drop, getD, replicate, drop-of-length-le, length-drop}
+use Rattle.base.specs.{drop-cons, drop-drop, getD-drop, take-suc, eq-eqb, ne-eqb, le-leb, lt-leb, leb-true, ltb-true, ltb-false}
+use Rattle.model.specs.{all, only, asDigits, between, isDigit, isDigits, isEmpty, isFigure, isFraction, wholes, decimals, inThousandths}
+use Rattle.model.specs.{thousandths, span}
+use Rattle.base_text.proofs.{and-left, and-right}
 use Rattle.base_text.specs.declared.Value.the-variants.{Is, Broken as NoValue}
-use Rattle.model.specs.GenlibWords.{isDigit, isDigits, isEmpty, isFigure, isFraction, wholes, decimals, inThousandths, thousandths, span}
-use Rattle.genlib_expression.specs.Places.{spanEnd}
-use Rattle.genlib_groups.specs.Lines.{valueIn}
-use Rattle.genlib_expression.proofs.Spans.{span-all, span-take, span-passes, span-short}
+use Rattle.genlib_expression.specs.{spanEnd}
+use Rattle.genlib_expression.proofs.{span-all, span-take, span-passes, span-short}
+use Rattle.genlib_groups.specs.{valueIn}
 
 pub default-in : (w : List ℕ) (i : ℕ) → i < length w → getD w i 0 ≡ getD w i 48
 default-in [] i h = absurd (omega arith)

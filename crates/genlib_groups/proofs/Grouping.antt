@@ -1,24 +1,12 @@
--- Laws of groups: the lines from a place up to the next GATE line. Assumes nothing.
-use Prim.Native.Nat.{ℕ, suc, _+_, _-_, _≤_, _<_}
-use native.Mathlib.Numerals.{add-one}
-use native.Mathlib.Omega.{arith}
-use mathlib.Core.Path.{_≡_, refl, sym, ap, _∙_}
-use mathlib.Core.Bool.{Bool, true, false, cond, _&&_, _||_, and-assoc}
-use mathlib.Core.Option.{Option, none, some}
-use mathlib.Core.List.{List, [], _∷_, _++_, map}
-use lib.Dec.{ltb}
-use lib.ListN.{length}
-use borrow.Author.Tests.{lt-ltb, le-ltb}
-use Rattle.model.specs.Base.{andThen, all, any, same, from}
-use Rattle.model.specs.Text.{Line}
-use Rattle.model.specs.GenlibWords.{isWord, isEmpty}
-use Rattle.model.specs.GenlibFormula.{isPin, withName, addPins, pinsOf}
-use Rattle.model.specs.Genlib.{startsGate, grouped, groups, lineTokens, pinLine, hasLine, isThere, delayOf}
+-- Laws of groups: the lines from a place up to the next GATE line.
+use Rattle.base.specs.{ℕ, suc, _+_, _-_, _≤_, _<_, add-one, arith, _≡_, refl, sym, ap, _∙_, Bool, true, false, cond, _&&_, _||_, and-assoc}
+use Rattle.base.specs.{Option, none, some, List, [], _∷_, _++_, map, ltb, length, lt-ltb, le-ltb}
+use Rattle.model.specs.{andThen, all, any, same, from, Line, isWord, isEmpty, isPin, withName, addPins, pinsOf, startsGate, grouped, groups}
+use Rattle.model.specs.{lineTokens, pinLine, hasLine, isThere, delayOf}
 use Rattle.base_text.specs.declared.Value.the-variants.{Is, Broken as NoValue}
-use Rattle.base_text.specs.Lines.{lineAt}
-use Rattle.base_text.proofs.Bridge.{lines-none}
-use Rattle.base_text.proofs.Bytes.{and-true, same-eq}
-use Rattle.genlib_groups.specs.Lines.{valueIn, linesOf, linesBehind, pickT, lineFound, pinHas, delayFor}
+use Rattle.base_text.specs.{lineAt}
+use Rattle.base_text.proofs.{lines-none, and-true, same-eq}
+use Rattle.genlib_groups.specs.{valueIn, linesOf, linesBehind, pickT, lineFound, pinHas, delayFor}
 
 module _ (s : List ℕ) (at : ℕ) where
   module _ (l : Line) (ls : List Line) (e : linesOf s at ≡ l ∷ ls) where

@@ -2,3 +2,5 @@
 pub mod Figures
 pub mod LineLaws
 pub mod Grouping
+pub use LineLaws.{Bounded, bounded}
+pub use Grouping.{value-none, value-some}

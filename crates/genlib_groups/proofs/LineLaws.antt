@@ -1,26 +1,14 @@
--- Laws of the line at a place: its bounds, its contents and its first word. Assumes nothing.
-use Prim.Native.Nat.{ℕ, suc, _+_, _-_, _≤_, _<_}
-use native.Mathlib.Nat.{zero-add, le-of-lt}
-use native.Mathlib.Omega.{arith}
-use mathlib.Core.Path.{_≡_, refl, sym, ap, subst, _∙_}
-use mathlib.Core.Bool.{Bool, true, false, cond}
-use mathlib.Core.List.{List, [], _∷_}
-use lib.Dec.{ltb}
-use lib.ListN.{length, take, drop, length-drop}
-use borrow.Author.Tests.{ltb-true, ltb-false, le-ltb}
-use Rattle.model.specs.Base.{same}
-use Rattle.model.specs.Text.{ended, isNameByte}
-use Rattle.model.specs.GenlibWords.{isBlank, span, tokens}
-use Rattle.model.specs.Genlib.{firstName, startsGate, lineIs, lineTokens}
+-- Laws of the line at a place: its bounds, its contents and its first word.
+use Rattle.base.specs.{ℕ, suc, _+_, _-_, _≤_, _<_, zero-add, le-of-lt, arith, _≡_, refl, sym, ap, subst, _∙_, Bool, true, false, cond, List}
+use Rattle.base.specs.{[], _∷_, ltb, length, take, drop, length-drop, ltb-true, ltb-false, le-ltb}
+use Rattle.model.specs.{same, ended, isNameByte, isBlank, span, tokens, firstName, startsGate, lineIs, lineTokens}
 use Rattle.base_text.specs.declared.Span.{Span}
-use Rattle.base_text.specs.Fields.{pickBytes, pickN, endOf, stops}
-use Rattle.base_text.specs.Lines.{lineOf, endingOf, lineAt, spanAt}
-use Rattle.base_text.proofs.Words.{end-fits}
-use Rattle.base_text.proofs.Bridge.{lines-at, lines-none}
-use Rattle.base_text.proofs.Spans.{span-from as stop-from, span-fits, span-contents, span-ended, span-long, span-next}
-use Rattle.genlib_expression.specs.Places.{spanEnd, part}
-use Rattle.genlib_expression.proofs.Spans.{span-from, span-le, span-part}
-use Rattle.genlib_groups.specs.Lines.{linesOf, gateWord}
+use Rattle.base_text.specs.{pickBytes, pickN, endOf, stops, lineOf, endingOf, lineAt, spanAt}
+use Rattle.base_text.proofs.{end-fits, lines-at, lines-none, span-from as stop-from, span-fits, span-contents, span-ended, span-long}
+use Rattle.base_text.proofs.{span-next}
+use Rattle.genlib_expression.specs.{spanEnd, part}
+use Rattle.genlib_expression.proofs.{span-from, span-le, span-part}
+use Rattle.genlib_groups.specs.{linesOf, gateWord}
 
 -- ---- a line
 

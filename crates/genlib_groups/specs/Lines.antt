@@ -1,17 +1,10 @@
--- What the readers of lines and groups find at places of the text. Assumes nothing.
-use Prim.Native.Nat.{ℕ}
-use mathlib.Core.Bool.{Bool, true, false, cond, _&&_}
-use mathlib.Core.Option.{Option, none, some}
-use mathlib.Core.List.{List, [], _∷_, map}
-use lib.Dec.{ltb}
-use lib.ListN.{length, drop}
-use Rattle.model.specs.Base.{all, andThen}
-use Rattle.model.specs.Text.{Line, text, linesFrom}
-use Rattle.model.specs.GenlibFormula.{isPin}
-use Rattle.model.specs.Genlib.{isGateLine, isPinLine, lineIs, lineTokens, pinLine, hasLine, delayOf, grouped, groups, Group}
+-- What the readers of lines and groups find at places of the text.
+use Rattle.base.specs.{ℕ, Bool, true, false, cond, _&&_, Option, none, some, List, [], _∷_, map, ltb, length, drop}
+use Rattle.model.specs.{all, andThen, Line, text, linesFrom, isPin, isGateLine, isPinLine, lineIs, lineTokens, pinLine, hasLine, delayOf}
+use Rattle.model.specs.{grouped, groups, Group}
 use Rattle.base_text.specs.declared.Value.{Value}
 use Rattle.base_text.specs.declared.Value.the-variants.{Is, Broken as NoValue}
-use Rattle.base_text.specs.Lines.{lineAt}
+use Rattle.base_text.specs.{lineAt}
 
 -- a figure that was read, or none
 abbrev pub valueIn : Option ℕ → Value

@@ -1,18 +1,14 @@
 // The lines of a genlib text: GATE and PIN lines, the groups of a GATE line and the lines up to the next, and the delays of a gate's pins.
-// "A GATE line has name, area, output, `=`, expression, `;`; a PIN line name, phase, two loads, then block and fanout delay for rise, then for fall." What a
-// line is and which line counts are definitions of the crate `model`; a line's end is found by `base_text::line` alone.
-ghost use mathlib.Core.Path.{_≡_};
-ghost use mathlib.Core.Bool.{true};
-ghost use mathlib.Core.List.{[], _∷_};
-ghost use Prim.Native.Nat.{_+_, _-_, _*_, _≤_, _<_, min, max};
-ghost use lib.ListN.{length, getD, take, drop};
-ghost use Rattle.model.specs.Base.{all, same};
-ghost use Rattle.model.specs.Text.{asDigits};
-ghost use Rattle.model.specs.GenlibWords.{isWordByte, isDigit, tokens, isWord, isSign, isDigits, isFigure, thousandths, span};
-ghost use Rattle.model.specs.Genlib.{gateHead, isGateLine, pinHead, isPinLine, firstName, lineIs, fits, pinLine, lineTokens, delayOf, grouped, groups};
-ghost use Rattle.base_text.specs.Lines.{lineAt};
-ghost use Rattle.genlib_expression.specs.Places.{spanEnd, restAt};
-ghost use Rattle.genlib_groups.specs.Lines.{linesOf, gateWord, linesBehind, lineFound, pinHas, valueIn, delayFor, groupIs, groupAt, behindGroup};
+// "A GATE line has name, area, output, `=`, expression, `;`; a PIN line name, phase, two loads, then block and fanout delay for rise, then for
+// fall." What a line is and which line counts are definitions of the crate `model`; a line's end is found by `base_text::line` alone.
+ghost use Rattle.base.specs.{_≡_, true, [], _∷_, _+_, _-_, _*_, _≤_, _<_, min, max, length, getD, take, drop};
+ghost use Rattle.model.specs.{all, same, asDigits, isWordByte, isDigit, tokens, isWord, isSign, isDigits, isFigure, thousandths, span};
+ghost use Rattle.model.specs.{gateHead, isGateLine, pinHead, isPinLine, firstName, lineIs, pinLine, lineTokens, delayOf, grouped, groups};
+ghost use Rattle.model.specs.Genlib.{fits};
+ghost use Rattle.base_text.specs.{lineAt};
+ghost use Rattle.genlib_expression.specs.{spanEnd, restAt};
+ghost use Rattle.genlib_groups.specs.{linesOf, gateWord, linesBehind, lineFound, pinHas, valueIn, delayFor, groupIs, groupAt};
+ghost use Rattle.genlib_groups.specs.{behindGroup};
 use base_text::Value;
 
 // ---- tokens by number
@@ -482,8 +478,8 @@ pub fn delay_named(s: &[u8], from: usize, w: &[u8], at: usize) -> Value
 
 // ---- a group
 
-// No 22: the line w is a GATE line, the lines from `from` up to the next are PIN lines, and each pin has one. That the GATE line has its end is the caller's
-// to ask, who read it.
+// No 22: the line w is a GATE line, the lines from `from` up to the next are PIN lines, and each pin has one. That the GATE line has its end is
+// the caller's to ask, who read it.
 pub fn is_group(s: &[u8], from: usize, w: &[u8]) -> bool
     requires { ⌜ from ≤ length (now s) ⌝ }
     ensures { λ r. ⌜ r ≡ groupIs (now (s .entry)) from (tokens (now (w .entry))) ⌝ }

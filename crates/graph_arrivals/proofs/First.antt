@@ -1,22 +1,11 @@
--- The first line of an arrivals' text, and what lies behind it. Assumes nothing.
-use Prim.Native.Nat.{ℕ, _-_, _<_, _≤_}
-use native.Mathlib.Omega.{arith}
-use mathlib.Core.Path.{_≡_, refl, sym, ap, _∙_}
-use mathlib.Core.Bool.{true, false, cond, _&&_}
-use mathlib.Core.List.{List, [], _∷_}
-use lib.ListN.{length, take, drop}
-use Rattle.model.specs.Base.{same}
-use Rattle.model.specs.Text.{ended, linesFrom}
-use Rattle.model.specs.Reading.{unless, verdictOf}
-use Rattle.model.specs.ArrivalsText.{readLate, readLateLines, readArrivals}
+-- The first line of an arrivals' text, and what lies behind it.
+use Rattle.base.specs.{ℕ, _-_, _<_, _≤_, arith, _≡_, refl, sym, ap, _∙_, true, false, cond, _&&_, List, [], _∷_, length, take, drop}
+use Rattle.model.specs.{same, ended, linesFrom, unless, verdictOf, readLate, readLateLines, readArrivals}
 use Rattle.model.specs.declared.Verdict.the-variants.{Accepted, Refused}
 use Rattle.base_text.specs.declared.Span.{Span}
-use Rattle.base_text.specs.Lines.{lineAt, pastLine, spanAt}
-use Rattle.base_text.proofs.Bytes.{and-left}
-use Rattle.base_text.proofs.Bridge.{lines-at}
-use Rattle.base_text.proofs.Spans.{span-contents, span-ended, span-next, span-fits}
-use Rattle.graph_arrivals.specs.Reading.{headLine, isHead}
-use Rattle.graph_arrivals.specs.Storing.{putAll, passed, listedLines, listed}
+use Rattle.base_text.specs.{lineAt, pastLine, spanAt}
+use Rattle.base_text.proofs.{and-left, lines-at, span-contents, span-ended, span-next, span-fits}
+use Rattle.graph_arrivals.specs.{headLine, isHead, putAll, passed, listedLines, listed}
 use Rattle.graph_arrivals.proofs.Lines.{linesOf}
 
 -- an empty text

@@ -4,3 +4,4 @@ pub mod Lines
 pub mod Turns
 pub mod First
 pub mod Timed
+pub use Timed.{Slotted, Stored, listed-all, stored-all}

@@ -3,31 +3,18 @@
 --     turn-read, turn-passed      what the model makes of the lines from a place on, by what `judgedAt` says of the line there
 --     judged-over, judged-again, judged-fresh     the tests of a line that has its form
 --     judged-good      what is known where it finds an index and an arrival
--- Assumes nothing.
-use Prim.Native.Nat.{ℕ, _≤_, _<_}
-use native.Mathlib.Omega.{arith}
-use mathlib.Core.Path.{_≡_, refl, sym, ap, _∙_}
-use mathlib.Core.Bool.{Bool, true, false, not, cond, _&&_}
-use mathlib.Core.Option.{Option, none, some}
-use mathlib.Core.List.{List, [], _∷_}
-use lib.Dec.{eqb, ltb}
-use lib.ListN.{length, drop, getD}
-use borrow.Author.Tests.{eq-eqb, ne-eqb, lt-ltb, le-ltb, ltb-true}
-use Rattle.model.specs.Base.{elem, andThen}
-use Rattle.model.specs.Text.{Line, ended, linesFrom, number, numbers}
-use Rattle.model.specs.Reading.{Read, holds, fault, next, unless, from?}
-use Rattle.model.specs.ArrivalsText.{Late, lateNumbers, readLate}
+use Rattle.base.specs.{ℕ, _≤_, _<_, arith, _≡_, refl, sym, ap, _∙_, Bool, true, false, not, cond, _&&_, Option, none, some, List, [], _∷_}
+use Rattle.base.specs.{eqb, ltb, length, drop, getD, eq-eqb, ne-eqb, lt-ltb, le-ltb, ltb-true}
+use Rattle.model.specs.{elem, andThen, Line, ended, linesFrom, number, numbers, Read, holds, fault, next, unless, from?, Late, lateNumbers}
+use Rattle.model.specs.{readLate}
 use Rattle.base_text.specs.declared.Cursor.{Cursor}
-use Rattle.base_text.specs.Lines.{lineAt, pastLine, afterAt, numbersAt}
-use Rattle.base_text.proofs.Found.{past, pastEnd, found, foundEnd, number-is, number-end-is}
-use Rattle.base_text.proofs.Bridge.{lines-at}
-use Rattle.base_text.proofs.Numbers.{line-words, numbers-at, numbers-ended}
-use Rattle.base_text.proofs.Bytes.{and-left}
+use Rattle.base_text.specs.{lineAt, pastLine, afterAt, numbersAt}
+use Rattle.base_text.proofs.{past, pastEnd, found, foundEnd, number-is, number-end-is, lines-at, line-words, numbers-at, numbers-ended}
+use Rattle.base_text.proofs.{and-left}
 use Rattle.graph_arrivals.specs.declared.Entry.the-variants.{Is as AnEntry, Broken}
 use Rattle.graph_arrivals.specs.declared.Judged.{Judged}
 use Rattle.graph_arrivals.specs.declared.Judged.the-variants.{Is as Good, Refused as Bad}
-use Rattle.graph_arrivals.specs.Reading.{entryAt, pickJudged, judgedAt}
-use Rattle.graph_arrivals.specs.Storing.{passed}
+use Rattle.graph_arrivals.specs.{entryAt, pickJudged, judgedAt, passed}
 
 -- the lines from a place on
 abbrev pub linesOf : List ℕ → ℕ → List Line

@@ -1,24 +1,13 @@
 -- What the reader leaves in the words where it refuses nothing: each input's arrival as the crate model has it, and all other words as they were.
--- Assumes nothing.
-use Prim.Native.Nat.{ℕ, _+_, _≤_, _<_}
-use native.Mathlib.Nat.{add-zero}
-use native.Mathlib.Omega.{arith}
-use mathlib.Core.Path.{_≡_, refl, sym, ap, _∙_}
-use mathlib.Core.Bool.{Bool, true, false, not, cond, _&&_}
-use mathlib.Core.Option.{Option, none, some}
-use mathlib.Core.List.{List, [], _∷_, map, List·Memᴰ·head, List·Memᴰ·tail, Memᴰ·cast}
-use lib.Dec.{eqb, ltb}
-use lib.ListN.{length, getD}
-use borrow.Author.Tests.{eqb-true, eqb-false, ltb-true, ltb-false}
-use Rattle.model.specs.Base.{elem, same}
-use Rattle.model.specs.Text.{Line, ended, text, linesFrom}
-use Rattle.model.specs.Reading.{Read, holds, fault, next, unless, from?}
-use Rattle.model.specs.ArrivalsText.{Late, lateNumbers, readLate, readLateLines, readArrivals, lateOf}
-use Rattle.model.specs.Demands.{Distinct, Lists}
-use Rattle.theory_graph.proofs.Timed.{place-once}
-use Rattle.base_words.specs.Layout.{slotAt, lateAddr, lateAt}
-use Rattle.base_words.proofs.Putting.{get-put, get-put-below, get-put-above}
-use Rattle.graph_arrivals.specs.Storing.{Listable, putLate, putAll, onNumbers, passed, listedLines, listed}
+use Rattle.base.specs.{ℕ, _+_, _≤_, _<_, add-zero, arith, _≡_, refl, sym, ap, _∙_, Bool, true, false, not, cond, _&&_, Option, none, some}
+use Rattle.base.specs.{List, [], _∷_, map, List·Memᴰ·head, List·Memᴰ·tail, Memᴰ·cast, eqb, ltb, length, getD, eqb-true, eqb-false, ltb-true}
+use Rattle.base.specs.{ltb-false}
+use Rattle.model.specs.{elem, same, Line, ended, text, linesFrom, Read, holds, fault, next, unless, from?, Late, lateNumbers, readLate}
+use Rattle.model.specs.{readLateLines, readArrivals, lateOf, Distinct, Lists}
+use Rattle.theory_graph.proofs.{place-once}
+use Rattle.base_words.specs.{slotAt, lateAddr, lateAt}
+use Rattle.base_words.proofs.{get-put, get-put-below, get-put-above}
+use Rattle.graph_arrivals.specs.{Listable, putLate, putAll, onNumbers, passed, listedLines, listed}
 use Rattle.graph_arrivals.proofs.Turns.{late-fits, put-long, put-slot, put-listable}
 
 -- ---- the lines that are stored are those that are read

@@ -1,24 +1,15 @@
--- The lines one after the other: the reader's invariant at its start, a turn on, and where it stops. Assumes nothing.
-use Prim.Native.Nat.{ℕ, _+_, _≤_, _<_}
-use native.Mathlib.Omega.{arith}
-use mathlib.Core.Path.{_≡_, refl, sym, ap, _∙_, subst}
-use mathlib.Core.Bool.{Bool, true, false, not, _||_}
-use mathlib.Core.List.{List, [], _∷_}
-use lib.Dec.{eqb}
-use lib.ListN.{length, getD, set, length-set, replicate, length-replicate, getD-replicate}
-use lib.Seq.{getD-set-same, getD-set-other}
-use borrow.Author.Tests.{eqb-true, eqb-false}
-use Rattle.model.specs.Base.{elem, any}
-use Rattle.model.specs.Reading.{Read, holds, fault, next, verdictOf}
-use Rattle.model.specs.ArrivalsText.{Late, readLate}
+-- The lines one after the other: the reader's invariant at its start, a turn on, and where it stops.
+use Rattle.base.specs.{ℕ, _+_, _≤_, _<_, arith, _≡_, refl, sym, ap, _∙_, subst, Bool, true, false, not, _||_, List, [], _∷_, eqb, length}
+use Rattle.base.specs.{getD, set, length-set, replicate, length-replicate, getD-replicate, getD-set-same, getD-set-other, eqb-true}
+use Rattle.base.specs.{eqb-false}
+use Rattle.model.specs.{elem, any, Read, holds, fault, next, verdictOf, Late, readLate}
 use Rattle.model.specs.declared.Verdict.the-variants.{Accepted, Refused}
-use Rattle.base_words.specs.Layout.{slotAt, slotAddr, lateAddr}
-use Rattle.base_words.proofs.Putting.{length-put, get-put-below}
+use Rattle.base_words.specs.{slotAt, slotAddr, lateAddr}
+use Rattle.base_words.proofs.{length-put, get-put-below}
 use Rattle.base_text.specs.declared.Cursor.{Cursor}
-use Rattle.base_text.proofs.Bridge.{lines-none}
+use Rattle.base_text.proofs.{lines-none}
 use Rattle.graph_arrivals.specs.declared.Judged.the-variants.{Is as Good, Refused as Bad}
-use Rattle.graph_arrivals.specs.Reading.{judgedAt}
-use Rattle.graph_arrivals.specs.Storing.{Listable, putLate, putAll, passed}
+use Rattle.graph_arrivals.specs.{judgedAt, Listable, putLate, putAll, passed}
 use Rattle.graph_arrivals.proofs.Lines.{linesOf, Marked, turnRead, turnPassed, turn-read, turn-passed, judged-good}
 
 -- ---- the words

@@ -1,12 +1,7 @@
--- What each reader of the arrivals' text answers, composed of what the readers of the crate text find. Assumes nothing.
-use Prim.Native.Nat.{ℕ}
-use mathlib.Core.Bool.{Bool, true, false, _&&_}
-use mathlib.Core.List.{List}
-use lib.Dec.{eqb, ltb}
-use lib.ListN.{take, getD}
-use Rattle.model.specs.Base.{same}
-use Rattle.model.specs.Text.{text}
-use Rattle.base_text.specs.Fields.{onNumber, numberThen, numberEnd}
+-- What each reader of the arrivals' text answers, composed of what the readers of the crate text find.
+use Rattle.base.specs.{ℕ, Bool, true, false, _&&_, List, eqb, ltb, take, getD}
+use Rattle.model.specs.{same, text}
+use Rattle.base_text.specs.{onNumber, numberThen, numberEnd}
 use Rattle.base_text.specs.declared.Cursor.{Cursor}
 use Rattle.base_text.specs.declared.Span.{Span}
 use Rattle.graph_arrivals.specs.declared.Entry.{Entry}

@@ -1,15 +1,7 @@
--- The lines of an arrivals' text up to the first refusal, and the words with their arrivals. Assumes nothing.
-use Prim.Native.Nat.{ℕ, _+_, _≤_, _<_}
-use mathlib.Core.Bool.{cond, not, _&&_}
-use mathlib.Core.Option.{Option, none, some}
-use mathlib.Core.List.{List, [], _∷_}
-use lib.Dec.{ltb}
-use lib.ListN.{getD}
-use Rattle.model.specs.Base.{elem, same}
-use Rattle.model.specs.Text.{Line, ended, text, linesFrom}
-use Rattle.model.specs.ArrivalsText.{Late, lateNumbers}
-use Rattle.base_words.specs.Put.{putAt}
-use Rattle.base_words.specs.Layout.{Room, slotAt, lateAddr}
+-- The lines of an arrivals' text up to the first refusal, and the words with their arrivals.
+use Rattle.base.specs.{ℕ, _+_, _≤_, _<_, cond, not, _&&_, Option, none, some, List, [], _∷_, ltb, getD}
+use Rattle.model.specs.{elem, same, Line, ended, text, linesFrom, Late, lateNumbers}
+use Rattle.base_words.specs.{putAt, Room, slotAt, lateAddr}
 
 -- ---- the words
 

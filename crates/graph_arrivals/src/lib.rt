@@ -6,16 +6,10 @@ use base_text::Number;
 use base_text::Span;
 use model::Header;
 use model::Verdict;
-ghost use mathlib.Core.Path.{_≡_};
-ghost use mathlib.Core.List.{[]};
-ghost use Prim.Native.Nat.{_+_, _≤_, _<_};
-ghost use lib.ListN.{length, drop, replicate};
-ghost use Rattle.model.specs.Text.{linesFrom};
-ghost use Rattle.model.specs.Reading.{verdictOf, rulingOf, verdictRuling};
-ghost use Rattle.model.specs.ArrivalsText.{readLate, readArrivals};
-ghost use Rattle.base_words.specs.Layout.{Room, slotAt};
-ghost use Rattle.graph_arrivals.specs.Reading.{isHead, entryAt, judgedAt};
-ghost use Rattle.graph_arrivals.specs.Storing.{Listable, putLate, putAll, passed, listed};
+ghost use Rattle.base.specs.{_≡_, [], _+_, _≤_, _<_, length, drop, replicate};
+ghost use Rattle.model.specs.{linesFrom, verdictOf, rulingOf, verdictRuling, readLate, readArrivals};
+ghost use Rattle.base_words.specs.{Room, slotAt};
+ghost use Rattle.graph_arrivals.specs.{isHead, entryAt, judgedAt, Listable, putLate, putAll, passed, listed};
 
 // A line that has its form: the index, the arrival, and the next line.
 pub enum Entry {

@@ -1,29 +1,21 @@
 -- A number less a difference, and an AND of two of them, as the crate model reads them:
 --     less-..          by what difference was found
 --     gate-view        the AND at a place is refused by both, or read by both, its operands below its left literal
--- Assumes nothing.
-use Prim.Native.Nat.{ℕ, suc, _+_, _-_, _≤_, _<_}
-use native.Mathlib.Omega.{arith}
-use mathlib.Core.Path.{_≡_, refl, sym, ap, _∙_}
-use mathlib.Core.Bool.{Bool, true, false, not, _&&_}
-use mathlib.Core.List.{List, _∷_}
-use lib.Dec.{eqb, leb}
-use borrow.Author.Tests.{eq-eqb, le-leb, lt-leb}
-use Rattle.model.specs.Reading.{holds, fault, next, unless}
-use Rattle.model.specs.GraphText.{anAnd, Passed, lessBy, readAnds}
+use Rattle.base.specs.{ℕ, suc, _+_, _-_, _≤_, _<_, arith, _≡_, refl, sym, ap, _∙_, Bool, true, false, not, _&&_, List, _∷_, eqb, leb}
+use Rattle.base.specs.{eq-eqb, le-leb, lt-leb}
+use Rattle.model.specs.{holds, fault, next, unless, anAnd, Passed, lessBy, readAnds}
+use Rattle.theory_text.proofs.{less-out}
 use Rattle.base_text.specs.declared.Cursor.{Cursor}
 use Rattle.base_text.specs.declared.Number.{Number}
 use Rattle.base_text.specs.declared.Number.the-variants.{Value as Found, Broken as NoNumber}
-use Rattle.base_text.specs.Fields.{differenceAt}
-use Rattle.base_text.proofs.Bytes.{and-false}
-use Rattle.base_text.proofs.Differences.{differs-found, differs-broken}
-use Rattle.theory_text.proofs.Binary.{less-out}
+use Rattle.base_text.specs.{differenceAt}
+use Rattle.base_text.proofs.{and-false, differs-found, differs-broken}
 use Rattle.graph_loading.specs.declared.Literals.{Literals}
-use Rattle.graph_loading.specs.Tests.{literals}
-use Rattle.graph_loading.proofs.Tests.{itemOf}
+use Rattle.graph_loading.specs.{literals}
+use Rattle.graph_loading.proofs.{itemOf}
 use Rattle.graph_binary.specs.declared.Less.the-variants.{Is as Leaves, Refused as NoLess}
 use Rattle.graph_binary.specs.declared.Gate.the-variants.{Is as AGate, Refused as NoGate}
-use Rattle.graph_binary.specs.Gates.{lessOf, gateAt}
+use Rattle.graph_binary.specs.{lessOf, gateAt}
 
 -- ---- a number less a difference
 

@@ -6,3 +6,4 @@ pub mod Passes
 pub mod Reading
 pub mod Outputs
 pub mod Loads
+pub use Loads.{binary-law, header-fit}

@@ -3,36 +3,26 @@
 --     body             the three passes answer `readBinary`, and where that holds items the words hold their graph
 --     load-verdict     14 refuses none of them, so the answer is `readGraph`'s
 --     binary-law       and where that holds a graph the words hold it
--- Assumes nothing.
-use mathlib.Core.Path.{_≡_, refl, sym, ap, _∙_, subst}
-use mathlib.Core.Bool.{true}
-use mathlib.Core.List.{List, [], _∷_, _++_}
-use Prim.Native.Nat.{ℕ, suc, _+_, _-_, _*_, _≤_}
-use native.Mathlib.Omega.{arith}
-use lib.ListN.{length}
-use Rattle.model.specs.Base.{elem, any}
-use Rattle.model.specs.Limits.{need}
-use Rattle.model.specs.Reading.{Read, holds, fault, next, verdictOf, verdictRuling, rulingOf}
+use Rattle.base.specs.{_≡_, refl, sym, ap, _∙_, subst, true, List, [], _∷_, _++_, ℕ, suc, _+_, _-_, _*_, _≤_, arith, length}
+use Rattle.model.specs.{elem, any, need, Read, holds, fault, next, verdictOf, verdictRuling, rulingOf, Item, readAnds, behindLines}
+use Rattle.model.specs.{inputItems, readBinary, readItems, definedBy, checkUses, graphOf, readHeader, readGraph}
 use Rattle.model.specs.Graph.{Graph}
-use Rattle.model.specs.GraphText.{Item, readAnds, behindLines, inputItems, readBinary, readItems, definedBy, checkUses, graphOf, readHeader, readGraph}
 use Rattle.model.specs.declared.Header.{Header}
 use Rattle.model.specs.declared.Verdict.{Verdict}
 use Rattle.model.specs.declared.Verdict.the-variants.{Accepted, Refused}
-use Rattle.model.proofs.Answers.{verdict-rules}
-use Rattle.base_words.proofs.Columns.{room-for}
-use Rattle.theory_text.proofs.Binary.{binary-parts, binary-used}
-use Rattle.theory_text.proofs.ReadGraph.{header-fits}
-use Rattle.graph_placing.specs.Loaded.{Fit, Holding}
+use Rattle.model.proofs.{verdict-rules}
+use Rattle.theory_text.proofs.{binary-parts, binary-used, header-fits}
+use Rattle.base_words.proofs.{room-for}
+use Rattle.graph_placing.specs.{Fit, Holding}
 use Rattle.graph_loading.specs.declared.Turn.{Turn}
 use Rattle.graph_loading.specs.declared.Turn.the-variants.{To, Refused as Stop}
-use Rattle.graph_loading.specs.Tests.{dueCount, onTurn}
-use Rattle.graph_loading.specs.Stores.{opened}
-use Rattle.graph_loading.proofs.Storing.{nothing}
-use Rattle.graph_loading.proofs.States.{state-first}
-use Rattle.graph_loading.proofs.Lines.{linesOf}
-use Rattle.graph_loading.proofs.Items.{fault-holds, verdict-next, next-holds, joined, Stored, stored-behind, graph-is, graph-held}
-use Rattle.graph_binary.specs.Passes.{inputTurn, inputLeft, outputTurn, outputLeft, gateTurn, gateLeft, passTurn, passWords, asVerdict, withInputs, outputsTurn, withOutputs, binaryWords}
-use Rattle.graph_binary.proofs.Reading.{Sound, Taken, Outcome, pass-law, taken-sound, inputsFrom, input-none, input-step, gatesFrom, gate-none, gate-step}
+use Rattle.graph_loading.specs.{dueCount, onTurn, opened}
+use Rattle.graph_loading.proofs.{nothing, state-first, linesOf, fault-holds, verdict-next, next-holds, joined, Stored, stored-behind}
+use Rattle.graph_loading.proofs.{graph-is, graph-held}
+use Rattle.graph_binary.specs.{inputTurn, inputLeft, outputTurn, outputLeft, gateTurn, gateLeft, passTurn, passWords, asVerdict}
+use Rattle.graph_binary.specs.{withInputs, outputsTurn, withOutputs, binaryWords}
+use Rattle.graph_binary.proofs.Reading.{Sound, Taken, Outcome, pass-law, taken-sound, inputsFrom, input-none, input-step, gatesFrom}
+use Rattle.graph_binary.proofs.Reading.{gate-none, gate-step}
 use Rattle.graph_binary.proofs.Outputs.{outputsFrom, output-none, output-step, output-behind}
 
 pub header-fit : (s : List ℕ) (h : Header) (w : List ℕ) → readHeader s ≡ holds h → need (h .size) (h .outputs) ≤ length w → Fit h w

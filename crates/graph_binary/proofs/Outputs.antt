@@ -2,36 +2,22 @@
 --     output-view      the line at a place is missing, broken, or a number with byte 10 behind it
 --     output-step      the line at a place is refused by both, or read by both
 --     output-behind    and the pass ends where the model's lines do
--- Assumes nothing.
-use mathlib.Core.Path.{_≡_, refl, sym, ap, _∙_}
-use mathlib.Core.Bool.{Bool, true, false, _&&_}
-use mathlib.Core.Option.{none, some}
-use mathlib.Core.List.{List, [], _∷_}
-use Prim.Native.Nat.{ℕ, zero, suc, _+_, _≤_, _<_}
-use native.Mathlib.Omega.{arith}
-use lib.Dec.{ltb}
-use lib.ListN.{length, replicate}
-use borrow.Author.Tests.{ltb-true, ltb-false}
-use Rattle.model.specs.Text.{ended}
-use Rattle.model.specs.Reading.{Read, holds, fault, next, unless}
+use Rattle.base.specs.{_≡_, refl, sym, ap, _∙_, Bool, true, false, _&&_, none, some, List, [], _∷_, ℕ, zero, suc, _+_, _≤_, _<_, arith, ltb}
+use Rattle.base.specs.{length, replicate, ltb-true, ltb-false}
+use Rattle.model.specs.{ended, Read, holds, fault, next, unless, closed, anOutput, defines, Item, itemLiterals, readDue, behindLines}
 use Rattle.model.specs.Graph.{Graph}
-use Rattle.model.specs.GraphText.{closed, anOutput, defines, Item, itemLiterals, readDue, behindLines}
 use Rattle.model.specs.declared.Header.{Header}
 use Rattle.base_text.specs.declared.Cursor.{Cursor}
 use Rattle.base_text.specs.declared.Number.{Number}
 use Rattle.base_text.specs.declared.Number.the-variants.{Value as Found, Broken as NoNumber}
-use Rattle.base_text.specs.Fields.{numberThen}
-use Rattle.base_text.specs.Lines.{lineAt, pastLine}
-use Rattle.base_text.proofs.Bridge.{lines-at, lines-none}
-use Rattle.base_text.proofs.Numbers.{ten-ended}
-use Rattle.graph_placing.specs.Loaded.{Fit}
+use Rattle.base_text.specs.{numberThen, lineAt, pastLine}
+use Rattle.base_text.proofs.{lines-at, lines-none, ten-ended}
+use Rattle.graph_placing.specs.{Fit}
 use Rattle.graph_loading.specs.declared.Turn.{Turn}
 use Rattle.graph_loading.specs.declared.Turn.the-variants.{To, Refused as Stop}
-use Rattle.graph_loading.specs.Tests.{literals, literalsFit, mayDefine}
-use Rattle.graph_loading.proofs.Tests.{due-output, itemOf}
-use Rattle.graph_loading.proofs.Lines.{linesOf, output-number}
-use Rattle.graph_loading.proofs.Items.{due-missing, due-none, due-whole}
-use Rattle.graph_binary.specs.Passes.{outputTurn, outputLeft, passTurn}
+use Rattle.graph_loading.specs.{literals, literalsFit, mayDefine}
+use Rattle.graph_loading.proofs.{due-output, itemOf, linesOf, output-number, due-missing, due-none, due-whole}
+use Rattle.graph_binary.specs.{outputTurn, outputLeft, passTurn}
 use Rattle.graph_binary.proofs.Passes.{turn-missing, turn-broken, turn-over, turn-output, pass-on, pass-stop, pass-end}
 use Rattle.graph_binary.proofs.Reading.{Sound, sound-output, Step, stops, goes}
 

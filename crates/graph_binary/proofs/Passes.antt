@@ -1,26 +1,18 @@
 -- The loops over due lines:
 --     turn-..          an output line's turn, and an AND's, by what was found
 --     Rest             what the lines from line k on give is what all lines of the pass give; rest-..
--- Assumes nothing.
-use Prim.Native.Nat.{ℕ, suc, _+_, _-_, _*_, _≤_, _<_}
-use native.Mathlib.Omega.{arith}
-use mathlib.Core.Path.{_≡_, refl, sym, ap, _∙_}
-use mathlib.Core.Bool.{true, false}
-use mathlib.Core.List.{List}
-use lib.ListN.{length}
-use borrow.Author.Tests.{lt-ltb, le-ltb}
+use Rattle.base.specs.{ℕ, suc, _+_, _-_, _*_, _≤_, _<_, arith, _≡_, refl, sym, ap, _∙_, true, false, List, length, lt-ltb, le-ltb}
 use Rattle.model.specs.declared.Header.{Header}
 use Rattle.base_text.specs.declared.Cursor.{Cursor}
 use Rattle.base_text.specs.declared.Number.the-variants.{Value as Found, Broken as NoNumber}
-use Rattle.base_text.specs.Fields.{numberThen}
+use Rattle.base_text.specs.{numberThen}
+use Rattle.graph_placing.specs.{Fit}
 use Rattle.graph_loading.specs.declared.Literals.{Literals}
 use Rattle.graph_loading.specs.declared.Turn.{Turn}
 use Rattle.graph_loading.specs.declared.Turn.the-variants.{To, Refused as Stop}
-use Rattle.graph_loading.specs.Tests.{literals, dueCount, literalsFit, LiteralsFit}
-use Rattle.graph_loading.specs.Stores.{storedLine}
-use Rattle.graph_placing.specs.Loaded.{Fit}
+use Rattle.graph_loading.specs.{literals, dueCount, literalsFit, LiteralsFit, storedLine}
 use Rattle.graph_binary.specs.declared.Gate.the-variants.{Is as AGate, Refused as NoGate}
-use Rattle.graph_binary.specs.Passes.{gateOf, outputTurn, outputLeft, gateTurn, gateLeft, passTurn, passWords}
+use Rattle.graph_binary.specs.{gateOf, outputTurn, outputLeft, gateTurn, gateLeft, passTurn, passWords}
 use Rattle.graph_binary.proofs.Gates.{gate-below}
 
 -- ---- a turn

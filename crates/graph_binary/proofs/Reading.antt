@@ -3,32 +3,22 @@
 --     Step             the line at a place is refused by both, or read by both
 --     pass-law         so a pass is: it answers what is read, and the words hold the graph with what was read
 --     input-step, output-step, gate-step     the three passes
--- Assumes nothing.
-use mathlib.Core.Path.{_≡_, refl, sym, ap, _∙_, subst}
-use mathlib.Core.Bool.{true, false, not, _||_}
-use mathlib.Core.List.{List, [], _∷_, map}
-use Prim.Native.Nat.{ℕ, zero, suc, _+_, _-_, _*_, _/_, _≤_, _<_, min}
-use native.Mathlib.Numerals.{add-one}
-use native.Mathlib.Omega.{arith}
-use lib.Dec.{eqb}
-use borrow.Author.Tests.{ne-eqb, lt-ltb, le-ltb, le-leb}
-use Rattle.model.specs.Base.{from, elem, any}
-use Rattle.model.specs.Reading.{Read, holds, fault, next, verdictOf}
-use Rattle.model.specs.Graph.{Graph, varOf}
-use Rattle.model.specs.GraphText.{Kind, anInput, anOutput, anAnd, Item, readAnds, definedBy}
+use Rattle.base.specs.{_≡_, refl, sym, ap, _∙_, subst, true, false, not, _||_, List, [], _∷_, map, ℕ, zero, suc, _+_, _-_, _*_, _/_, _≤_}
+use Rattle.base.specs.{_<_, min, add-one, arith, eqb, ne-eqb, lt-ltb, le-ltb, le-leb}
+use Rattle.model.specs.{from, elem, any, Read, holds, fault, next, verdictOf, varOf, Kind, anInput, anOutput, anAnd, Item, readAnds}
+use Rattle.model.specs.{definedBy}
+use Rattle.model.specs.Graph.{Graph}
 use Rattle.model.specs.declared.Header.{Header}
-use Rattle.base_words.specs.Layout.{undefinedKind, kindAt}
-use Rattle.base_text.proofs.Bytes.{and-false}
-use Rattle.graph_placing.specs.Loaded.{Fit}
+use Rattle.base_words.specs.{undefinedKind, kindAt}
+use Rattle.base_text.proofs.{and-false}
+use Rattle.graph_placing.specs.{Fit}
 use Rattle.graph_loading.specs.declared.Literals.{Literals}
 use Rattle.graph_loading.specs.declared.Turn.{Turn}
 use Rattle.graph_loading.specs.declared.Turn.the-variants.{To, Refused as Stop}
-use Rattle.graph_loading.specs.Tests.{literals, dueCode, dueCount, literalsFit, isTaken}
-use Rattle.graph_loading.specs.Stores.{storedLine}
-use Rattle.graph_loading.proofs.Tests.{fit-right, dueKind, due-input, due-output, due-and, itemOf}
-use Rattle.graph_loading.proofs.States.{grown, more, State, state-more}
-use Rattle.graph_loading.proofs.Items.{fault-holds, verdict-next, next-holds, joined, defined-more, Stored, stored-none, stored-more}
-use Rattle.graph_binary.specs.Passes.{passTurn, passWords, asVerdict, inputLiterals, inputTurn, inputLeft, gateTurn, gateLeft}
+use Rattle.graph_loading.specs.{literals, dueCode, dueCount, literalsFit, isTaken, storedLine}
+use Rattle.graph_loading.proofs.{fit-right, dueKind, due-input, due-output, due-and, itemOf, grown, more, State, state-more, fault-holds}
+use Rattle.graph_loading.proofs.{verdict-next, next-holds, joined, defined-more, Stored, stored-none, stored-more}
+use Rattle.graph_binary.specs.{passTurn, passWords, asVerdict, inputLiterals, inputTurn, inputLeft, gateTurn, gateLeft}
 use Rattle.graph_binary.proofs.Gates.{GateView, stops as gate-stops, goes as gate-goes, gate-view}
 use Rattle.graph_binary.proofs.Passes.{turn-gate, turn-refused, pass-on, pass-stop, pass-end}
 

@@ -1,11 +1,8 @@
--- What the readers of differences find at a place of the text. Assumes nothing.
-use Prim.Native.Nat.{ℕ}
-use mathlib.Core.Bool.{true, false}
-use mathlib.Core.List.{List}
-use Rattle.model.specs.Reading.{Read, holds, fault}
-use Rattle.model.specs.GraphText.{Passed, lessBy}
+-- What the readers of differences find at a place of the text.
+use Rattle.base.specs.{ℕ, true, false, List}
+use Rattle.model.specs.{Read, holds, fault, Passed, lessBy}
 use Rattle.graph_loading.specs.declared.Literals.{Literals}
-use Rattle.graph_loading.specs.Tests.{literals}
+use Rattle.graph_loading.specs.{literals}
 use Rattle.graph_binary.specs.declared.Less.{Less}
 use Rattle.graph_binary.specs.declared.Less.the-variants.{Is as Leaves, Refused as NoLess}
 use Rattle.graph_binary.specs.declared.Gate.{Gate}

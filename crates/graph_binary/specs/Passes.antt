@@ -1,18 +1,14 @@
--- What the passes over inputs, output lines and ANDs answer and leave in the words: a turn for each due line, one after the other. Assumes nothing.
-use Prim.Native.Nat.{ℕ, zero, suc, _+_, _-_, _*_}
-use mathlib.Core.List.{List}
-use lib.Dec.{ltb}
-use lib.ListN.{length}
+-- What the passes over inputs, output lines and ANDs answer and leave in the words: a turn for each due line, one after the other.
+use Rattle.base.specs.{ℕ, zero, suc, _+_, _-_, _*_, List, ltb, length}
 use Rattle.model.specs.declared.Header.{Header}
 use Rattle.model.specs.declared.Verdict.{Verdict}
 use Rattle.model.specs.declared.Verdict.the-variants.{Accepted, Refused}
-use Rattle.base_text.specs.Fields.{onNumber, numberThen}
-use Rattle.graph_placing.specs.Placing.{pickWords}
+use Rattle.base_text.specs.{onNumber, numberThen}
+use Rattle.graph_placing.specs.{pickWords}
 use Rattle.graph_loading.specs.declared.Literals.{Literals}
 use Rattle.graph_loading.specs.declared.Turn.{Turn}
 use Rattle.graph_loading.specs.declared.Turn.the-variants.{To, Refused as Stop}
-use Rattle.graph_loading.specs.Tests.{literals, literalsFit, pickTurn, onTurn}
-use Rattle.graph_loading.specs.Stores.{storedLine, opened}
+use Rattle.graph_loading.specs.{literals, literalsFit, pickTurn, onTurn, storedLine, opened}
 use Rattle.graph_binary.specs.declared.Gate.{Gate}
 use Rattle.graph_binary.specs.Gates.{gateAt, onGate}
 

@@ -1,17 +1,11 @@
 // AIGER's binary form behind its header, read into the lent words: O output lines, then A ANDs.
 // "Inputs are variables 1 to I and ANDs follow in sequence. Each AND is two differences, left minus first operand and first minus second."
-ghost use mathlib.Core.Path.{_≡_};
-ghost use mathlib.Core.Bool.{true};
-ghost use Prim.Native.Nat.{_+_, _*_, _≤_, _<_};
-ghost use lib.ListN.{length};
-ghost use Rattle.model.specs.Limits.{need};
-ghost use Rattle.model.specs.Reading.{holds, verdictOf, verdictRuling, rulingOf};
-ghost use Rattle.model.specs.GraphText.{lessBy, readHeader, readGraph};
-ghost use Rattle.graph_placing.specs.Loaded.{Fit};
-ghost use Rattle.graph_loading.specs.Tests.{dueCount};
-ghost use Rattle.graph_binary.specs.Gates.{lessOf, gateAt};
-ghost use Rattle.graph_binary.specs.Passes.{inputLiterals, inputTurn, inputLeft, outputTurn, outputLeft, gateTurn, gateLeft, passTurn, passWords};
-ghost use Rattle.graph_binary.specs.Passes.{asVerdict, binaryWords};
+ghost use Rattle.base.specs.{_≡_, true, _+_, _*_, _≤_, _<_, length};
+ghost use Rattle.model.specs.{need, holds, verdictOf, verdictRuling, rulingOf, lessBy, readHeader, readGraph};
+ghost use Rattle.graph_placing.specs.{Fit};
+ghost use Rattle.graph_loading.specs.{dueCount};
+ghost use Rattle.graph_binary.specs.{lessOf, gateAt, inputLiterals, inputTurn, inputLeft, outputTurn, outputLeft, gateTurn, gateLeft};
+ghost use Rattle.graph_binary.specs.{passTurn, passWords, asVerdict, binaryWords};
 use base_text::Cursor;
 use base_text::Number;
 use graph_loading::Literals;

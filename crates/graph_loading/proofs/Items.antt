@@ -3,29 +3,19 @@
 --     Stored           the words after some items more; stored-none, stored-more, stored-behind
 --     stored-defined, stored-holding     what they hold after all items
 --     graph-held       and so after a text that holds a graph
--- Assumes nothing.
-use mathlib.Core.Path.{_≡_, refl, sym, ap, _∙_, subst}
-use mathlib.Core.Bool.{Bool, true, false, not, cond, _&&_, _||_}
-use mathlib.Core.Option.{none, some}
-use mathlib.Core.List.{List, [], _∷_, _++_, map, append-nil, append-assoc, map-append}
-use Prim.Native.Nat.{ℕ, suc, _+_, _/_, _≤_}
-use native.Mathlib.Omega.{arith}
-use lib.Dec.{eqb}
-use lib.ListN.{getD}
-use lib.Seq.{append-snoc}
-use borrow.Author.Tests.{eq-eqb, ne-eqb}
-use Rattle.model.specs.Base.{elem, any, all, keep}
-use Rattle.model.specs.Text.{Line}
-use Rattle.model.specs.Reading.{Read, holds, fault, next, unless, from?, verdictOf}
-use Rattle.model.specs.Graph.{And, Graph, node, varOf}
-use Rattle.model.specs.GraphText.{Kind, anInput, anOutput, anAnd, defines, Item, itemLiterals, readDue, readItems, uses, definedBy, checkUses, sameKind, isKind, graphOf, readGraph}
+use Rattle.base.specs.{_≡_, refl, sym, ap, _∙_, subst, Bool, true, false, not, cond, _&&_, _||_, none, some, List, [], _∷_, _++_, map}
+use Rattle.base.specs.{append-nil, append-assoc, map-append, ℕ, suc, _+_, _/_, _≤_, arith, eqb, getD, append-snoc, eq-eqb, ne-eqb}
+use Rattle.model.specs.{elem, any, all, keep, Line, Read, holds, fault, next, unless, from?, verdictOf, And, node, varOf, Kind, anInput}
+use Rattle.model.specs.{anOutput, anAnd, defines, Item, itemLiterals, readDue, readItems, uses, definedBy, checkUses, sameKind, isKind}
+use Rattle.model.specs.{graphOf, readGraph}
+use Rattle.model.specs.Graph.{Graph}
 use Rattle.model.specs.declared.Header.{Header}
 use Rattle.model.specs.declared.Verdict.the-variants.{Accepted}
-use Rattle.base_words.specs.Layout.{undefinedKind, constantKind, kindAt}
-use Rattle.theory_graph.proofs.Lists.{by-eqb, keep-append}
-use Rattle.graph_placing.specs.Loaded.{kindOf, Holding}
+use Rattle.theory_graph.proofs.{by-eqb, keep-append}
+use Rattle.base_words.specs.{undefinedKind, constantKind, kindAt}
+use Rattle.graph_placing.specs.{kindOf, Holding}
 use Rattle.graph_loading.specs.declared.Literals.{Literals}
-use Rattle.graph_loading.specs.Tests.{dueCount, literalsFit, mayDefine}
+use Rattle.graph_loading.specs.{dueCount, literalsFit, mayDefine}
 use Rattle.graph_loading.proofs.Storing.{nothing}
 use Rattle.graph_loading.proofs.Tests.{code, dueKind, itemList, Short, itemOf, all-fit}
 use Rattle.graph_loading.proofs.States.{andOf, grown, more, State}

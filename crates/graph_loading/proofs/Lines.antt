@@ -1,17 +1,8 @@
--- The lines of either form of a graph's text, from a place on. Assumes nothing.
-use mathlib.Core.Path.{_≡_, ap, _∙_}
-use mathlib.Core.Bool.{true, false, _&&_}
-use mathlib.Core.Option.{Option, none, some}
-use mathlib.Core.List.{List, [], _∷_}
-use Prim.Native.Nat.{ℕ, suc}
-use lib.Dec.{eqb}
-use lib.ListN.{length, drop}
-use Rattle.model.specs.Base.{andThen, only}
-use Rattle.model.specs.Text.{Line, ended, linesFrom, fields, numbers}
-use Rattle.model.specs.GraphText.{closed, Kind, anOutput, howMany, itemLiterals}
-use Rattle.base_text.specs.Fields.{onNumber, numberThen}
-use Rattle.base_text.specs.Lines.{lineAt, numbersAt}
-use Rattle.base_text.proofs.Numbers.{line-words, numbers-at, ten-number}
+-- The lines of either form of a graph's text, from a place on.
+use Rattle.base.specs.{_≡_, ap, _∙_, true, false, _&&_, Option, none, some, List, [], _∷_, ℕ, suc, eqb, length, drop}
+use Rattle.model.specs.{andThen, only, Line, ended, linesFrom, fields, numbers, closed, Kind, anOutput, howMany, itemLiterals}
+use Rattle.base_text.specs.{onNumber, numberThen, lineAt, numbersAt}
+use Rattle.base_text.proofs.{line-words, numbers-at, ten-number}
 
 abbrev pub linesOf : List ℕ → ℕ → List Line
 linesOf s at = linesFrom at [] (drop at s)

@@ -1,32 +1,23 @@
 -- The words hold the graph of the lines so far:
 --     State            so they do after k due lines, and say which variables are defined
 --     state-first, state-more     before the first line, and a line on
--- Assumes nothing.
-use mathlib.Core.Path.{_≡_, refl, sym, ap, _∙_, subst}
-use mathlib.Core.Logic.{_⊎_, inl, inr}
-use mathlib.Core.Bool.{Bool, true, false, not}
-use mathlib.Core.List.{List, [], _∷_, _++_, List·Memᴰ, List·Memᴰ·append-cases, List·Memᴰ·not-nil, List·Memᴰ·eq-of-singleton}
-use Prim.Native.Nat.{ℕ, suc, _+_, _-_, _/_, _≤_, _<_, min}
-use native.Mathlib.Omega.{arith}
-use lib.Dec.{eqb, ltb}
-use lib.ListN.{length, length-append}
-use borrow.Author.Tests.{eq-eqb, ne-eqb, ltb-true, ltb-false}
-use Rattle.model.specs.Base.{elem, any}
-use Rattle.model.specs.Graph.{And, Graph, undefined, both, node, varOf}
-use Rattle.model.specs.GraphText.{Kind, anInput, anOutput, anAnd}
+use Rattle.base.specs.{_≡_, refl, sym, ap, _∙_, subst, _⊎_, inl, inr, Bool, true, false, not, List, [], _∷_, _++_, List·Memᴰ}
+use Rattle.base.specs.{List·Memᴰ·append-cases, List·Memᴰ·not-nil, List·Memᴰ·eq-of-singleton, ℕ, suc, _+_, _-_, _/_, _≤_, _<_, min, arith}
+use Rattle.base.specs.{eqb, ltb, length, length-append, eq-eqb, ne-eqb, ltb-true, ltb-false}
+use Rattle.model.specs.{elem, any, And, undefined, both, node, varOf, Kind, anInput, anOutput, anAnd}
+use Rattle.model.specs.Graph.{Graph}
 use Rattle.model.specs.declared.Header.{Header}
-use Rattle.base_words.specs.Put.{putAt}
-use Rattle.base_words.specs.Layout.{Room, undefinedKind, inputKind, andKind, kindAt, outputAddr}
-use Rattle.base_words.specs.Record.{putNode}
-use Rattle.theory_graph.proofs.Lists.{by-eqb}
-use Rattle.graph_placing.specs.Loaded.{Fit, kindOf, leftOf, rightOf, Loaded, Within, Sure}
-use Rattle.graph_placing.specs.Placing.{putPlaced}
-use Rattle.graph_placing.proofs.Slots.{within-snoc, place-holds}
+use Rattle.theory_graph.proofs.{by-eqb}
+use Rattle.base_words.specs.{putAt, Room, undefinedKind, inputKind, andKind, kindAt, outputAddr, putNode}
+use Rattle.graph_placing.specs.{Fit, kindOf, leftOf, rightOf, Within, Sure, putPlaced}
+use Rattle.graph_placing.specs.Loaded.{Loaded}
+use Rattle.graph_placing.proofs.{within-snoc, place-holds}
 use Rattle.graph_loading.specs.declared.Literals.{Literals}
-use Rattle.graph_loading.specs.Tests.{dueCode, dueCount, literalsFit, isTaken}
-use Rattle.graph_loading.specs.Stores.{storedInput, storedLine, opened}
+use Rattle.graph_loading.specs.{dueCode, dueCount, literalsFit, isTaken, storedInput, storedLine, opened}
 use Rattle.graph_loading.proofs.Tests.{dueKind, Fresh, fresh}
-use Rattle.graph_loading.proofs.Storing.{node-holds, output-holds, opened-holds, withInput, withOutput, withAnd, nothing, Free, free-node, free-placed, kind-none, input-new, input-other, and-new, and-other, output-node, node-none}
+use Rattle.graph_loading.proofs.Storing.{node-holds, output-holds, opened-holds, withInput, withOutput, withAnd, nothing, Free}
+use Rattle.graph_loading.proofs.Storing.{free-node, free-placed, kind-none, input-new, input-other, and-new, and-other, output-node}
+use Rattle.graph_loading.proofs.Storing.{node-none}
 
 -- ---- the graph of the lines so far
 

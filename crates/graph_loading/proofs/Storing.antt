@@ -2,28 +2,19 @@
 --     node-holds, output-holds     the words hold it with a node or an output more
 --     input-new, input-other, and-new, and-other, output-node     its nodes with a line more
 --     opened-holds     nothing but variable 0 at first
--- Assumes nothing.
-use mathlib.Core.Path.{_≡_, refl, sym, ap, _∙_}
-use mathlib.Core.Bool.{Bool, true, false, cond}
-use mathlib.Core.List.{List, [], _∷_, _++_, List·Memᴰ, List·Memᴰ·head, List·Memᴰ·tail, List·Memᴰ·not-nil, Memᴰ·append-right}
-use Prim.Native.Nat.{ℕ, suc, _+_, _≤_, _<_}
-use native.Mathlib.Omega.{arith}
-use lib.Dec.{eqb}
-use lib.ListN.{length, getD, List·getD-append, length-append, length-replicate}
-use lib.Seq.{getD-append-seam}
-use borrow.Author.Tests.{eqb-false, eq-eqb, ne-eqb}
-use Rattle.model.specs.Base.{elem, any}
-use Rattle.model.specs.Graph.{And, Graph, Node, constant, input, undefined, both, findAnd, node}
-use Rattle.base_words.specs.Put.{putAt, zeros}
-use Rattle.base_words.specs.Layout.{Room, undefinedKind, constantKind, kindAddr, leftAddr, rightAddr, slotAddr, placeAddr, listsFrom, outputAddr, kindAt, leftAt, rightAt, slotAt, placeAt, outputAt}
-use Rattle.base_words.specs.Record.{putNode}
-use Rattle.base_words.proofs.Putting.{length-put, get-put-above}
-use Rattle.base_words.proofs.Parts.{word-put, word-apart, zero-put}
-use Rattle.base_words.proofs.Chosen.{node-length, node-apart}
-use Rattle.theory_graph.proofs.Lists.{by-eqb, elem-in}
-use Rattle.graph_placing.specs.Loaded.{kindOf, leftOf, rightOf, Within, Ordered, Loaded}
-use Rattle.graph_placing.proofs.Slots.{elem-snoc, place-holds}
-use Rattle.graph_loading.specs.Stores.{opened}
+use Rattle.base.specs.{_≡_, refl, sym, ap, _∙_, Bool, true, false, cond, List, [], _∷_, _++_, List·Memᴰ, List·Memᴰ·head, List·Memᴰ·tail}
+use Rattle.base.specs.{List·Memᴰ·not-nil, Memᴰ·append-right, ℕ, suc, _+_, _≤_, _<_, arith, eqb, length, getD, List·getD-append}
+use Rattle.base.specs.{length-append, length-replicate, getD-append-seam, eqb-false, eq-eqb, ne-eqb}
+use Rattle.model.specs.{elem, any, And, Node, constant, input, undefined, both, findAnd, node}
+use Rattle.model.specs.Graph.{Graph}
+use Rattle.theory_graph.proofs.{by-eqb, elem-in}
+use Rattle.base_words.specs.{putAt, zeros, Room, undefinedKind, constantKind, kindAddr, leftAddr, rightAddr, slotAddr, placeAddr, listsFrom}
+use Rattle.base_words.specs.{outputAddr, kindAt, leftAt, rightAt, slotAt, placeAt, outputAt, putNode}
+use Rattle.base_words.proofs.{length-put, get-put-above, word-put, word-apart, zero-put, node-length, node-apart}
+use Rattle.graph_placing.specs.{kindOf, leftOf, rightOf, Within, Ordered}
+use Rattle.graph_placing.specs.Loaded.{Loaded}
+use Rattle.graph_placing.proofs.{elem-snoc, place-holds}
+use Rattle.graph_loading.specs.{opened}
 
 -- ---- the words of a node that was stored
 

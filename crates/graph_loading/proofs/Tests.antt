@@ -2,23 +2,15 @@
 --     due-code, due-input, due-output, due-and     the kind of due line k
 --     fit-..           the literals are at most 2M + 1
 --     all-fit, taken-is     12 and 13, as the model asks them
--- Assumes nothing.
-use mathlib.Core.Path.{_≡_, refl, subst}
-use mathlib.Core.Bool.{Bool, true, false, not, _&&_}
-use mathlib.Core.List.{List, [], _∷_}
-use Prim.Native.Nat.{ℕ, _+_, _*_, _/_, _%_, _≤_, _<_}
-use native.Mathlib.Omega.{arith}
-use lib.Dec.{eqb, ltb, leb}
-use borrow.Author.Tests.{eqb-true, eqb-false, le-leb, lt-leb, leb-true, lt-ltb, le-ltb, not-true, not-false}
-use Rattle.model.specs.Base.{all, elem}
-use Rattle.model.specs.Graph.{varOf}
-use Rattle.model.specs.GraphText.{Kind, anInput, anOutput, anAnd, defines, Item}
+use Rattle.base.specs.{_≡_, refl, subst, Bool, true, false, not, _&&_, List, [], _∷_, ℕ, _+_, _*_, _/_, _%_, _≤_, _<_, arith, eqb, ltb, leb}
+use Rattle.base.specs.{eqb-true, eqb-false, le-leb, lt-leb, leb-true, lt-ltb, le-ltb, not-true, not-false}
+use Rattle.model.specs.{all, elem, varOf, Kind, anInput, anOutput, anAnd, defines, Item}
 use Rattle.model.specs.declared.Header.{Header}
-use Rattle.base_words.specs.Layout.{undefinedKind, inputKind, andKind, kindAt}
-use Rattle.base_text.proofs.Bytes.{and-left, and-right, and-true}
-use Rattle.graph_placing.specs.Placing.{pickN}
+use Rattle.base_words.specs.{undefinedKind, inputKind, andKind, kindAt}
+use Rattle.base_text.proofs.{and-left, and-right, and-true}
+use Rattle.graph_placing.specs.{pickN}
 use Rattle.graph_loading.specs.declared.Literals.{Literals}
-use Rattle.graph_loading.specs.Tests.{dueCode, literalsFit, LiteralsFit, mayDefine, isTaken}
+use Rattle.graph_loading.specs.{dueCode, literalsFit, LiteralsFit, mayDefine, isTaken}
 
 -- ---- what is due
 

@@ -1,12 +1,8 @@
--- What a due line leaves in the words, and the words before the first. Assumes nothing.
-use Prim.Native.Nat.{ℕ, _+_, _-_, _/_}
-use mathlib.Core.List.{List, [], _∷_}
-use lib.Dec.{ltb}
+-- What a due line leaves in the words, and the words before the first.
+use Rattle.base.specs.{ℕ, _+_, _-_, _/_, List, [], _∷_, ltb}
 use Rattle.model.specs.declared.Header.{Header}
-use Rattle.base_words.specs.Put.{putAt, zeros}
-use Rattle.base_words.specs.Layout.{constantKind, inputKind, andKind, outputAddr, listsFrom}
-use Rattle.base_words.specs.Record.{putNode}
-use Rattle.graph_placing.specs.Placing.{pickWords, putPlaced}
+use Rattle.base_words.specs.{putAt, zeros, constantKind, inputKind, andKind, outputAddr, listsFrom, putNode}
+use Rattle.graph_placing.specs.{pickWords, putPlaced}
 use Rattle.graph_loading.specs.declared.Literals.{Literals}
 
 -- all columns zero but for variable 0, which stands first in the placing order

@@ -1,11 +1,8 @@
--- The due lines' kinds, the tests of a line's literals, and the turn that a line takes. Assumes nothing.
-use Prim.Native.Nat.{ℕ, _+_, _*_, _/_, _%_, _≤_}
-use mathlib.Core.Bool.{Bool, true, false, not, _&&_, _||_}
-use mathlib.Core.List.{List}
-use lib.Dec.{eqb, ltb, leb}
+-- The due lines' kinds, the tests of a line's literals, and the turn that a line takes.
+use Rattle.base.specs.{ℕ, _+_, _*_, _/_, _%_, _≤_, Bool, true, false, not, _&&_, _||_, List, eqb, ltb, leb}
 use Rattle.model.specs.declared.Header.{Header}
-use Rattle.base_words.specs.Layout.{undefinedKind, inputKind, andKind, kindAt}
-use Rattle.graph_placing.specs.Placing.{pickN}
+use Rattle.base_words.specs.{undefinedKind, inputKind, andKind, kindAt}
+use Rattle.graph_placing.specs.{pickN}
 use Rattle.graph_loading.specs.declared.Literals.{Literals}
 use Rattle.graph_loading.specs.declared.Turn.{Turn}
 use Rattle.graph_loading.specs.declared.Turn.the-variants.{To, Refused as Stop}

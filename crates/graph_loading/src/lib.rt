@@ -1,11 +1,10 @@
 // A graph's definitions put into the lent words: what both forms of a graph's text share. "In either form" a graph has I inputs, O outputs and A
 // ANDs, due in this order; due line k is the k-th of them.
-ghost use mathlib.Core.Path.{_≡_};
-ghost use Prim.Native.Nat.{_+_, _*_, _≤_, _<_};
-ghost use Rattle.base_words.specs.Layout.{Room};
-ghost use Rattle.graph_placing.specs.Loaded.{Fit};
-ghost use Rattle.graph_loading.specs.Tests.{dueCode, dueCount, literalsFit, LiteralsFit, mayDefine, isTaken};
-ghost use Rattle.graph_loading.specs.Stores.{storedInput, storedLine, opened};
+ghost use Rattle.base.specs.{_≡_, _+_, _*_, _≤_, _<_};
+ghost use Rattle.base_words.specs.{Room};
+ghost use Rattle.graph_placing.specs.{Fit};
+ghost use Rattle.graph_loading.specs.{dueCode, dueCount, literalsFit, LiteralsFit, mayDefine, isTaken, storedInput, storedLine};
+ghost use Rattle.graph_loading.specs.{opened};
 use model::Header;
 
 // The literals of a due line, 0 where it has fewer than three, and the place behind it.

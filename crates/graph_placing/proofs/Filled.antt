@@ -1,14 +1,9 @@
--- The loop that places the ANDs, a slot at a time: what the slots from here on give is what all slots give. Assumes nothing.
-use mathlib.Core.Path.{_≡_, refl, sym, ap, _∙_}
-use mathlib.Core.List.{List}
-use Prim.Native.Nat.{ℕ, suc, _+_, _-_, _≤_, _<_}
-use native.Mathlib.Omega.{arith}
-use lib.ListN.{length}
+-- The loop that places the ANDs, a slot at a time: what the slots from here on give is what all slots give.
+use Rattle.base.specs.{_≡_, refl, sym, ap, _∙_, List, ℕ, suc, _+_, _-_, _≤_, _<_, arith, length}
 use Rattle.model.specs.declared.Header.{Header}
-use Rattle.base_words.specs.Layout.{placedOf, Room}
-use Rattle.graph_placing.specs.Loaded.{Fit}
-use Rattle.graph_placing.specs.Placing.{putPlaced, Operands, isWaiting, waitingFrom, nextAnd, orderWords, placedWords}
-use Rattle.graph_placing.specs.Uses.{Passed, Ready, Waked, Next, passedTo, takenFrom}
+use Rattle.base_words.specs.{placedOf, Room}
+use Rattle.graph_placing.specs.{Fit, putPlaced, Operands, isWaiting, waitingFrom, nextAnd, orderWords, placedWords, Passed, Ready}
+use Rattle.graph_placing.specs.{Waked, Next, passedTo, takenFrom}
 use Rattle.graph_placing.proofs.Slots.{fit-length, fit-room, placed-long}
 use Rattle.graph_placing.proofs.Seeking.{Below, below-first}
 use Rattle.graph_placing.proofs.Placed.{operands-placed, order-on, order-off, order-end, mark-on, mark-placed, next-first}

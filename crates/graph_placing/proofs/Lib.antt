@@ -7,3 +7,6 @@ pub mod Placed
 pub mod Uses
 pub mod Filled
 pub mod Orders
+pub use Slots.{elem-snoc, fit-length, fit-room, place-holds, within-snoc}
+pub use Seeking.{seek-end, seek-here, seek-past}
+pub use Orders.{holding-operands, holds-nodes, mem-index, place-law, place-verdict}

@@ -4,32 +4,24 @@
 --     place-verdict    `place` answers `placingVerdict`
 --     place-law        and the words hold `placingOrder`
 --     holds-nodes      the words hold the graph's nodes, as the layers above ask
--- Assumes nothing.
-use mathlib.Core.Path.{_≡_, refl, sym, ap, _∙_, subst}
-use mathlib.Core.Bool.{Bool, true, false, not}
-use mathlib.Core.Option.{none, some}
-use mathlib.Core.List.{List, [], _∷_, _++_, map, append-nil, List·Memᴰ, List·Memᴰ·head, List·Memᴰ·tail, Memᴰ·append-right}
-use Prim.Native.Nat.{ℕ, zero, suc, _+_, _-_, _*_, _/_, _≤_, _<_}
-use native.Mathlib.Omega.{arith}
-use lib.Dec.{T, eqb, leb}
-use lib.ListN.{length, getD, length-append}
-use lib.Seq.{append-snoc}
-use borrow.Author.Tests.{eq-eqb, ne-eqb, leb-true, leb-false}
-use Rattle.model.specs.Base.{elem, any, keep, lowest}
-use Rattle.model.specs.Reading.{refusedAt}
-use Rattle.model.specs.Graph.{And, Graph, Node, constant, input, undefined, both, node, varOf, ready, andOn, placeF, placingOrder, unplaced}
-use Rattle.model.specs.Netlist.{placingVerdict}
+use Rattle.base.specs.{_≡_, refl, sym, ap, _∙_, subst, Bool, true, false, not, none, some, List, [], _∷_, _++_, map, append-nil, List·Memᴰ}
+use Rattle.base.specs.{List·Memᴰ·head, List·Memᴰ·tail, Memᴰ·append-right, ℕ, zero, suc, _+_, _-_, _*_, _/_, _≤_, _<_, arith, T, eqb, leb}
+use Rattle.base.specs.{length, getD, length-append, append-snoc, eq-eqb, ne-eqb, leb-true, leb-false}
+use Rattle.model.specs.{elem, any, keep, lowest, refusedAt, And, Node, constant, input, undefined, both, node, varOf, ready, andOn, placeF}
+use Rattle.model.specs.{placingOrder, unplaced, placingVerdict}
+use Rattle.model.specs.Graph.{Graph}
 use Rattle.model.specs.declared.Header.{Header}
 use Rattle.model.specs.declared.Verdict.the-variants.{Accepted, Refused}
-use Rattle.base_words.specs.Layout.{Room, constantKind, andKind, kindAt, leftAt, rightAt, placeAt}
-use Rattle.base_words.specs.Record.{nodeOf, nodeAt}
-use Rattle.theory_graph.proofs.Lists.{by-eqb, elem-in, elem-out, map-in, map-out, keep-in, keep-out, is-true}
-use Rattle.theory_graph.proofs.Values.{Found, node-and}
-use Rattle.graph_placing.specs.Loaded.{Fit, kindOf, leftOf, rightOf, Ordered, Loaded, Within, Sure, Holding}
-use Rattle.graph_placing.specs.Placing.{putPlaced, Operands, isWaiting, isPlaced, isReady, seek, waitingFrom, nextAnd, orderWords, orderLow, placedWords, placedVerdict, pickVerdict}
+use Rattle.theory_graph.proofs.{by-eqb, elem-in, elem-out, map-in, map-out, keep-in, keep-out, is-true, Found, node-and}
+use Rattle.base_words.specs.{Room, constantKind, andKind, kindAt, leftAt, rightAt, placeAt, nodeOf, nodeAt}
+use Rattle.graph_placing.specs.{Fit, kindOf, leftOf, rightOf, Ordered, Within, Sure, Holding, putPlaced, Operands, isWaiting}
+use Rattle.graph_placing.specs.{isPlaced, isReady, seek, waitingFrom, nextAnd, orderWords, orderLow, placedWords, placedVerdict}
+use Rattle.graph_placing.specs.{pickVerdict}
+use Rattle.graph_placing.specs.Loaded.{Loaded}
 use Rattle.graph_placing.proofs.Slots.{fit-room, place-holds, elem-snoc, within-snoc}
 use Rattle.graph_placing.proofs.Seeking.{seek-under, seek-found, seek-lowest, seek-nothing}
-use Rattle.graph_placing.proofs.Placed.{waits-kind, waits-place, waiting-is, ready-is-seek, waiting-to, waits-less, ready-waits, not-ready, order-on, order-off, order-end}
+use Rattle.graph_placing.proofs.Placed.{waits-kind, waits-place, waiting-is, ready-is-seek, waiting-to, waits-less, ready-waits}
+use Rattle.graph_placing.proofs.Placed.{not-ready, order-on, order-off, order-end}
 
 -- ---- which variables are placed
 

@@ -7,21 +7,14 @@
 --     mark-..          no AND below the mark `low` waits
 --     next-first       what is found from the mark is what is found from the first variable
 --     answer-..        what is answered behind the loop
--- Assumes nothing.
-use mathlib.Core.Path.{_≡_, refl, sym, ap, _∙_, subst}
-use mathlib.Core.Bool.{Bool, true, false, _&&_, and-false}
-use mathlib.Core.List.{List}
-use Prim.Native.Nat.{ℕ, zero, suc, _+_, _-_, _/_, _≤_, _<_}
-use native.Mathlib.Omega.{arith}
-use lib.Dec.{T, eqb, leb}
-use mir.Facts.{and-yes}
-use borrow.Author.Tests.{eqb-true, ne-eqb, leb-true, le-leb, lt-leb}
+use Rattle.base.specs.{_≡_, refl, sym, ap, _∙_, subst, Bool, true, false, _&&_, and-false, List, ℕ, zero, suc, _+_, _-_, _/_, _≤_, _<_}
+use Rattle.base.specs.{arith, T, eqb, leb, and-yes, eqb-true, ne-eqb, leb-true, le-leb, lt-leb}
 use Rattle.model.specs.declared.Header.{Header}
 use Rattle.model.specs.declared.Verdict.the-variants.{Accepted, Refused}
-use Rattle.base_words.specs.Layout.{Room, andKind, kindAddr, leftAddr, rightAddr, placeAddr, kindAt, leftAt, rightAt, placeAt}
-use Rattle.theory_graph.proofs.Lists.{by-eqb, is-true}
-use Rattle.graph_placing.specs.Loaded.{Fit}
-use Rattle.graph_placing.specs.Placing.{pickN, pickWords, putPlaced, Operands, isWaiting, isPlaced, isReady, seek, waitingFrom, readyFrom, nextAnd, orderWords, orderLow, placedWords, placedVerdict}
+use Rattle.theory_graph.proofs.{by-eqb, is-true}
+use Rattle.base_words.specs.{Room, andKind, kindAddr, leftAddr, rightAddr, placeAddr, kindAt, leftAt, rightAt, placeAt}
+use Rattle.graph_placing.specs.{Fit, pickN, pickWords, putPlaced, Operands, isWaiting, isPlaced, isReady, seek, waitingFrom}
+use Rattle.graph_placing.specs.{readyFrom, nextAnd, orderWords, orderLow, placedWords, placedVerdict}
 use Rattle.graph_placing.proofs.Slots.{fit-room, placed-apart, placed-long, place-stored}
 use Rattle.graph_placing.proofs.Seeking.{seek-to, Below, below-first, below-on, below-skip}
 

@@ -3,19 +3,12 @@
 --     seek-from, seek-to, seek-found, seek-before, seek-under, seek-is     what is known of the number that is found
 --     below-first, below-on, below-skip     what does not pass may be skipped
 --     seek-lowest, seek-nothing     it is the lowest of a list that the test describes
--- Assumes nothing.
-use mathlib.Core.Path.{_≡_, refl, ap, _∙_}
-use mathlib.Core.Bool.{Bool, true, false, cond}
-use mathlib.Core.Option.{Option, none, some}
-use mathlib.Core.List.{List, _∷_, List·Memᴰ, List·Memᴰ·head, List·Memᴰ·tail}
-use Prim.Native.Nat.{ℕ, zero, suc, _+_, _-_, _≤_, _<_}
-use native.Mathlib.Omega.{arith}
-use lib.Dec.{leb}
-use borrow.Author.Tests.{leb-true, leb-false}
-use Rattle.model.specs.Base.{lowest, smaller}
-use Rattle.theory_graph.proofs.Lists.{by-eqb, lowest-in}
-use Rattle.base_marks.proofs.Marks.{by-leb}
-use Rattle.graph_placing.specs.Placing.{pickN, seek}
+use Rattle.base.specs.{_≡_, refl, ap, _∙_, Bool, true, false, cond, Option, none, some, List, _∷_, List·Memᴰ, List·Memᴰ·head}
+use Rattle.base.specs.{List·Memᴰ·tail, ℕ, zero, suc, _+_, _-_, _≤_, _<_, arith, leb, leb-true, leb-false}
+use Rattle.model.specs.{lowest, smaller}
+use Rattle.theory_graph.proofs.{by-eqb, lowest-in}
+use Rattle.base_marks.proofs.{by-leb}
+use Rattle.graph_placing.specs.{pickN, seek}
 
 -- a test, by its answer
 pub by-truth {ℓ} : {X : Type ℓ} (b : Bool) → (b ≡ true → X) → (b ≡ false → X) → X

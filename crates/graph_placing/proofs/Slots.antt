@@ -3,24 +3,16 @@
 --     placed-long, placed-apart, place-stored     the words with one more variable placed
 --     elem-snoc, within-snoc       a list with one more element
 --     ordered-more, place-holds    the order with one more, in words that hold a graph
--- Assumes nothing.
-use mathlib.Core.Path.{_≡_, sym, ap, _∙_, subst}
-use mathlib.Core.List.{List, [], _∷_, _++_, List·Memᴰ, List·Memᴰ·head, Memᴰ·append-left, Memᴰ·append-right}
-use Prim.Native.Nat.{ℕ, _+_, _≤_, _<_}
-use native.Mathlib.Omega.{arith}
-use lib.ListN.{length, getD, List·getD-append, length-append}
-use lib.Seq.{getD-append-seam}
-use borrow.Author.Tests.{ne-eqb}
-use Rattle.model.specs.Base.{elem, any}
+use Rattle.base.specs.{_≡_, sym, ap, _∙_, subst, List, [], _∷_, _++_, List·Memᴰ, List·Memᴰ·head, Memᴰ·append-left, Memᴰ·append-right, ℕ}
+use Rattle.base.specs.{_+_, _≤_, _<_, arith, length, getD, List·getD-append, length-append, getD-append-seam, ne-eqb}
+use Rattle.model.specs.{elem, any}
 use Rattle.model.specs.Graph.{Graph}
 use Rattle.model.specs.declared.Header.{Header}
-use Rattle.base_words.specs.Put.{putAt}
-use Rattle.base_words.specs.Layout.{Room, kindAddr, leftAddr, rightAddr, slotAddr, placeAddr, outputAddr, slotAt, placeAt}
-use Rattle.base_words.proofs.Putting.{length-put}
-use Rattle.base_words.proofs.Parts.{word-put, word-apart}
-use Rattle.theory_graph.proofs.Lists.{by-eqb, getD-in}
-use Rattle.graph_placing.specs.Loaded.{Fit, Within, Ordered, Loaded}
-use Rattle.graph_placing.specs.Placing.{putPlaced}
+use Rattle.theory_graph.proofs.{by-eqb, getD-in}
+use Rattle.base_words.specs.{putAt, Room, kindAddr, leftAddr, rightAddr, slotAddr, placeAddr, outputAddr, slotAt, placeAt}
+use Rattle.base_words.proofs.{length-put, word-put, word-apart}
+use Rattle.graph_placing.specs.{Fit, Within, Ordered, putPlaced}
+use Rattle.graph_placing.specs.Loaded.{Loaded}
 
 -- ---- enough words
 

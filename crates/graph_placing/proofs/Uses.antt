@@ -3,24 +3,20 @@
 --     passed-none, passed-and, passed-other     one AND more is passed
 --     next-marked, none-below, ready-listed     the lowest mark, or none below where the ANDs are passed to
 --     waked-start, woken, waking-end     the walk over the users of a variable that was placed
--- Assumes nothing.
-use mathlib.Core.Path.{_≡_, refl, sym, ap, _∙_, subst}
-use mathlib.Core.Bool.{true, false}
-use mathlib.Core.List.{List}
-use Prim.Native.Nat.{ℕ, _+_, _-_, _*_, _/_, _%_, _≤_, _<_}
-use native.Mathlib.Omega.{arith}
-use lib.Dec.{ltb}
-use lib.ListN.{getD, set, length-set, replicate, length-replicate, getD-replicate}
-use lib.Seq.{getD-set-same, getD-set-other}
-use borrow.Author.Tests.{eq-eqb, ne-eqb, lt-ltb, le-ltb}
-use Rattle.base_words.specs.Layout.{Room, andKind, kindAt, leftAt, rightAt}
-use Rattle.theory_graph.proofs.Lists.{by-eqb}
-use Rattle.base_marks.specs.Marks.{Marks, has, added, removed, lowestOf}
-use Rattle.base_marks.proofs.Marks.{by-leb, empty-marks, empty-has, add-marks, add-in, add-other, remove-marks, remove-out, remove-other, lowest-in, lowest-least}
-use Rattle.graph_placing.specs.Placing.{pickN, pickWords, putPlaced, Operands, isWaiting, isReady, readyFrom}
-use Rattle.graph_placing.specs.Uses.{useOf, Listed, Lists, Both, Passed, Kept, Waking, Waked, Ready, Next, passedTo, takenFrom}
+use Rattle.base.specs.{_≡_, refl, sym, ap, _∙_, subst, true, false, List, ℕ, _+_, _-_, _*_, _/_, _%_, _≤_, _<_, arith, ltb, getD, set}
+use Rattle.base.specs.{length-set, replicate, length-replicate, getD-replicate, getD-set-same, getD-set-other, eq-eqb, ne-eqb, lt-ltb}
+use Rattle.base.specs.{le-ltb}
+use Rattle.theory_graph.proofs.{by-eqb}
+use Rattle.base_words.specs.{Room, andKind, kindAt, leftAt, rightAt}
+use Rattle.base_marks.specs.Marks.{Marks}
+use Rattle.base_marks.specs.{has, added, removed, lowestOf}
+use Rattle.base_marks.proofs.{by-leb, empty-marks, empty-has, add-marks, add-in, add-other, remove-marks, remove-out, remove-other}
+use Rattle.base_marks.proofs.{lowest-in, lowest-least}
+use Rattle.graph_placing.specs.{pickN, pickWords, putPlaced, Operands, isWaiting, isReady, readyFrom, useOf, Listed, Lists, Both}
+use Rattle.graph_placing.specs.{Passed, Kept, Waking, Waked, Ready, Next, passedTo, takenFrom}
 use Rattle.graph_placing.proofs.Seeking.{true-false, by-truth, seek-is, seek-from, seek-found, seek-before, Below, below-skip}
-use Rattle.graph_placing.proofs.Placed.{waits-kind, ready-waits, not-ready, left-placed, right-placed, placed-waits, waits-apart, ready-apart, ready-more}
+use Rattle.graph_placing.proofs.Placed.{waits-kind, ready-waits, not-ready, left-placed, right-placed, placed-waits, waits-apart}
+use Rattle.graph_placing.proofs.Placed.{ready-apart, ready-more}
 
 -- ---- the variable of a use
 

@@ -1,12 +1,11 @@
 -- Words that hold a graph, every word of them said: the nodes and the first slots of the placing order in their columns, zeros in the other columns,
--- the output literals, and all other words as they were. Assumes nothing.
-use mathlib.Core.Path.{_≡_}
-use mathlib.Core.List.{List, List·Memᴰ}
-use Prim.Native.Nat.{ℕ, _+_, _*_, _≤_, _<_}
-use lib.ListN.{length, getD}
-use Rattle.model.specs.Graph.{And, Graph, Node, constant, input, undefined, both, node}
+-- the output literals, and all other words as they were.
+use Rattle.base.specs.{_≡_, List, List·Memᴰ, ℕ, _+_, _*_, _≤_, _<_, length, getD}
+use Rattle.model.specs.{And, Node, constant, input, undefined, both, node}
+use Rattle.model.specs.Graph.{Graph}
 use Rattle.model.specs.declared.Header.{Header}
-use Rattle.base_words.specs.Layout.{RoomFor, undefinedKind, constantKind, inputKind, andKind, kindAt, leftAt, rightAt, slotAt, placeAt, outputAt, countAddr, listsFrom, outputAddr}
+use Rattle.base_words.specs.{RoomFor, undefinedKind, constantKind, inputKind, andKind, kindAt, leftAt, rightAt, slotAt, placeAt, outputAt}
+use Rattle.base_words.specs.{countAddr, listsFrom, outputAddr}
 
 -- enough words for an accepted header
 pub record Fit (h : Header) (w : List ℕ) : Type 0 where

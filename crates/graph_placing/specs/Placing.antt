@@ -1,14 +1,9 @@
--- What placing the ANDs answers and leaves in the words: a slot for each, one after the other. Assumes nothing.
-use Prim.Native.Nat.{ℕ, zero, suc, _+_, _-_, _*_, _/_, _≤_}
-use mathlib.Core.Path.{_≡_}
-use mathlib.Core.Bool.{Bool, true, false, not, _&&_}
-use mathlib.Core.List.{List, [], _∷_}
-use lib.Dec.{eqb, leb}
+-- What placing the ANDs answers and leaves in the words: a slot for each, one after the other.
+use Rattle.base.specs.{ℕ, zero, suc, _+_, _-_, _*_, _/_, _≤_, _≡_, Bool, true, false, not, _&&_, List, [], _∷_, eqb, leb}
 use Rattle.model.specs.declared.Header.{Header}
 use Rattle.model.specs.declared.Verdict.{Verdict}
 use Rattle.model.specs.declared.Verdict.the-variants.{Accepted, Refused}
-use Rattle.base_words.specs.Put.{putAt}
-use Rattle.base_words.specs.Layout.{andKind, slotAddr, placeAddr, kindAt, leftAt, rightAt, placeAt}
+use Rattle.base_words.specs.{putAt, andKind, slotAddr, placeAddr, kindAt, leftAt, rightAt, placeAt}
 
 abbrev pub pickN : Bool → ℕ → ℕ → ℕ
 pickN true a b = a

@@ -1,14 +1,10 @@
 -- The ANDs that wait, listed by their operands, and those of them that are ready. An AND v has two uses: 2 v is of its left operand's variable and
 -- 2 v + 1 of its right one's. A variable's uses are a list from the highest down: `heads` has the first for each variable, `links` the next for each
--- use, and 0 ends it. Assumes nothing.
-use Prim.Native.Nat.{ℕ, _+_, _*_, _/_, _%_, _≤_, _<_}
-use mathlib.Core.Path.{_≡_}
-use mathlib.Core.Bool.{true}
-use mathlib.Core.List.{List}
-use lib.Dec.{eqb, ltb}
-use lib.ListN.{length, getD}
-use Rattle.base_marks.specs.Marks.{Marks, has, removed}
-use Rattle.base_words.specs.Layout.{leftAt, rightAt}
+-- use, and 0 ends it.
+use Rattle.base.specs.{ℕ, _+_, _*_, _/_, _%_, _≤_, _<_, _≡_, true, List, eqb, ltb, length, getD}
+use Rattle.base_words.specs.{leftAt, rightAt}
+use Rattle.base_marks.specs.Marks.{Marks}
+use Rattle.base_marks.specs.{has, removed}
 use Rattle.graph_placing.specs.Placing.{pickN, pickWords, isWaiting, isReady, readyFrom}
 
 -- the variable that a use is of

@@ -1,12 +1,9 @@
 // The placing order, in the lent words: "variable 0 and the inputs first, then again and again the lowest-numbered AND whose operands are both placed."
-ghost use mathlib.Core.Path.{_≡_};
-ghost use Prim.Native.Nat.{_+_, _*_, _≤_, _<_};
-ghost use lib.ListN.{getD, set};
-ghost use Rattle.base_marks.specs.Marks.{added};
-ghost use Rattle.base_words.specs.Layout.{Room};
-ghost use Rattle.graph_placing.specs.Loaded.{Fit};
-ghost use Rattle.graph_placing.specs.Placing.{pickWords, putPlaced, Operands, isWaiting, isPlaced, isReady, waitingFrom, readyFrom, placedWords, placedVerdict};
-ghost use Rattle.graph_placing.specs.Uses.{Passed, Kept, Waked, Ready, Next, passedTo, takenFrom};
+ghost use Rattle.base.specs.{_≡_, _+_, _*_, _≤_, _<_, getD, set};
+ghost use Rattle.base_words.specs.{Room};
+ghost use Rattle.base_marks.specs.{added};
+ghost use Rattle.graph_placing.specs.{Fit, pickWords, putPlaced, Operands, isWaiting, isPlaced, isReady, waitingFrom, readyFrom};
+ghost use Rattle.graph_placing.specs.{placedWords, placedVerdict, Passed, Kept, Waked, Ready, Next, passedTo, takenFrom};
 use model::Header;
 use model::Verdict;
 

@@ -1,36 +1,22 @@
 -- The due lines, as the crate model says them:
 --     due-at           what due line k is
 --     view             the line at a place has its form, and then these are its literals, or it has not
--- Assumes nothing.
-use Prim.Native.Nat.{ℕ, zero, suc, _+_, _-_, _≤_, _<_}
-use native.Mathlib.Numerals.{add-one}
-use native.Mathlib.Omega.{arith}
-use mathlib.Core.Path.{_≡_, refl, sym, ap, _∙_}
-use mathlib.Core.Bool.{Bool, true, false}
-use mathlib.Core.Option.{Option, none, some}
-use mathlib.Core.List.{List, [], _∷_, _++_}
-use lib.Dec.{eqb, ltb}
-use lib.ListN.{length, drop, getD, replicate, length-append, length-replicate, getD-replicate, List·getD-append, drop-of-length-le}
-use lib.Seq.{drop-cons, getD-append-add}
-use borrow.Author.Tests.{ltb-true, ltb-false}
-use Rattle.model.specs.Base.{andThen}
-use Rattle.model.specs.Text.{ended}
-use Rattle.model.specs.GraphText.{Kind, anInput, anOutput, anAnd, closed, howMany, due, itemLiterals}
+use Rattle.base.specs.{ℕ, zero, suc, _+_, _-_, _≤_, _<_, add-one, arith, _≡_, refl, sym, ap, _∙_, Bool, true, false, Option, none, some}
+use Rattle.base.specs.{List, [], _∷_, _++_, eqb, ltb, length, drop, getD, replicate, length-append, length-replicate, getD-replicate}
+use Rattle.base.specs.{List·getD-append, drop-of-length-le, drop-cons, getD-append-add, ltb-true, ltb-false}
+use Rattle.model.specs.{andThen, ended, Kind, anInput, anOutput, anAnd, closed, howMany, due, itemLiterals}
 use Rattle.model.specs.declared.Header.{Header}
+use Rattle.base_words.specs.{undefinedKind, inputKind, andKind}
 use Rattle.base_text.specs.declared.Cursor.{Cursor}
 use Rattle.base_text.specs.declared.Number.{Number}
 use Rattle.base_text.specs.declared.Number.the-variants.{Value as Found, Broken as NoNumber}
-use Rattle.base_text.specs.Fields.{onNumber, numberOf, numberThen, numberEnd}
-use Rattle.base_text.specs.Lines.{lineAt, pastLine, afterAt, numbersAt}
-use Rattle.base_text.proofs.Found.{pastEnd, foundEnd, number-end-is}
-use Rattle.base_text.proofs.Numbers.{numbers-ended}
-use Rattle.base_words.specs.Layout.{undefinedKind, inputKind, andKind}
+use Rattle.base_text.specs.{onNumber, numberOf, numberThen, numberEnd, lineAt, pastLine, afterAt, numbersAt}
+use Rattle.base_text.proofs.{pastEnd, foundEnd, number-end-is, numbers-ended}
 use Rattle.graph_loading.specs.declared.Literals.{Literals}
+use Rattle.graph_loading.specs.{dueCount, literals}
+use Rattle.graph_loading.proofs.{item-numbers, code, pickKind, dueKind, itemList, Short}
 use Rattle.graph_reader.specs.declared.LineRead.the-variants.{Read as ALine, Broken as NoLine}
-use Rattle.graph_reader.specs.Lines.{oneLine, andLine, lineRead}
-use Rattle.graph_loading.specs.Tests.{dueCount, literals}
-use Rattle.graph_loading.proofs.Lines.{item-numbers}
-use Rattle.graph_loading.proofs.Tests.{code, pickKind, dueKind, itemList, Short}
+use Rattle.graph_reader.specs.{oneLine, andLine, lineRead}
 use Rattle.graph_reader.proofs.Head.{three-is}
 
 -- ---- what is due

@@ -4,40 +4,29 @@
 --     header-means     the header of the text's first line is what `formAt` finds
 --     header-..        and so 7, 8, 9 and 19 apply just where `header` refuses
 --     limits-..        the tests of 9, one by one
--- Assumes nothing.
-use Prim.Native.Nat.{ℕ, _+_, _-_, _≤_, _<_}
-use native.Mathlib.Omega.{arith}
-use mathlib.Core.Path.{_≡_, refl, sym, ap, _∙_}
-use mathlib.Core.Bool.{Bool, true, false, cond, _&&_, _||_}
-use mathlib.Core.Option.{Option, none, some}
-use mathlib.Core.List.{List, [], _∷_}
-use lib.Dec.{eqb, ltb, leb}
-use lib.ListN.{length, drop, getD}
-use borrow.Author.Tests.{le-leb, lt-leb, leb-true, leb-false, eqb-true, lt-ltb}
-use Rattle.model.specs.Base.{andThen, only, same}
-use Rattle.model.specs.Text.{Line, ended, nextOf, text, linesFrom, fields, number, numbers}
-use Rattle.model.specs.Reading.{Read, holds, fault, next, unless, from?, rulingOf}
-use Rattle.model.specs.GraphText.{closed, headerOfNumbers, headerOf, inLimits, inSequence, readHeader, headerAnswer, headerRuling, headerValues, headerNumbers}
+use Rattle.base.specs.{ℕ, _+_, _-_, _≤_, _<_, arith, _≡_, refl, sym, ap, _∙_, Bool, true, false, cond, _&&_, _||_, Option, none, some, List}
+use Rattle.base.specs.{[], _∷_, eqb, ltb, leb, length, drop, getD, le-leb, lt-leb, leb-true, leb-false, eqb-true, lt-ltb}
+use Rattle.model.specs.{andThen, only, same, Line, ended, nextOf, text, linesFrom, fields, number, numbers, Read, holds, fault, next}
+use Rattle.model.specs.{unless, from?, rulingOf, closed, headerOfNumbers, headerOf, inLimits, inSequence, readHeader, headerAnswer}
+use Rattle.model.specs.{headerRuling, headerValues, headerNumbers}
 use Rattle.model.specs.declared.Header.{Header}
 use Rattle.model.specs.declared.HeaderAnswer.{HeaderAnswer}
 use Rattle.model.specs.declared.HeaderAnswer.the-variants.{Read as WasRead}
-use Rattle.model.proofs.Answers.{header-ruled}
-use Rattle.base_text.proofs.Bytes.{and-left, and-right, and-false, and-true}
+use Rattle.model.proofs.{header-ruled}
+use Rattle.base_text.proofs.{and-left, and-right, and-false, and-true, past, pastEnd, found, foundEnd, number-is, number-end-is, lines-at}
+use Rattle.base_text.proofs.{past-at, span-long, line-words, numbers-at}
 use Rattle.base_text.specs.declared.Cursor.{Cursor}
 use Rattle.base_text.specs.declared.Span.{Span}
-use Rattle.base_text.specs.Fields.{wordAt, endAt, isByte, onNumber, onStep, numberOf, stepOf, byteAt, numberThen, numberEnd}
-use Rattle.base_text.specs.Lines.{lineAt, pastLine, spanAt, wordsAt, sepsAt, afterAt, numbersAt}
-use Rattle.base_text.proofs.Found.{past, pastEnd, found, foundEnd, number-is, number-end-is}
-use Rattle.base_text.proofs.Bridge.{lines-at, past-at}
-use Rattle.base_text.proofs.Spans.{span-long}
-use Rattle.base_text.proofs.Numbers.{line-words, numbers-at}
+use Rattle.base_text.specs.{wordAt, endAt, isByte, onNumber, onStep, numberOf, stepOf, byteAt, numberThen, numberEnd, lineAt, pastLine}
+use Rattle.base_text.specs.{spanAt, wordsAt, sepsAt, afterAt, numbersAt}
 use Rattle.graph_reader.specs.declared.Tagged.{Tagged}
 use Rattle.graph_reader.specs.declared.Tagged.the-variants.{Word, Broken as NoTag}
 use Rattle.graph_reader.specs.declared.Three.{Three}
 use Rattle.graph_reader.specs.declared.Three.the-variants.{Numbers, Broken as NoThree}
 use Rattle.graph_reader.specs.declared.HeaderForm.{HeaderForm}
 use Rattle.graph_reader.specs.declared.HeaderForm.the-variants.{Is, Broken as NoForm}
-use Rattle.graph_reader.specs.Lines.{threeAt, onThree, onTag, pickTag, aag, aig, tagBehind, tagAt, headerRecord, numbersForm, headerEnds, pickForm, formAt}
+use Rattle.graph_reader.specs.{threeAt, onThree, onTag, pickTag, aag, aig, tagBehind, tagAt, headerRecord, numbersForm, headerEnds}
+use Rattle.graph_reader.specs.{pickForm, formAt}
 
 -- ---- the limits
 

@@ -2,25 +2,17 @@
 --     judged-good      what is known of a line that is free of 11 to 13
 --     turn-..          a turn by what the line is found to be
 --     lines-.., check-..   the passes, a turn at a time
--- Assumes nothing.
-use Prim.Native.Nat.{ℕ, suc, _+_, _-_, _≤_, _<_}
-use native.Mathlib.Omega.{arith}
-use mathlib.Core.Path.{_≡_, refl, sym, ap, _∙_}
-use mathlib.Core.Bool.{Bool, true, false, _&&_}
-use mathlib.Core.List.{List}
-use lib.ListN.{length}
-use borrow.Author.Tests.{lt-ltb, le-ltb}
+use Rattle.base.specs.{ℕ, suc, _+_, _-_, _≤_, _<_, arith, _≡_, refl, sym, ap, _∙_, Bool, true, false, _&&_, List, length, lt-ltb, le-ltb}
 use Rattle.model.specs.declared.Header.{Header}
 use Rattle.model.specs.declared.Verdict.the-variants.{Accepted, Refused}
 use Rattle.graph_loading.specs.declared.Literals.{Literals}
+use Rattle.graph_loading.specs.declared.Turn.the-variants.{To, Refused as Stop}
+use Rattle.graph_loading.specs.{dueCode, dueCount, literalsFit, mayDefine, isTaken, storedLine}
 use Rattle.graph_reader.specs.declared.LineRead.{LineRead}
 use Rattle.graph_reader.specs.declared.LineRead.the-variants.{Read as ALine, Broken as NoLine}
 use Rattle.graph_reader.specs.declared.Judged.the-variants.{Good, Bad}
-use Rattle.graph_loading.specs.declared.Turn.the-variants.{To, Refused as Stop}
-use Rattle.graph_reader.specs.Lines.{lineRead, onLine, pickJudged, judgedAt}
-use Rattle.graph_loading.specs.Tests.{dueCode, dueCount, literalsFit, mayDefine, isTaken}
-use Rattle.graph_loading.specs.Stores.{storedLine}
-use Rattle.graph_reader.specs.Passes.{turnAt, turnWords, linesVerdict, linesWords, checkAt, checkVerdict}
+use Rattle.graph_reader.specs.{lineRead, onLine, pickJudged, judgedAt, turnAt, turnWords, linesVerdict, linesWords, checkAt}
+use Rattle.graph_reader.specs.{checkVerdict}
 
 bad-good : {n : ℕ} {l : Literals} → Bad n ≡ Good l → ⊥
 bad-good {n} {l} h = let z : _≡_ {A = ℕ} 0 1 = cc in omega arith

@@ -1,29 +1,18 @@
 -- What the lines use is defined, as the words that they are stored in have it:
 --     Passing          a loop over numbers from 0 on: what those from here on pass is what all pass
 --     line-known       where the words say that all is defined, it is so of each line
--- Assumes nothing.
-use mathlib.Core.Path.{_≡_, sym, ap, _∙_, subst}
-use mathlib.Core.Bool.{Bool, true, false, _&&_}
-use mathlib.Core.List.{List, _∷_, List·Memᴰ}
-use Prim.Native.Nat.{ℕ, suc, _+_, _-_, _*_, _/_, _≤_, _<_}
-use native.Mathlib.Numerals.{add-one}
-use native.Mathlib.Omega.{arith}
-use lib.Dec.{T, leb}
-use lib.ListN.{getD}
-use borrow.Author.Tests.{eq-eqb}
-use Rattle.model.specs.Base.{from, below, all}
-use Rattle.model.specs.Graph.{node, varOf}
-use Rattle.model.specs.GraphText.{Kind, anInput, anOutput, anAnd, Item, sameKind, isKind, graphOf}
+use Rattle.base.specs.{_≡_, sym, ap, _∙_, subst, Bool, true, false, _&&_, List, _∷_, List·Memᴰ, ℕ, suc, _+_, _-_, _*_, _/_, _≤_, _<_}
+use Rattle.base.specs.{add-one, arith, T, leb, getD, eq-eqb}
+use Rattle.model.specs.{from, below, all, node, varOf, Kind, anInput, anOutput, anAnd, Item, sameKind, isKind, graphOf}
 use Rattle.model.specs.declared.Header.{Header}
-use Rattle.base_words.specs.Layout.{constantKind, andKind, kindAt, leftAt, rightAt, outputAt}
-use Rattle.theory_graph.proofs.Lists.{map-in, keep-in, below-in, all-of, is-true}
-use Rattle.base_text.proofs.Bytes.{and-left, and-right}
-use Rattle.graph_placing.specs.Loaded.{kindOf, leftOf, rightOf, Holding}
-use Rattle.graph_placing.proofs.Orders.{mem-index}
+use Rattle.theory_graph.proofs.{map-in, keep-in, below-in, all-of, is-true}
+use Rattle.base_words.specs.{constantKind, andKind, kindAt, leftAt, rightAt, outputAt}
+use Rattle.base_text.proofs.{and-left, and-right}
+use Rattle.graph_placing.specs.{kindOf, leftOf, rightOf, Holding}
+use Rattle.graph_placing.proofs.{mem-index}
 use Rattle.graph_loading.specs.declared.Literals.{Literals}
-use Rattle.graph_loading.proofs.Tests.{code, Short, itemOf}
-use Rattle.graph_loading.proofs.States.{andOf}
-use Rattle.graph_reader.specs.Lines.{isKnown, usesKnown, outputKnown, operandsKnown, wordsKnown}
+use Rattle.graph_loading.proofs.{code, Short, itemOf, andOf}
+use Rattle.graph_reader.specs.{isKnown, usesKnown, outputKnown, operandsKnown, wordsKnown}
 
 -- ---- a loop over the numbers below n
 

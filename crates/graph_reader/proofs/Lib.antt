@@ -7,3 +7,5 @@ pub mod DueLines
 pub mod Loading
 pub mod Knowing
 pub mod Loads
+pub use Head.{header-read}
+pub use Loads.{load-law, place-asks}

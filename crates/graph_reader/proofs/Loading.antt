@@ -1,35 +1,21 @@
 -- A turn of the loop over the due lines is a line of the crate model's:
 --     step             the line at a place is refused by both, or read by both
--- Assumes nothing.
-use mathlib.Core.Path.{_≡_, refl, sym, ap, _∙_}
-use mathlib.Core.Bool.{Bool, true, false, not, cond, _&&_}
-use mathlib.Core.Option.{none, some}
-use mathlib.Core.List.{List, [], _∷_}
-use Prim.Native.Nat.{ℕ, _+_, _≤_, _<_}
-use lib.Dec.{ltb}
-use lib.ListN.{length, drop}
-use borrow.Author.Tests.{ltb-true, ltb-false}
-use Rattle.model.specs.Base.{elem}
-use Rattle.model.specs.Text.{Line, ended}
-use Rattle.model.specs.Reading.{Read, holds, fault, next, unless}
-use Rattle.model.specs.Graph.{Graph, varOf}
-use Rattle.model.specs.GraphText.{Kind, defines, closed, due, itemLiterals, readDue}
+use Rattle.base.specs.{_≡_, refl, sym, ap, _∙_, Bool, true, false, not, cond, _&&_, none, some, List, [], _∷_, ℕ, _+_, _≤_, _<_, ltb}
+use Rattle.base.specs.{length, drop, ltb-true, ltb-false}
+use Rattle.model.specs.{elem, Line, ended, Read, holds, fault, next, unless, varOf, Kind, defines, closed, due, itemLiterals, readDue}
+use Rattle.model.specs.Graph.{Graph}
 use Rattle.model.specs.declared.Header.{Header}
-use Rattle.base_text.specs.Lines.{lineAt, pastLine}
-use Rattle.base_text.proofs.Bridge.{lines-at, lines-none}
-use Rattle.graph_placing.specs.Loaded.{Fit}
+use Rattle.base_text.specs.{lineAt, pastLine}
+use Rattle.base_text.proofs.{lines-at, lines-none}
+use Rattle.graph_placing.specs.{Fit}
 use Rattle.graph_loading.specs.declared.Literals.{Literals}
 use Rattle.graph_loading.specs.declared.Turn.the-variants.{To, Refused as Stop}
-use Rattle.graph_loading.specs.Tests.{dueCode, dueCount, literalsFit, mayDefine, isTaken}
-use Rattle.graph_loading.specs.Stores.{storedLine}
-use Rattle.graph_loading.proofs.Tests.{code, dueKind, due-code, itemList, Short, itemOf, taken-is}
-use Rattle.graph_loading.proofs.States.{grown, more, State, state-more}
-use Rattle.graph_loading.proofs.Lines.{linesOf}
-use Rattle.graph_loading.proofs.Items.{due-missing, due-none, due-whole}
+use Rattle.graph_loading.specs.{dueCode, dueCount, literalsFit, mayDefine, isTaken, storedLine}
+use Rattle.graph_loading.proofs.{code, dueKind, due-code, itemList, Short, itemOf, taken-is, grown, more, State, state-more, linesOf}
+use Rattle.graph_loading.proofs.{due-missing, due-none, due-whole}
 use Rattle.graph_reader.specs.declared.LineRead.the-variants.{Read as ALine, Broken as NoLine}
 use Rattle.graph_reader.specs.declared.Judged.the-variants.{Good, Bad}
-use Rattle.graph_reader.specs.Lines.{lineRead, pickJudged, judgedAt}
-use Rattle.graph_reader.specs.Passes.{turnAt, turnWords}
+use Rattle.graph_reader.specs.{lineRead, pickJudged, judgedAt, turnAt, turnWords}
 use Rattle.graph_reader.proofs.Judging.{turn-none, turn-good, turn-bad}
 use Rattle.graph_reader.proofs.DueLines.{due-at, LineView, broken, whole, view}
 

@@ -4,41 +4,29 @@
 --     ascii-law        both: `load_ascii` answers `readGraph`, and where that holds a graph the words hold it
 --     load-law         and so for `load`, in either form
 --     place-asks       what `graph_placing::place` asks is what an accepted `load` leaves
--- Assumes nothing.
-use mathlib.Core.Path.{_≡_, refl, sym, ap, _∙_, subst}
-use mathlib.Core.Bool.{Bool, true, false, not}
-use mathlib.Core.List.{List, [], _∷_, List·Memᴰ, List·Memᴰ·head, List·Memᴰ·tail}
-use Prim.Native.Nat.{ℕ, zero, suc, _+_, _*_, _/_, _≤_}
-use native.Mathlib.Omega.{arith}
-use lib.Dec.{eqb}
-use lib.ListN.{length, drop}
-use Rattle.model.specs.Base.{elem, any, all}
-use Rattle.model.specs.Reading.{Read, holds, fault, next, unless, verdictOf}
-use Rattle.model.specs.Graph.{Graph, varOf}
-use Rattle.model.specs.GraphText.{Kind, anInput, anOutput, anAnd, closed, defines, due, Item, readDue, readItems, uses, definedBy, checkUses, graphOf, readGraph}
+use Rattle.base.specs.{_≡_, refl, sym, ap, _∙_, subst, Bool, true, false, not, List, [], _∷_, List·Memᴰ, List·Memᴰ·head, List·Memᴰ·tail, ℕ}
+use Rattle.base.specs.{zero, suc, _+_, _*_, _/_, _≤_, arith, eqb, length, drop}
+use Rattle.model.specs.{elem, any, all, Read, holds, fault, next, unless, verdictOf, varOf, Kind, anInput, anOutput, anAnd, closed, defines}
+use Rattle.model.specs.{due, Item, readDue, readItems, uses, definedBy, checkUses, graphOf, readGraph}
+use Rattle.model.specs.Graph.{Graph}
 use Rattle.model.specs.declared.Header.{Header}
 use Rattle.model.specs.declared.Verdict.{Verdict}
 use Rattle.model.specs.declared.Verdict.the-variants.{Accepted, Refused}
-use Rattle.base_words.specs.Layout.{undefinedKind, kindAt}
-use Rattle.base_text.proofs.Bytes.{and-true}
-use Rattle.graph_placing.specs.Loaded.{Fit, Holding}
-use Rattle.graph_placing.specs.Placing.{Operands}
-use Rattle.graph_placing.proofs.Slots.{fit-length}
-use Rattle.graph_placing.proofs.Orders.{holding-operands}
+use Rattle.base_words.specs.{undefinedKind, kindAt}
+use Rattle.base_text.proofs.{and-true}
+use Rattle.graph_placing.specs.{Fit, Holding, Operands}
+use Rattle.graph_placing.proofs.{fit-length, holding-operands}
 use Rattle.graph_loading.specs.declared.Literals.{Literals}
 use Rattle.graph_loading.specs.declared.Turn.the-variants.{To, Refused as Stop}
-use Rattle.graph_loading.specs.Tests.{dueCode, dueCount, literalsFit, onTurn, pickTurn}
-use Rattle.graph_loading.specs.Stores.{storedLine, opened}
-use Rattle.graph_loading.proofs.Tests.{code, dueKind, due-code, Short, itemOf, fit-known}
-use Rattle.graph_loading.proofs.Storing.{nothing}
-use Rattle.graph_loading.proofs.States.{grown, more, State, state-first}
-use Rattle.graph_loading.proofs.Lines.{linesOf}
-use Rattle.graph_loading.proofs.Items.{fault-holds, verdict-next, next-holds, accepted-holds, Stored, stored-none, stored-more, stored-defined, stored-holding, graph-is, graph-held}
-use Rattle.graph_binary.specs.Passes.{binaryWords}
-use Rattle.graph_binary.proofs.Loads.{binary-law}
+use Rattle.graph_loading.specs.{dueCode, dueCount, literalsFit, onTurn, pickTurn, storedLine, opened}
+use Rattle.graph_loading.proofs.{code, dueKind, due-code, Short, itemOf, fit-known, nothing, grown, more, State, state-first, linesOf}
+use Rattle.graph_loading.proofs.{fault-holds, verdict-next, next-holds, accepted-holds, Stored, stored-none, stored-more, stored-defined}
+use Rattle.graph_loading.proofs.{stored-holding, graph-is, graph-held}
+use Rattle.graph_binary.specs.{binaryWords}
+use Rattle.graph_binary.proofs.{binary-law}
 use Rattle.graph_reader.specs.declared.LineRead.the-variants.{Read as ALine}
-use Rattle.graph_reader.specs.Lines.{lineRead, isKnown, usesKnown, wordsKnown}
-use Rattle.graph_reader.specs.Passes.{turnAt, turnWords, linesVerdict, linesWords, checkAt, checkVerdict, asciiWords, loadedWords}
+use Rattle.graph_reader.specs.{lineRead, isKnown, usesKnown, wordsKnown, turnAt, turnWords, linesVerdict, linesWords, checkAt}
+use Rattle.graph_reader.specs.{checkVerdict, asciiWords, loadedWords}
 use Rattle.graph_reader.proofs.DueLines.{due-end}
 use Rattle.graph_reader.proofs.Knowing.{line-known}
 use Rattle.graph_reader.proofs.Loading.{Step, stops, goes, step}

@@ -1,17 +1,12 @@
--- What each reader of a line finds at a place of the text, composed of what the readers of the crate text find. Assumes nothing.
-use Prim.Native.Nat.{ℕ, _+_, _*_, _/_}
-use mathlib.Core.Bool.{Bool, true, false, not, _&&_, _||_}
-use mathlib.Core.List.{List}
-use lib.Dec.{eqb, leb}
-use Rattle.model.specs.Base.{all, below, same}
-use Rattle.model.specs.Text.{text, endedByTen}
+-- What each reader of a line finds at a place of the text, composed of what the readers of the crate text find.
+use Rattle.base.specs.{ℕ, _+_, _*_, _/_, Bool, true, false, not, _&&_, _||_, List, eqb, leb}
+use Rattle.model.specs.{all, below, same, text, endedByTen}
 use Rattle.model.specs.declared.Header.{Header}
+use Rattle.base_words.specs.{undefinedKind, andKind, kindAt, leftAt, rightAt, outputAt}
 use Rattle.base_text.specs.declared.Cursor.{Cursor}
-use Rattle.base_text.specs.Fields.{wordAt, endAt, onNumber, onStep, numberThen, numberEnd, byteAt}
-use Rattle.base_text.specs.Lines.{pickBool, lineAt}
-use Rattle.base_words.specs.Layout.{undefinedKind, andKind, kindAt, leftAt, rightAt, outputAt}
+use Rattle.base_text.specs.{wordAt, endAt, onNumber, onStep, numberThen, numberEnd, byteAt, pickBool, lineAt}
 use Rattle.graph_loading.specs.declared.Literals.{Literals}
-use Rattle.graph_loading.specs.Tests.{literals, literalsFit, mayDefine, isTaken}
+use Rattle.graph_loading.specs.{literals, literalsFit, mayDefine, isTaken}
 use Rattle.graph_reader.specs.declared.LineRead.{LineRead}
 use Rattle.graph_reader.specs.declared.LineRead.the-variants.{Read as ALine, Broken as NoLine}
 use Rattle.graph_reader.specs.declared.Judged.{Judged}

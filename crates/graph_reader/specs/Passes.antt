@@ -1,19 +1,14 @@
--- What the passes over the due lines answer and leave in the words: a turn for each line, one after the other. Assumes nothing.
-use Prim.Native.Nat.{ℕ, zero, suc, _+_}
-use mathlib.Core.Bool.{_&&_}
-use mathlib.Core.List.{List}
-use lib.Dec.{ltb}
-use lib.ListN.{length}
+-- What the passes over the due lines answer and leave in the words: a turn for each line, one after the other.
+use Rattle.base.specs.{ℕ, zero, suc, _+_, _&&_, List, ltb, length}
 use Rattle.model.specs.declared.Header.{Header}
 use Rattle.model.specs.declared.Verdict.{Verdict}
 use Rattle.model.specs.declared.Verdict.the-variants.{Accepted, Refused}
-use Rattle.graph_placing.specs.Placing.{pickWords}
+use Rattle.graph_placing.specs.{pickWords}
 use Rattle.graph_loading.specs.declared.Literals.{Literals}
 use Rattle.graph_loading.specs.declared.Turn.{Turn}
 use Rattle.graph_loading.specs.declared.Turn.the-variants.{To, Refused as Stop}
-use Rattle.graph_loading.specs.Tests.{dueCode, dueCount, literalsFit, pickTurn, onTurn}
-use Rattle.graph_loading.specs.Stores.{storedLine, opened}
-use Rattle.graph_binary.specs.Passes.{binaryWords}
+use Rattle.graph_loading.specs.{dueCode, dueCount, literalsFit, pickTurn, onTurn, storedLine, opened}
+use Rattle.graph_binary.specs.{binaryWords}
 use Rattle.graph_reader.specs.declared.Judged.{Judged}
 use Rattle.graph_reader.specs.declared.Judged.the-variants.{Good, Bad}
 use Rattle.graph_reader.specs.Lines.{lineRead, onLine, judgedAt, usesKnown}

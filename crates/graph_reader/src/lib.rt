@@ -1,20 +1,14 @@
 // AIGER, read: the header of either form, the due lines of the ASCII form into the lent words, and the reader that a header's form asks for.
 // "`aag M I L O A`, then I input lines, O output lines and A lines `left right right`." "Read the `aig` form too, known by the header's first word."
-ghost use mathlib.Core.Path.{_≡_};
-ghost use mathlib.Core.Bool.{false};
-ghost use Prim.Native.Nat.{_+_, _*_, _≤_, _<_};
-ghost use lib.ListN.{length};
-ghost use Rattle.model.specs.Base.{all, below};
-ghost use Rattle.model.specs.Limits.{need};
-ghost use Rattle.model.specs.Reading.{holds, verdictOf, rulingOf, verdictRuling};
-ghost use Rattle.model.specs.GraphText.{readHeader, headerAnswer, headerRuling, headerValues, headerNumbers, inLimits, inSequence, readGraph};
-ghost use Rattle.base_words.specs.Layout.{Room};
-ghost use Rattle.graph_placing.specs.Loaded.{Fit};
-ghost use Rattle.graph_placing.specs.Placing.{Operands};
-ghost use Rattle.graph_loading.specs.Tests.{dueCount, LiteralsFit};
-ghost use Rattle.graph_reader.specs.Lines.{threeAt, tagBehind, tagAt, headerRecord, numbersForm, headerEnds, formAt, oneLine, andLine, lineRead, judgedAt};
-ghost use Rattle.graph_reader.specs.Lines.{isKnown, usesKnown, outputKnown, operandsKnown, wordsKnown};
-ghost use Rattle.graph_reader.specs.Passes.{turnAt, turnWords, linesVerdict, linesWords, checkAt, checkVerdict, asciiWords, loadedWords};
+ghost use Rattle.base.specs.{_≡_, false, _+_, _*_, _≤_, _<_, length};
+ghost use Rattle.model.specs.{all, below, need, holds, verdictOf, rulingOf, verdictRuling, readHeader, headerAnswer, headerRuling};
+ghost use Rattle.model.specs.{headerValues, headerNumbers, inLimits, inSequence, readGraph};
+ghost use Rattle.base_words.specs.{Room};
+ghost use Rattle.graph_placing.specs.{Fit, Operands};
+ghost use Rattle.graph_loading.specs.{dueCount, LiteralsFit};
+ghost use Rattle.graph_reader.specs.{threeAt, tagBehind, tagAt, headerRecord, numbersForm, headerEnds, formAt, oneLine, andLine};
+ghost use Rattle.graph_reader.specs.{lineRead, judgedAt, isKnown, usesKnown, outputKnown, operandsKnown, wordsKnown, turnAt};
+ghost use Rattle.graph_reader.specs.{turnWords, linesVerdict, linesWords, checkAt, checkVerdict, asciiWords, loadedWords};
 use base_text::Cursor;
 use base_text::Number;
 use base_text::Step;

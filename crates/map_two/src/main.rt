@@ -1,10 +1,9 @@
-// The program for two channels: `cells.txt`, and of each channel a graph and the arrivals of its inputs, in the current folder; the first channel's netlist
-// or line of `refused`, number and place is printed, then the second's.
+// The program for two channels: `cells.txt`, and of each channel a graph and the arrivals of its inputs, in the current folder; the first
+// channel's netlist or line of `refused`, number and place is printed, then the second's.
 use model::Answer;
 use program_files::Loaded;
-ghost use mathlib.Core.Path.{_≡_};
-ghost use lib.ListN.{length};
-ghost use Rattle.promises.specs.Promised.{Fits};
+ghost use Rattle.base.specs.{_≡_, length};
+ghost use Rattle.promises.specs.{Fits};
 
 // A channel's netlist, at the start of its text memory, or its refusal.
 fn show(a: Answer, text: &[u8])

@@ -1,46 +1,26 @@
--- From the cuts to the marked phases: what the choice and the marking leave is what the writer asks. Assumes nothing.
-use Prim.Native.Nat.{ℕ, _/_, _≤_}
-use native.Mathlib.Omega.{arith}
-use mathlib.Core.Path.{_≡_, refl, sym, _∙_, ap, subst}
-use mathlib.Core.Bool.{Bool, true, false}
-use mathlib.Core.List.{List, [], _∷_}
-use mathlib.Core.Logic.{inr}
-use lib.ListN.{length}
-use Rattle.model.specs.Reading.{refusedAt, firstOf}
-use Rattle.model.specs.Cells.{cellsOf}
-use Rattle.model.specs.Graph.{Graph, placingOrder}
-use Rattle.model.specs.Choice.{absent, chosen}
-use Rattle.model.specs.Netlist.{refused, mapped, coverVerdict, uncovered, printed, mapChosen}
-use Rattle.model.specs.Cover.{Allowed}
-use Rattle.model.specs.Timing.{followed}
-use Rattle.model.specs.Demands.{choiceText, choiceFigures, printedText}
-use Rattle.model.specs.Mapper.{within}
+-- From the cuts to the marked phases: what the choice and the marking leave is what the writer asks.
+use Rattle.base.specs.{ℕ, _/_, _≤_, arith, _≡_, refl, sym, _∙_, ap, subst, Bool, true, false, List, [], _∷_, inr, length}
+use Rattle.model.specs.{refusedAt, firstOf, cellsOf, placingOrder, absent, chosen, refused, mapped, coverVerdict, uncovered, printed}
+use Rattle.model.specs.{mapChosen, Allowed, followed, choiceText, choiceFigures, printedText, within}
+use Rattle.model.specs.Graph.{Graph}
 use Rattle.model.specs.declared.Library.{Library}
 use Rattle.model.specs.declared.Header.{Header}
 use Rattle.model.specs.declared.Phase.{Phase}
 use Rattle.model.specs.declared.Source.{Source}
 use Rattle.model.specs.declared.Source.the-variants.{Input, Cell as Matched, Inverter as Inverted, Nothing}
 use Rattle.model.specs.declared.Verdict.the-variants.{Accepted, Refused}
-use Rattle.base_words.specs.Layout.{placedOf, neededAt, neededAddr}
-use Rattle.base_words.specs.Phases.{phaseAt}
-use Rattle.base_words.proofs.Stored.{held-cut}
-use Rattle.theory_graph.proofs.Placing.{order-once}
-use Rattle.theory_cover.proofs.Sound.{chosen-fine}
+use Rattle.theory_graph.proofs.{order-once}
+use Rattle.theory_cover.proofs.{chosen-fine}
+use Rattle.theory_text.proofs.{outputs-present}
+use Rattle.base_words.specs.{placedOf, neededAt, neededAddr, phaseAt}
+use Rattle.base_words.proofs.{held-cut}
+use Rattle.cover_choice.specs.{missing, marked, chosenUp}
+use Rattle.cover_choice.proofs.{NeedsKept, graph-kept, order-kept, cuts-kept, phases-kept, few-placed, placed-is, needs-matches}
+use Rattle.cover_choice.proofs.{needs-slots, up-after, Covered, MarkedFrom, mark-law, mark-asked, ChosenFrom, choose-law, unchosen}
+use Rattle.cover_choice.proofs.{uncovered-law}
 use Rattle.net_writer.specs.Mapped.{Mapped}
-use Rattle.cover_choice.specs.Missing.{missing}
-use Rattle.cover_choice.specs.Marking.{marked}
-use Rattle.cover_choice.specs.Choosing.{chosenUp}
-use Rattle.cover_choice.proofs.Keeping.{NeedsKept, graph-kept, order-kept, cuts-kept, phases-kept}
-use Rattle.cover_choice.proofs.Counting.{few-placed}
-use Rattle.cover_choice.proofs.Held.{placed-is}
-use Rattle.cover_choice.proofs.Marks.{needs-matches, needs-slots}
-use Rattle.cover_choice.proofs.Turning.{up-after}
-use Rattle.cover_choice.proofs.Needing.{Covered, MarkedFrom, mark-law, mark-asked}
-use Rattle.cover_choice.proofs.Choices.{ChosenFrom, choose-law, unchosen}
-use Rattle.net_timing.specs.Retiming.{InverterIn}
-use Rattle.cover_choice.proofs.Missed.{uncovered-law}
-use Rattle.theory_text.proofs.Outcomes.{outputs-present}
-use Rattle.mapper.specs.Stages.{Cut, Timeable, allOf, printedFor, cutFor}
+use Rattle.net_timing.specs.{InverterIn}
+use Rattle.mapper.specs.{Cut, Timeable, allOf, printedFor, cutFor}
 use Rattle.mapper.proofs.Libraries.{all-matchable, all-few}
 use Rattle.mapper.proofs.Handing.{none-first}
 

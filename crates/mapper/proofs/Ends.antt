@@ -1,18 +1,7 @@
--- The header's answer, the need of words, and what a call leaves. Assumes nothing.
-use Prim.Native.Nat.{ℕ, _≤_, _<_}
-use native.Mathlib.Omega.{arith}
-use mathlib.Core.Path.{_≡_, refl, sym, _∙_, ap, subst}
-use mathlib.Core.Bool.{Bool, true, false}
-use mathlib.Core.List.{List}
-use lib.Dec.{T, leb, leb→le, le→leb}
-use lib.ListN.{length, replicate}
-use Rattle.model.specs.Limits.{need}
-use Rattle.model.specs.Reading.{Read, holds, fault, next, unless}
-use Rattle.model.specs.Cells.{cellsOf}
-use Rattle.model.specs.Pairs.{cellsFor}
-use Rattle.model.specs.GraphText.{readHeader, headerAnswer}
-use Rattle.model.specs.Netlist.{Outcome, refused}
-use Rattle.model.specs.Mapper.{mapDesign}
+-- The header's answer, the need of words, and what a call leaves.
+use Rattle.base.specs.{ℕ, _≤_, _<_, arith, _≡_, refl, sym, _∙_, ap, subst, Bool, true, false, List, T, leb, leb→le, le→leb, length}
+use Rattle.base.specs.{replicate}
+use Rattle.model.specs.{need, Read, holds, fault, next, unless, cellsOf, cellsFor, readHeader, headerAnswer, Outcome, refused, mapDesign}
 use Rattle.model.specs.declared.Cell.{Cell}
 use Rattle.model.specs.declared.Library.{Library}
 use Rattle.model.specs.declared.Header.{Header}
@@ -20,7 +9,7 @@ use Rattle.model.specs.declared.HeaderAnswer.{HeaderAnswer}
 use Rattle.model.specs.declared.HeaderAnswer.the-variants.{Refused}
 use Rattle.model.specs.declared.Answer.{Answer}
 use Rattle.model.specs.declared.Answer.the-variants.{Refused as Turned}
-use Rattle.mapper.specs.Stages.{Told, Left, allOf, headedOf, designOf, graphFor, headerFor, libraryFor}
+use Rattle.mapper.specs.{Told, Left, allOf, headedOf, designOf, graphFor, headerFor, libraryFor}
 use Rattle.mapper.proofs.Printing.{told-refused}
 use Rattle.mapper.proofs.Numbers.{Early, work-early, work-late, header-early, graph-for-late}
 

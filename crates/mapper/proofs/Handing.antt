@@ -1,50 +1,33 @@
--- From layer to layer: what one leaves in the words is what the next asks. Assumes nothing.
-use Prim.Native.Nat.{ℕ, _+_, _*_, _≤_, _<_}
-use native.Mathlib.Omega.{arith}
-use mathlib.Core.Path.{_≡_, refl, sym, _∙_, ap, subst}
-use mathlib.Core.Bool.{Bool, true, false, cond}
-use mathlib.Core.Option.{Option, none, some}
-use mathlib.Core.List.{List, [], _∷_, _++_, List·Memᴰ, List·Memᴰ·head, List·Memᴰ·tail}
-use native.Mathlib.Numerals.{add-one}
-use lib.Dec.{eqb}
-use lib.ListN.{length, getD, length-append, List·getD-append}
-use Rattle.model.specs.Base.{lowest, smaller}
-use Rattle.model.specs.Reading.{holds, refusedAt, firstOf}
-use Rattle.model.specs.Graph.{Graph, Node, constant, input, undefined, both, node, placeF, placingOrder, unplaced, andVars}
-use Rattle.model.specs.Cuts.{cutsOf, cutAt, cutTable, crowded}
-use Rattle.model.specs.GraphText.{readHeader, readGraph}
-use Rattle.model.specs.ArrivalsText.{Late, readArrivals, lateOf, timedBy}
-use Rattle.model.specs.Demands.{Lists}
-use Rattle.model.specs.Netlist.{placingVerdict, cutsVerdict}
+-- From layer to layer: what one leaves in the words is what the next asks.
+use Rattle.base.specs.{ℕ, _+_, _*_, _≤_, _<_, arith, _≡_, refl, sym, _∙_, ap, subst, Bool, true, false, cond, Option, none, some, List, []}
+use Rattle.base.specs.{_∷_, _++_, List·Memᴰ, List·Memᴰ·head, List·Memᴰ·tail, add-one, eqb, length, getD, length-append, List·getD-append}
+use Rattle.model.specs.{lowest, smaller, holds, refusedAt, firstOf, Node, constant, input, undefined, both, node, placeF, placingOrder}
+use Rattle.model.specs.{unplaced, andVars, cutsOf, cutAt, cutTable, crowded, readHeader, readGraph, Late, readArrivals, lateOf, timedBy}
+use Rattle.model.specs.{Lists, placingVerdict, cutsVerdict}
+use Rattle.model.specs.Graph.{Graph}
 use Rattle.model.specs.declared.Library.{Library}
 use Rattle.model.specs.declared.Header.{Header}
 use Rattle.model.specs.declared.Verdict.the-variants.{Accepted, Refused}
-use Rattle.base_words.specs.Layout.{placedOf, Room, RoomFor, leftAt, rightAt, slotAt, placeAt, placeAddr, outputAt, outputAddr, countAddr, neededAt, neededAddr, lateAt, lateAddr, positiveAddr, listsFrom}
-use Rattle.base_words.specs.Record.{nodeAt, cutsAt, functionOf}
-use Rattle.base_words.specs.Holding.{HoldsGraph, HoldsOrder, HoldsCuts}
-use Rattle.base_words.proofs.Columns.{room-need}
-use Rattle.theory_graph.specs.Accepted as accepted
-use Rattle.theory_graph.proofs.Distinct.{front-distinct}
-use Rattle.theory_graph.proofs.Placing.{order-small}
-use Rattle.theory_graph.proofs.Timed.{timed-accepted, timed-unplaced}
-use Rattle.theory_text.proofs.ReadGraph.{graph-known, graph-accepted, graph-counted, graph-fits}
-use Rattle.theory_text.proofs.ReadTexts.{timed-fits}
-use Rattle.theory_text.proofs.Arrivals.{LateRead, late-read}
-use Rattle.graph_placing.specs.Loaded.{Fit, kindOf, leftOf, rightOf, Holding}
-use Rattle.graph_placing.specs.Placing.{Operands, placedWords}
-use Rattle.graph_placing.proofs.Slots.{fit-length}
-use Rattle.graph_placing.proofs.Orders.{holding-operands, place-law, holds-nodes}
-use Rattle.graph_reader.specs.Passes.{loadedWords}
-use Rattle.graph_reader.proofs.Loads.{load-law}
-use Rattle.graph_arrivals.specs.Storing.{Listable, putAll, listed}
-use Rattle.graph_arrivals.proofs.Timed.{Slotted, Stored, stored-all, listed-all}
+use Rattle.theory_graph.proofs.{front-distinct, order-small, timed-accepted, timed-unplaced}
+use Rattle.theory_text.proofs.{graph-known, graph-accepted, graph-counted, graph-fits, timed-fits, LateRead, late-read}
+use Rattle.base_words.specs.{placedOf, Room, RoomFor, leftAt, rightAt, slotAt, placeAt, placeAddr, outputAt, outputAddr, countAddr}
+use Rattle.base_words.specs.{neededAt, neededAddr, lateAt, lateAddr, positiveAddr, listsFrom, nodeAt, cutsAt, functionOf, HoldsGraph}
+use Rattle.base_words.specs.{HoldsOrder, HoldsCuts}
+use Rattle.base_words.proofs.{room-need}
+use Rattle.graph_placing.specs.{Fit, kindOf, leftOf, rightOf, Holding, Operands, placedWords}
+use Rattle.graph_placing.proofs.{fit-length, holding-operands, place-law, holds-nodes}
+use Rattle.graph_reader.specs.{loadedWords}
+use Rattle.graph_reader.proofs.{load-law}
+use Rattle.graph_arrivals.specs.{Listable, putAll, listed}
+use Rattle.graph_arrivals.proofs.{Slotted, Stored, stored-all, listed-all}
 use Rattle.cut_lists.specs.Represents.{Represents}
-use Rattle.cut_lists.proofs.Model.{represents-kept}
-use Rattle.cut_pass.specs.Enumerated.{enumerated}
+use Rattle.cut_lists.proofs.{represents-kept}
+use Rattle.cut_pass.specs.{enumerated}
 use Rattle.cut_pass.specs.Listed.{Listed as Filed}
-use Rattle.cut_pass.proofs.Whole.{enumerate-listed, enumerate-represents}
-use Rattle.cover_choice.proofs.Held.{placed-is}
-use Rattle.mapper.specs.Stages.{LibraryOk, Given, Loaded, Placed, Timed, Cut}
+use Rattle.cut_pass.proofs.{enumerate-listed, enumerate-represents}
+use Rattle.cover_choice.proofs.{placed-is}
+use Rattle.mapper.specs.{LibraryOk, Given, Loaded, Placed, Timed, Cut}
+use Rattle.theory_graph.specs.Accepted as accepted
 
 verdicts-differ : {n k : ℕ} → ¬ (Refused n k ≡ Accepted)
 verdicts-differ e = let z : _≡_ {A = ℕ} 0 1 = cc in omega arith

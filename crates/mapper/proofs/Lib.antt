@@ -8,3 +8,5 @@ pub mod Ends
 pub mod Libraries
 pub mod Whole
 pub mod Unseen
+pub use Ends.{header-fault}
+pub use Libraries.{all-few, blank-joined, blank-listed, cells-back, formed-are, joinable-of, joined-ok, library-read, plain-ok}

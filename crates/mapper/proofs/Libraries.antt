@@ -1,29 +1,18 @@
--- A library that was read, by value: its cells are the text's, and with its pairs it may be asked for matches and low arrivals. Assumes nothing.
-use Prim.Native.Nat.{ℕ, zero, suc, _+_, _≤_, _<_}
-use native.Mathlib.Omega.{arith}
-use mathlib.Core.Path.{_≡_, refl, sym, _∙_, ap, subst}
-use mathlib.Core.List.{List, [], _∷_, _++_, map, List·Memᴰ, List·Memᴰ·head, List·Memᴰ·tail}
-use lib.Dec.{T}
-use lib.ListN.{length, getD, take}
-use lib.Seq.{take-append-seam}
-use Rattle.model.specs.Reading.{holds}
-use Rattle.model.specs.Cells.{noCell, cellAt, cellsOf, libraryOf}
-use Rattle.model.specs.Pairs.{Pair, joinDelays, pairDelays, pairOf, cellOfPair}
-use Rattle.model.specs.LibraryText.{readLibrary}
+-- A library that was read, by value: its cells are the text's, and with its pairs it may be asked for matches and low arrivals.
+use Rattle.base.specs.{ℕ, zero, suc, _+_, _≤_, _<_, arith, _≡_, refl, sym, _∙_, ap, subst, List, [], _∷_, _++_, map, List·Memᴰ}
+use Rattle.base.specs.{List·Memᴰ·head, List·Memᴰ·tail, T, length, getD, take, take-append-seam}
+use Rattle.model.specs.{holds, noCell, cellAt, cellsOf, libraryOf, Pair, joinDelays, pairDelays, pairOf, cellOfPair, readLibrary}
 use Rattle.model.specs.declared.Cell.{Cell}
 use Rattle.model.specs.declared.Library.{Library}
-use Rattle.theory_graph.specs.Accepted.{libraryFits}
-use Rattle.theory_text.proofs.ReadLibrary.{library-fits, library-few, library-written, library-ranged}
-use Rattle.theory_demands.proofs.Ranges.{no-lower}
-use Rattle.base_words.specs.Put.{putAt}
-use Rattle.cells_pairs.specs.Codes.{pairOfCode, pairCodes, cellsBy, Joinable}
-use Rattle.cells_pairs.proofs.Forming.{coded-none, coded-all, numbered-none, numbered-all}
-use Rattle.cells_pairs.proofs.Cells.{by-length}
-use Rattle.cells_matching.specs.Sheet.{Blank}
-use Rattle.cells_matching.specs.Variants.{Matchable}
-use Rattle.cells_matching.proofs.Linking.{usable-library}
-use Rattle.cells_matching.proofs.Pairing.{matchable-by}
-use Rattle.mapper.specs.Stages.{Under, done, more, LibraryRead, LibraryOk, allOf}
+use Rattle.theory_graph.specs.{libraryFits}
+use Rattle.theory_text.proofs.{library-fits, library-few, library-written, library-ranged}
+use Rattle.theory_demands.proofs.{no-lower}
+use Rattle.base_words.specs.{putAt}
+use Rattle.cells_pairs.specs.{pairOfCode, pairCodes, cellsBy, Joinable}
+use Rattle.cells_pairs.proofs.{coded-none, coded-all, numbered-none, numbered-all, by-length}
+use Rattle.cells_matching.specs.{Blank, Matchable}
+use Rattle.cells_matching.proofs.{usable-library, matchable-by}
+use Rattle.mapper.specs.{Under, done, more, LibraryRead, LibraryOk, allOf}
 
 pub cells-back : (cs : List Cell) → cellsOf (libraryOf cs) ≡ cs
 unfolding cellsOf libraryOf

@@ -1,35 +1,20 @@
 -- The low arrivals and the lines that say them: what the pass leaves is what is asked for the writing, and the lines are the definition's.
--- Assumes nothing.
-use Prim.Native.Nat.{ℕ, _+_, _/_, _%_, _≤_}
-use native.Mathlib.Omega.{arith}
-use mathlib.Core.Path.{_≡_, sym, _∙_, ap, subst}
-use mathlib.Core.List.{List}
-use lib.Dec.{eqb}
-use lib.ListN.{length, getD}
-use Rattle.model.specs.Cells.{noCell}
-use Rattle.model.specs.Graph.{Graph, placingOrder, varOf}
-use Rattle.model.specs.Choice.{cellOf, chosen}
-use Rattle.model.specs.Timing.{lowOf, timingLines}
+use Rattle.base.specs.{ℕ, _+_, _/_, _%_, _≤_, arith, _≡_, sym, _∙_, ap, subst, List, eqb, length, getD}
+use Rattle.model.specs.{noCell, placingOrder, varOf, cellOf, chosen, lowOf, timingLines}
+use Rattle.model.specs.Graph.{Graph}
 use Rattle.model.specs.declared.Library.{Library}
 use Rattle.model.specs.declared.Header.{Header}
 use Rattle.model.specs.declared.Phase.{Phase}
 use Rattle.model.specs.declared.Source.{Source}
 use Rattle.model.specs.declared.Source.the-variants.{Input, Cell as Matched, Inverter as Inverted, Nothing}
-use Rattle.base_words.specs.Layout.{placedOf, lowAt, kindAt, leftAt, rightAt, neededAt, outputAt}
-use Rattle.base_words.specs.Record.{nodeOf, nodeAt}
-use Rattle.base_words.specs.Phases.{flagOf, isNeeded}
-use Rattle.theory_graph.proofs.Lists.{getD-in}
-use Rattle.theory_graph.proofs.Placing.{order-small}
+use Rattle.theory_graph.proofs.{getD-in, order-small}
+use Rattle.base_words.specs.{placedOf, lowAt, kindAt, leftAt, rightAt, neededAt, outputAt, nodeOf, nodeAt, flagOf, isNeeded}
+use Rattle.cover_choice.specs.{OutputsIn}
+use Rattle.cover_choice.proofs.{few-cuts, few-placed, placed-is, output-small}
 use Rattle.net_writer.specs.Mapped.{Mapped}
-use Rattle.cover_choice.specs.Asked.{OutputsIn}
-use Rattle.cover_choice.proofs.Counting.{few-cuts, few-placed}
-use Rattle.cover_choice.proofs.Held.{placed-is, output-small}
-use Rattle.net_timing.specs.Retiming.{retimedUp}
-use Rattle.net_timing.specs.Lines.{linesFrom}
-use Rattle.net_timing.proofs.Lowest.{LowsKept, lows-phase, lows-leaves}
-use Rattle.net_timing.proofs.Retimed.{Ready, retime-kept, retime-lows}
-use Rattle.net_timing.proofs.Counting.{lines-are}
-use Rattle.mapper.specs.Stages.{Timeable, Lowered, allOf}
+use Rattle.net_timing.specs.{retimedUp, linesFrom}
+use Rattle.net_timing.proofs.{LowsKept, lows-phase, lows-leaves, Ready, retime-kept, retime-lows, lines-are}
+use Rattle.mapper.specs.{Timeable, Lowered, allOf}
 use Rattle.mapper.proofs.Libraries.{all-ranges, all-brief}
 
 module _ (w : List ℕ) (lib : Library) (codes : List ℕ) (h : Header) (g : Graph) (p : Mapped w lib codes h g) where

@@ -1,23 +1,14 @@
--- Which refusals come up to 10, and which later: so what is left of work memory. Assumes nothing.
-use Prim.Native.Nat.{ℕ}
-use mathlib.Core.Path.{_≡_, refl, sym, ap}
-use mathlib.Core.Bool.{Bool, true, false, cond}
-use mathlib.Core.List.{List}
-use lib.ListN.{length, replicate}
-use Rattle.model.specs.Reading.{Read, holds, fault, next}
-use Rattle.model.specs.Cells.{cellsOf}
+-- Which refusals come up to 10, and which later: so what is left of work memory.
+use Rattle.base.specs.{ℕ, _≡_, refl, sym, ap, Bool, true, false, cond, List, length, replicate}
+use Rattle.model.specs.{Read, holds, fault, next, cellsOf, readLibrary, readHeader, readGraph, Late as Arrival, readArrivals, timedBy}
+use Rattle.model.specs.{Outcome, refused, mapped, mapGraph, followed, mapDesign, triedEarly, workAfter}
 use Rattle.model.specs.Graph.{Graph}
-use Rattle.model.specs.LibraryText.{readLibrary}
-use Rattle.model.specs.GraphText.{readHeader, readGraph}
-use Rattle.model.specs.ArrivalsText.{Late as Arrival, readArrivals, timedBy}
-use Rattle.model.specs.Netlist.{Outcome, refused, mapped, mapGraph}
-use Rattle.model.specs.Timing.{followed}
-use Rattle.model.specs.Mapper.{mapDesign, triedEarly, workAfter}
 use Rattle.model.specs.declared.Library.{Library}
 use Rattle.model.specs.declared.Header.{Header}
-use Rattle.theory_text.proofs.Faults.{Faults, library-faults, header-faults, graph-faults, arrivals-faults}
-use Rattle.theory_demands.proofs.Refusals.{Refusal, within-refusal, followed-refusal, map-refusal}
-use Rattle.mapper.specs.Stages.{allOf, timesOf, graphFor}
+use Rattle.theory_text.proofs.Faults.{Faults}
+use Rattle.theory_text.proofs.{library-faults, header-faults, graph-faults, arrivals-faults}
+use Rattle.theory_demands.proofs.{Refusal, within-refusal, followed-refusal, map-refusal}
+use Rattle.mapper.specs.{allOf, timesOf, graphFor}
 
 -- "every refusal tried up to 10", and "a later one", wherever its place is
 abbrev pub Early : ℕ → ℕ → Type 0

@@ -1,26 +1,16 @@
--- The last step: the netlist is measured, and then written or refused by 18. Assumes nothing.
-use Prim.Native.Nat.{ℕ, _+_, _≤_, _<_}
-use native.Mathlib.Omega.{arith}
-use mathlib.Core.Path.{_≡_, refl, sym, _∙_, ap, ap₂, subst}
-use mathlib.Core.Bool.{Bool, true, false, cond}
-use mathlib.Core.List.{List, _++_, append-assoc}
-use lib.Dec.{T, leb, leb→le, le→leb}
-use lib.ListN.{length, take, drop, length-append}
-use lib.Seq.{take-append-seam, drop-append-add, drop-drop}
-use Rattle.model.specs.Cells.{cellsOf}
+-- The last step: the netlist is measured, and then written or refused by 18.
+use Rattle.base.specs.{ℕ, _+_, _≤_, _<_, arith, _≡_, refl, sym, _∙_, ap, ap₂, subst, Bool, true, false, cond, List, _++_, append-assoc, T}
+use Rattle.base.specs.{leb, leb→le, le→leb, length, take, drop, length-append, take-append-seam, drop-append-add, drop-drop}
+use Rattle.model.specs.{cellsOf, Outcome, refused, mapped, chosen, lowOf, timingLines, within, answerOf, textAfter, choiceText}
+use Rattle.model.specs.{choiceFigures}
 use Rattle.model.specs.Graph.{Graph}
-use Rattle.model.specs.Netlist.{Outcome, refused, mapped}
-use Rattle.model.specs.Choice.{chosen}
-use Rattle.model.specs.Timing.{lowOf, timingLines}
-use Rattle.model.specs.Mapper.{within, answerOf, textAfter}
-use Rattle.model.specs.Demands.{choiceText, choiceFigures}
 use Rattle.model.specs.declared.Library.{Library}
 use Rattle.model.specs.declared.Figures.{Figures}
 use Rattle.model.specs.declared.Answer.the-variants.{Mapped, Refused}
-use Rattle.base_words.specs.Put.{putAt}
-use Rattle.net_writer.specs.Mapped.{textFor, measuredFor}
+use Rattle.base_words.specs.{putAt}
+use Rattle.net_writer.specs.{textFor, measuredFor}
 use Rattle.net_writer.specs.declared.Measured.{Measured}
-use Rattle.mapper.specs.Stages.{allOf, Told, printedFor}
+use Rattle.mapper.specs.{allOf, Told, printedFor}
 
 pub told-refused : (n k : ℕ) (text : List ℕ) → Told (refused n k) text (Refused n k) text
 unfolding answerOf textAfter

@@ -1,49 +1,34 @@
--- What each function of the call has once the layer below has answered: the next layer's premise, or the outcome. Assumes nothing.
-use Prim.Native.Nat.{ℕ}
-use native.Mathlib.Omega.{arith}
-use mathlib.Core.Path.{_≡_, refl, sym, _∙_, ap, subst}
-use mathlib.Core.Bool.{Bool}
-use mathlib.Core.Option.{Option, none, some}
-use mathlib.Core.List.{List, [], _∷_}
-use lib.ListN.{length}
-use Rattle.model.specs.Base.{lowest}
-use Rattle.model.specs.Reading.{Read, holds, fault, next, verdictOf, refusedAt, firstOf}
-use Rattle.model.specs.Cells.{cellsOf}
-use Rattle.model.specs.Graph.{Graph, unplaced}
-use Rattle.model.specs.Cuts.{crowded}
-use Rattle.model.specs.GraphText.{readHeader, readGraph}
-use Rattle.model.specs.ArrivalsText.{Late, readArrivals, timedBy}
-use Rattle.model.specs.Netlist.{Outcome, refused, coverVerdict, cutsVerdict, placingVerdict, mapCut, mapPlaced, mapGraph}
-use Rattle.model.specs.Timing.{followed}
-use Rattle.model.specs.Mapper.{within, mapDesign}
+-- What each function of the call has once the layer below has answered: the next layer's premise, or the outcome.
+use Rattle.base.specs.{ℕ, arith, _≡_, refl, sym, _∙_, ap, subst, Bool, Option, none, some, List, [], _∷_, length}
+use Rattle.model.specs.{lowest, Read, holds, fault, next, verdictOf, refusedAt, firstOf, cellsOf, unplaced, crowded, readHeader, readGraph}
+use Rattle.model.specs.{Late, readArrivals, timedBy, Outcome, refused, coverVerdict, cutsVerdict, placingVerdict, mapCut, mapPlaced}
+use Rattle.model.specs.{mapGraph, followed, within, mapDesign}
+use Rattle.model.specs.Graph.{Graph}
 use Rattle.model.specs.declared.Library.{Library}
 use Rattle.model.specs.declared.Header.{Header}
 use Rattle.model.specs.declared.Answer.{Answer}
 use Rattle.model.specs.declared.Answer.the-variants.{Refused as Turned}
 use Rattle.model.specs.declared.Verdict.{Verdict}
 use Rattle.model.specs.declared.Verdict.the-variants.{Accepted, Refused}
-use Rattle.base_words.specs.Layout.{placedOf}
-use Rattle.theory_graph.proofs.Timed.{timed-unplaced}
-use Rattle.cells_pairs.specs.Codes.{Coded}
+use Rattle.theory_graph.proofs.{timed-unplaced}
+use Rattle.base_words.specs.{placedOf}
+use Rattle.cells_pairs.specs.{Coded}
+use Rattle.graph_placing.specs.{Fit, placedVerdict, placedWords}
+use Rattle.graph_placing.proofs.{place-verdict}
+use Rattle.graph_reader.specs.{loadedWords}
+use Rattle.graph_arrivals.specs.{Listable, putAll, listed}
+use Rattle.cut_pass.specs.{Ready, enumerated}
+use Rattle.cut_pass.proofs.{enumerate-ready, enumerate-verdict}
+use Rattle.cover_choice.specs.{OutputsIn, SlotsIn, MatchesIn, missing, marked, chosenUp}
+use Rattle.cover_choice.proofs.{mark-asked, uncovered-asked}
 use Rattle.net_writer.specs.Mapped.{Mapped}
-use Rattle.graph_placing.specs.Loaded.{Fit}
-use Rattle.graph_placing.specs.Placing.{placedVerdict, placedWords}
-use Rattle.graph_placing.proofs.Orders.{place-verdict}
-use Rattle.graph_reader.specs.Passes.{loadedWords}
-use Rattle.graph_arrivals.specs.Storing.{Listable, putAll, listed}
-use Rattle.cut_lists.specs.Listing as lists
-use Rattle.cut_pass.specs.Enumerated.{Ready, enumerated}
-use Rattle.cut_pass.proofs.Whole.{enumerate-ready, enumerate-verdict}
-use Rattle.cover_choice.specs.Asked.{OutputsIn, SlotsIn, MatchesIn}
-use Rattle.cover_choice.specs.Missing.{missing}
-use Rattle.cover_choice.specs.Marking.{marked}
-use Rattle.cover_choice.specs.Choosing.{chosenUp}
-use Rattle.cover_choice.proofs.Needing.{mark-asked}
-use Rattle.cover_choice.proofs.Missed.{uncovered-asked}
-use Rattle.mapper.specs.Stages.{Told, LibraryOk, allOf, Loaded, Placed, Timed, Cut, Timeable, printedFor, cutFor, placedFor, loadedFor, timesOf, timesFor, designOf, graphFor}
+use Rattle.mapper.specs.{Told, LibraryOk, allOf, Loaded, Placed, Timed, Cut, Timeable, printedFor, cutFor, placedFor, loadedFor}
+use Rattle.mapper.specs.{timesOf, timesFor, designOf, graphFor}
 use Rattle.mapper.proofs.Printing.{told-refused}
-use Rattle.mapper.proofs.Handing.{loaded-after, placed-after, placed-lists, timed-after, all-placed, none-crowded, timed-ok, cut-after}
+use Rattle.mapper.proofs.Handing.{loaded-after, placed-after, placed-lists, timed-after, all-placed, none-crowded, timed-ok}
+use Rattle.mapper.proofs.Handing.{cut-after}
 use Rattle.mapper.proofs.Covering.{cut-printed, cut-refused, chosen-covered, chosen-verdict, marked-mapped, marked-timeable}
+use Rattle.cut_lists.specs.Listing as lists
 
 -- what is told of one outcome is told of an equal one
 pub told-as : {o p : Outcome} {t u : List ℕ} {a : Answer} → p ≡ o → Told o t a u → Told p t a u

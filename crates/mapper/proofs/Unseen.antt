@@ -1,18 +1,11 @@
 -- "Netlists, refusals and the zeroed store are the former ones": how the cuts are stored is seen by no caller.
 --     memory-alone                what a call promises of memory leaves nothing open
 --     store-unseen                the call on the words of the former store: the same answer and text, and of the words the former store of what is left
--- Assumes nothing.
-use mathlib.Core.Path.{_≡_, refl, sym, ap, _∙_, subst}
-use mathlib.Core.Bool.{Bool, true, false, cond}
-use mathlib.Core.List.{List}
-use Prim.Native.Nat.{ℕ}
-use lib.ListN.{length, replicate}
+use Rattle.base.specs.{_≡_, refl, sym, ap, _∙_, subst, Bool, true, false, cond, List, ℕ, length, replicate}
 use Rattle.model.specs.declared.Answer.{Answer}
-use Rattle.model.specs.Netlist.{Outcome, refused, mapped}
-use Rattle.model.specs.Mapper.{Call, callOf, mapTexts, workAfter, triedEarly}
-use Rattle.model.specs.Demands.{Memory}
-use Rattle.base_words.specs.Put.{zeros}
-use Rattle.base_words.proofs.Former.{former, former-length, former-zeros}
+use Rattle.model.specs.{Outcome, refused, mapped, Call, callOf, mapTexts, workAfter, triedEarly, Memory}
+use Rattle.base_words.specs.{zeros}
+use Rattle.base_words.proofs.{former, former-length, former-zeros}
 
 -- answer, words and bytes of a call are given by its texts and by what was lent
 pub memory-alone : (c : Call) (work text : List ℕ) (a b : Answer) (w v t u : List ℕ) → Memory c work text a w t → Memory c work text b v u

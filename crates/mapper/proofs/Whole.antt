@@ -1,26 +1,16 @@
--- The whole call: refusal 1, the library's, and what comes behind; the demands. Assumes nothing.
-use Prim.Native.Nat.{ℕ, _≤_}
-use native.Mathlib.Omega.{arith}
-use mathlib.Core.Path.{_≡_, refl, sym, _∙_, ap, subst}
-use mathlib.Core.Bool.{Bool, true, false, _&&_}
-use mathlib.Core.List.{List}
-use lib.Dec.{T, leb, leb→le, le→leb}
-use lib.ListN.{length}
-use Rattle.model.specs.Reading.{Read, holds, fault, next, unless}
-use Rattle.model.specs.Cells.{cellsOf, libraryOf, libraryAnswer}
-use Rattle.model.specs.LibraryText.{readLibrary, isRanged}
-use Rattle.model.specs.Pairs.{cellsFor}
-use Rattle.model.specs.Mapper.{Call, callOf, Design, short, mapDesign, readListed, readTexts, mapTexts, returned}
-use Rattle.promises.specs.Promised.{Fits, Mapping}
-use Rattle.model.specs.Demands.{Memory}
+-- The whole call: refusal 1, the library's, and what comes behind; the demands.
+use Rattle.base.specs.{ℕ, _≤_, arith, _≡_, refl, sym, _∙_, ap, subst, Bool, true, false, _&&_, List, T, leb, leb→le, le→leb, length}
+use Rattle.model.specs.{Read, holds, fault, next, unless, cellsOf, libraryOf, libraryAnswer, readLibrary, isRanged, cellsFor, Call, callOf}
+use Rattle.model.specs.{Design, short, mapDesign, readListed, readTexts, mapTexts, returned, Memory}
 use Rattle.model.specs.declared.Cell.{Cell}
 use Rattle.model.specs.declared.LibraryAnswer.{LibraryAnswer}
 use Rattle.model.specs.declared.Verdict.the-variants.{Accepted, Refused}
 use Rattle.model.specs.declared.Answer.{Answer}
 use Rattle.model.specs.declared.Answer.the-variants.{Refused as Turned}
-use Rattle.model.proofs.Answers.{answer-returns}
-use Rattle.theory_demands.proofs.Channels.{promised}
-use Rattle.mapper.specs.Stages.{Left, LibraryRead, headedOf, libraryFor}
+use Rattle.model.proofs.{answer-returns}
+use Rattle.promises.specs.{Fits, Mapping}
+use Rattle.theory_demands.proofs.{promised}
+use Rattle.mapper.specs.{Left, LibraryRead, headedOf, libraryFor}
 use Rattle.mapper.proofs.Libraries.{cells-back, library-read}
 use Rattle.mapper.proofs.Numbers.{library-early}
 use Rattle.mapper.proofs.Ends.{left-early, left-as}

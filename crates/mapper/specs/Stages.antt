@@ -1,37 +1,25 @@
--- What the words hold between the layers, and the outcome from each layer on, in terms of `model`. Assumes nothing.
-use mathlib.Core.Path.{_≡_}
-use mathlib.Core.Bool.{Bool}
-use mathlib.Core.List.{List, [], _∷_, List·Memᴰ}
-use Prim.Native.Nat.{ℕ, _+_, _*_, _≤_, _<_}
-use lib.Dec.{T, leb}
-use lib.ListN.{length, getD}
-use Rattle.model.specs.Limits.{need}
-use Rattle.model.specs.Reading.{Read, holds, next, unless}
-use Rattle.model.specs.Cells.{cellAt, cellsOf}
-use Rattle.model.specs.Pairs.{noPair, pairsOf, cellsFor}
-use Rattle.model.specs.Graph.{Graph, placingOrder, unplaced}
-use Rattle.model.specs.Cuts.{crowded}
-use Rattle.model.specs.Choice.{chosen, choices}
-use Rattle.model.specs.GraphText.{readHeader, readGraph}
-use Rattle.model.specs.ArrivalsText.{readArrivals, timedBy}
-use Rattle.model.specs.Netlist.{Outcome, mapped, mapGraph, mapCut, mapChosen}
-use Rattle.model.specs.Timing.{lowOf, followed}
-use Rattle.model.specs.Mapper.{Design, within, mapDesign, answerOf, textAfter, workAfter}
-use Rattle.model.specs.Demands.{Distinct, choiceFigures, printedText}
+-- What the words hold between the layers, and the outcome from each layer on, in terms of `model`.
+use Rattle.base.specs.{_≡_, Bool, List, [], _∷_, List·Memᴰ, ℕ, _+_, _*_, _≤_, _<_, T, leb, length, getD}
+use Rattle.model.specs.{need, Read, holds, next, unless, cellAt, cellsOf, noPair, pairsOf, cellsFor, placingOrder, unplaced, crowded}
+use Rattle.model.specs.{chosen, choices, readHeader, readGraph, readArrivals, timedBy, Outcome, mapped, mapGraph, mapCut, mapChosen, lowOf}
+use Rattle.model.specs.{followed, Design, within, mapDesign, answerOf, textAfter, workAfter, Distinct, choiceFigures, printedText}
+use Rattle.model.specs.Graph.{Graph}
 use Rattle.model.specs.declared.Cell.{Cell}
 use Rattle.model.specs.declared.Library.{Library}
 use Rattle.model.specs.declared.Header.{Header}
 use Rattle.model.specs.declared.Answer.{Answer}
-use Rattle.base_words.specs.Layout.{placedOf, placeAt, neededAt, lateAt, outputAt, lowAt, positiveAddr, listsFrom}
-use Rattle.theory_graph.specs.Accepted.{Accepted, libraryFits}
-use Rattle.theory_text.specs.Fits.{GraphFits}
-use Rattle.cells_matching.specs.Variants.{Usable}
-use Rattle.cells_pairs.specs.Codes.{pairOfCode, cellsBy, Coded}
-use Rattle.graph_placing.specs.Loaded.{Fit, Holding}
-use Rattle.cut_lists.specs.Represents.{Represents, Uncut}
-use Rattle.cover_choice.specs.Asked.{SlotsIn}
-use Rattle.cover_choice.specs.Held.{HeaderOf, Held}
-use Rattle.net_timing.specs.Retiming.{Retimable}
+use Rattle.theory_graph.specs.Accepted.{Accepted}
+use Rattle.theory_graph.specs.{libraryFits}
+use Rattle.theory_text.specs.{GraphFits}
+use Rattle.base_words.specs.{placedOf, placeAt, neededAt, lateAt, outputAt, lowAt, positiveAddr, listsFrom}
+use Rattle.cells_pairs.specs.{pairOfCode, cellsBy, Coded}
+use Rattle.graph_placing.specs.{Fit, Holding}
+use Rattle.cut_lists.specs.Represents.{Represents}
+use Rattle.cut_lists.specs.{Uncut}
+use Rattle.cells_matching.specs.{Usable}
+use Rattle.cover_choice.specs.{SlotsIn, HeaderOf}
+use Rattle.cover_choice.specs.Held.{Held}
+use Rattle.net_timing.specs.{Retimable}
 
 -- ---- what is told of an outcome
 

@@ -4,19 +4,14 @@ use model::Header;
 use model::HeaderAnswer;
 use model::Library;
 use model::Verdict;
-ghost use mathlib.Core.Path.{_≡_};
-ghost use mathlib.Core.Bool.{true, false};
-ghost use Prim.Native.Nat.{_≤_};
-ghost use lib.ListN.{length, replicate};
-ghost use Rattle.model.specs.Limits.{need};
-ghost use Rattle.model.specs.Reading.{holds};
+ghost use Rattle.base.specs.{_≡_, true, false, _≤_, length, replicate};
+ghost use Rattle.model.specs.{need, holds, readHeader};
 ghost use Rattle.model.specs.Graph.{Graph};
-ghost use Rattle.model.specs.GraphText.{readHeader};
-ghost use Rattle.promises.specs.Promised.{Mapping};
+ghost use Rattle.promises.specs.{Mapping};
+ghost use Rattle.cells_matching.specs.{Blank, SheetOf};
 ghost use Rattle.net_writer.specs.Mapped.{Mapped};
-ghost use Rattle.cells_matching.specs.Sheet.{Blank, SheetOf};
-ghost use Rattle.mapper.specs.Stages.{Told, Left, LibraryRead, LibraryOk, allOf, libraryFor, Loaded, Timed, Cut, Timeable, Lowered, printedFor};
-ghost use Rattle.mapper.specs.Stages.{cutFor, placedFor, timesFor, graphFor, headerFor};
+ghost use Rattle.mapper.specs.{Told, Left, LibraryRead, LibraryOk, allOf, libraryFor, Loaded, Timed, Cut, Timeable, Lowered};
+ghost use Rattle.mapper.specs.{printedFor, cutFor, placedFor, timesFor, graphFor, headerFor};
 
 // 18, and the netlist: "Text memory is shorter than the netlist; place, the length needed."
 fn print(work: &[u16], lib: Library, codes: &[u16], h: Header, text: &mut [u8]) -> Answer
@@ -277,9 +272,9 @@ fn map_cells(
     )
 }
 
-// A library text, a graph text in either form and an arrivals' text mapped, with pairs of cells where the call wants them: the netlist at the start of text
-// memory, or the first refusal that applies. `model.Promised` is the page of what is promised. How cuts are stored is in no field of it:
-// `Unseen.store-unseen` says so.
+// A library text, a graph text in either form and an arrivals' text mapped, with pairs of cells where the call wants them: the netlist at the
+// start of text memory, or the first refusal that applies. `model.Promised` is the page of what is promised. How cuts are stored is in no field
+// of it: `Unseen.store-unseen` says so.
 pub fn map_texts(
     cells: &[u8],
     graph: &[u8],

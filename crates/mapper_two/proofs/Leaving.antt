@@ -1,25 +1,14 @@
--- What two channels leave: refused together, or each as its passes leave it; and the refusals tried up to 10. Assumes nothing.
-use Prim.Native.Nat.{ℕ, _+_, _≤_, _<_}
-use native.Mathlib.Omega.{arith}
-use mathlib.Core.Path.{_≡_, refl, sym, _∙_, ap, ap₂, subst}
-use mathlib.Core.Bool.{Bool, true, false, _&&_}
-use mathlib.Core.List.{List}
-use lib.Dec.{T, leb, leb→le, le→leb}
-use lib.ListN.{length, replicate}
-use Rattle.model.specs.Limits.{need}
-use Rattle.model.specs.Reading.{Read, holds, fault, next, unless}
-use Rattle.model.specs.Cells.{cellsOf}
-use Rattle.model.specs.Pairs.{cellsFor}
-use Rattle.model.specs.GraphText.{readHeader}
-use Rattle.model.specs.Mapper.{answerOf, textAfter}
-use Rattle.model.specs.Channels.{Channel, answersOf}
+-- What two channels leave: refused together, or each as its passes leave it; and the refusals tried up to 10.
+use Rattle.base.specs.{ℕ, _+_, _≤_, _<_, arith, _≡_, refl, sym, _∙_, ap, ap₂, subst, Bool, true, false, _&&_, List, T, leb, leb→le, le→leb}
+use Rattle.base.specs.{length, replicate}
+use Rattle.model.specs.{need, Read, holds, fault, next, unless, cellsOf, cellsFor, readHeader, answerOf, textAfter, Channel, answersOf}
 use Rattle.model.specs.declared.Library.{Library}
 use Rattle.model.specs.declared.Header.{Header}
 use Rattle.model.specs.declared.Two.{Two}
 use Rattle.model.specs.declared.Answer.{Answer}
 use Rattle.model.specs.declared.Answer.the-variants.{Refused}
-use Rattle.mapper.specs.Stages.{Told, allOf, graphFor}
-use Rattle.mapper_two.specs.Pairs.{Heads, sumFor, secondFor, firstFor, pairFor, workFor, PairLeft, TwoLeft}
+use Rattle.mapper.specs.{Told, allOf, graphFor}
+use Rattle.mapper_two.specs.{Heads, sumFor, secondFor, firstFor, pairFor, workFor, PairLeft, TwoLeft}
 
 -- ---- what is left
 

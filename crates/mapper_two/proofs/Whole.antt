@@ -1,24 +1,10 @@
--- The whole call for two channels: refusal 1 and the library's, and what comes behind; demand 1. Assumes nothing.
-use Prim.Native.Nat.{ℕ, _+_, _≤_}
-use native.Mathlib.Nat.{le-refl}
-use native.Mathlib.Omega.{arith}
-use mathlib.Core.Path.{_≡_, refl, sym, _∙_, ap, ap₂, subst}
-use mathlib.Core.Bool.{Bool, true, false, _&&_}
-use mathlib.Core.List.{List}
-use lib.Dec.{T, leb, leb→le, le→leb}
-use lib.ListN.{length}
-use Rattle.model.specs.Limits.{need}
-use Rattle.model.specs.Reading.{Read, holds, fault, next, unless}
-use Rattle.model.specs.Cells.{cellsOf, libraryOf, libraryAnswer}
-use Rattle.model.specs.LibraryText.{readLibrary, isRanged}
-use Rattle.model.specs.Pairs.{cellsFor}
-use Rattle.model.specs.GraphText.{readHeader, readGraph}
-use Rattle.model.specs.ArrivalsText.{readArrivals, timedBy}
-use Rattle.model.specs.Netlist.{Outcome, refused}
-use Rattle.model.specs.Mapper.{Design, short, readListed, readTexts, mapDesign, mapTexts, answerOf, returned, textAfter}
-use Rattle.model.specs.Channels.{Channel, TwoCall, channelOf, twoCallOf, alone, needOf, Needs, needsOf, Outcomes, mapNeeds, mapTwo, answersOf, twoWorkAfter}
-use Rattle.promises.specs.Promised.{Fits}
-use Rattle.promises.specs.TwoDemands.{TwoMemory, MappingTwo}
+-- The whole call for two channels: refusal 1 and the library's, and what comes behind; demand 1.
+use Rattle.base.specs.{ℕ, _+_, _≤_, le-refl, arith, _≡_, refl, sym, _∙_, ap, ap₂, subst, Bool, true, false, _&&_, List, T, leb, leb→le}
+use Rattle.base.specs.{le→leb, length}
+use Rattle.model.specs.{need, Read, holds, fault, next, unless, cellsOf, libraryOf, libraryAnswer, readLibrary, isRanged, cellsFor}
+use Rattle.model.specs.{readHeader, readGraph, readArrivals, timedBy, Outcome, refused, Design, short, readListed, readTexts, mapDesign}
+use Rattle.model.specs.{mapTexts, answerOf, returned, textAfter, Channel, TwoCall, channelOf, twoCallOf, alone, needOf, Needs, needsOf}
+use Rattle.model.specs.{Outcomes, mapNeeds, mapTwo, answersOf, twoWorkAfter}
 use Rattle.model.specs.declared.Cell.{Cell}
 use Rattle.model.specs.declared.Library.{Library}
 use Rattle.model.specs.declared.Header.{Header}
@@ -26,12 +12,13 @@ use Rattle.model.specs.declared.LibraryAnswer.{LibraryAnswer}
 use Rattle.model.specs.declared.Verdict.the-variants.{Accepted, Refused as Told2}
 use Rattle.model.specs.declared.Two.{Two}
 use Rattle.model.specs.declared.Answer.the-variants.{Refused}
-use Rattle.model.proofs.Answers.{answer-returns}
-use Rattle.theory_text.proofs.Steps.{holds-once, unless-out, next-out}
-use Rattle.theory_demands.proofs.Channels.{two-promised}
-use Rattle.mapper.specs.Stages.{LibraryRead, allOf, graphFor}
-use Rattle.mapper.proofs.Libraries.{cells-back, library-read}
-use Rattle.mapper_two.specs.Pairs.{Heads, sumFor, secondFor, firstFor, pairFor, workFor, PairLeft, TwoLeft}
+use Rattle.model.proofs.{answer-returns}
+use Rattle.promises.specs.{Fits, TwoMemory, MappingTwo}
+use Rattle.theory_text.proofs.{holds-once, unless-out, next-out}
+use Rattle.theory_demands.proofs.{two-promised}
+use Rattle.mapper.specs.{LibraryRead, allOf, graphFor}
+use Rattle.mapper.proofs.{cells-back, library-read}
+use Rattle.mapper_two.specs.{Heads, sumFor, secondFor, firstFor, pairFor, workFor, PairLeft, TwoLeft}
 use Rattle.mapper_two.proofs.Leaving.{pair-as}
 
 -- with what is promised of every call it is all that the contract says

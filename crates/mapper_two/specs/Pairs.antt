@@ -1,22 +1,11 @@
--- What comes of two channels once the library is read, from each refusal tried up to 10 on. Assumes nothing.
-use mathlib.Core.Path.{_≡_}
-use mathlib.Core.Bool.{Bool, _&&_}
-use mathlib.Core.List.{List}
-use Prim.Native.Nat.{ℕ, _+_}
-use lib.Dec.{leb}
-use lib.ListN.{length, replicate}
-use Rattle.model.specs.Limits.{need}
-use Rattle.model.specs.Reading.{Read, holds, fault, next, unless}
-use Rattle.model.specs.Cells.{cellsOf}
-use Rattle.model.specs.Pairs.{cellsFor}
-use Rattle.model.specs.GraphText.{readHeader}
-use Rattle.model.specs.Netlist.{refused}
-use Rattle.model.specs.Mapper.{textAfter}
-use Rattle.model.specs.Channels.{Channel, Outcomes, answersOf}
+-- What comes of two channels once the library is read, from each refusal tried up to 10 on.
+use Rattle.base.specs.{_≡_, Bool, _&&_, List, ℕ, _+_, leb, length, replicate}
+use Rattle.model.specs.{need, Read, holds, fault, next, unless, cellsOf, cellsFor, readHeader, refused, textAfter, Channel, Outcomes}
+use Rattle.model.specs.{answersOf}
 use Rattle.model.specs.declared.Library.{Library}
 use Rattle.model.specs.declared.Header.{Header}
 use Rattle.model.specs.declared.Two.{Two}
-use Rattle.mapper.specs.Stages.{allOf, graphFor}
+use Rattle.mapper.specs.{allOf, graphFor}
 
 -- the headers of both
 pub record Heads : Type 0 where

@@ -5,19 +5,13 @@ use model::HeaderAnswer;
 use model::Library;
 use model::Two;
 use model::Verdict;
-ghost use mathlib.Core.Path.{_≡_};
-ghost use mathlib.Core.Bool.{true};
-ghost use Prim.Native.Nat.{_≤_};
-ghost use lib.ListN.{length};
-ghost use Rattle.model.specs.Limits.{need};
-ghost use Rattle.model.specs.Reading.{holds};
-ghost use Rattle.model.specs.GraphText.{readHeader};
-ghost use Rattle.model.specs.Channels.{channelOf};
-ghost use Rattle.promises.specs.TwoDemands.{MappingTwo};
+ghost use Rattle.base.specs.{_≡_, true, _≤_, length};
+ghost use Rattle.model.specs.{need, holds, readHeader, channelOf};
 ghost use Rattle.model.specs.declared.Answer.the-variants.{Refused};
-ghost use Rattle.cells_matching.specs.Sheet.{Blank};
-ghost use Rattle.mapper.specs.Stages.{LibraryRead, LibraryOk, allOf};
-ghost use Rattle.mapper_two.specs.Pairs.{PairLeft, TwoLeft, sumFor, secondFor, firstFor};
+ghost use Rattle.promises.specs.{MappingTwo};
+ghost use Rattle.cells_matching.specs.{Blank};
+ghost use Rattle.mapper.specs.{LibraryRead, LibraryOk, allOf};
+ghost use Rattle.mapper_two.specs.{PairLeft, TwoLeft, sumFor, secondFor, firstFor};
 
 // "both return that number and place"
 fn both(number: usize, place: usize) -> Two

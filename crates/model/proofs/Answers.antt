@@ -1,21 +1,11 @@
--- Each case of an answer has document 01's number and values. Assumes nothing.
-use Prim.Native.Nat.{ℕ, zero, suc, _^_}
-use mathlib.Core.Path.{_≡_, refl, ap, _∙_}
-use mathlib.Core.Option.{Option, none, some}
-use mathlib.Core.List.{List}
-use lib.ListN.{length}
-use Rattle.model.specs.Base.{lowest}
-use Rattle.model.specs.Reading.{Read, holds, fault, verdictOf, refusedAt, firstOf, rulingOf, rulingAt, verdictRuling}
-use Rattle.model.specs.Cells.{libraryAnswer}
-use Rattle.model.specs.GraphText.{headerAnswer, headerRuling, headerValues, headerNumbers}
-use Rattle.model.specs.Graph.{Graph, unplaced}
-use Rattle.model.specs.Cuts.{crowded}
-use Rattle.model.specs.Choice.{chosen}
-use Rattle.model.specs.Netlist.{Outcome, refused, mapped, uncovered, placingVerdict, cutsVerdict, coverVerdict}
-use Rattle.model.specs.Mapper.{answerOf, returned, returnedBy}
-use Rattle.model.specs.Genlib.{writtenAnswer, writtenPair, writtenBy}
-use Rattle.model.specs.Tally.{countedAnswer}
-use Rattle.model.specs.Check.{Edited, inputNets, settled, wrongAt, compareFrom, checkRead, toldOf, toldFrom, toldBy}
+-- Each case of an answer has document 01's number and values.
+use Rattle.base.specs.{ℕ, zero, suc, _^_, _≡_, refl, ap, _∙_, Option, none, some, List, length}
+use Rattle.model.specs.{lowest, Read, holds, fault, verdictOf, refusedAt, firstOf, rulingOf, rulingAt, verdictRuling, libraryAnswer}
+use Rattle.model.specs.{headerAnswer, headerRuling, headerValues, headerNumbers, unplaced, crowded, chosen, Outcome, refused, mapped}
+use Rattle.model.specs.{uncovered, placingVerdict, cutsVerdict, coverVerdict, answerOf, returned, returnedBy, writtenAnswer}
+use Rattle.model.specs.{writtenPair, writtenBy, countedAnswer, Edited, inputNets, settled, wrongAt, compareFrom, checkRead, toldOf}
+use Rattle.model.specs.{toldFrom, toldBy}
+use Rattle.model.specs.Graph.{Graph}
 use Rattle.model.specs.declared.Cell.{Cell}
 use Rattle.model.specs.declared.Header.{Header}
 use Rattle.model.specs.declared.HeaderAnswer.{HeaderAnswer}

@@ -1,11 +1,5 @@
 -- The arrivals' text, read: the inputs listed and when they arrive, or the first refusal of 25 and 26 with its place; and a graph so timed.
--- Assumes nothing.
-use Prim.Native.Nat.{ℕ}
-use mathlib.Core.Bool.{not, cond, _&&_}
-use mathlib.Core.Option.{Option}
-use mathlib.Core.List.{List, [], _∷_, _++_}
-use lib.Dec.{eqb, ltb}
-use lib.ListN.{length, getD}
+use Rattle.base.specs.{ℕ, not, cond, _&&_, Option, List, [], _∷_, _++_, eqb, ltb, length, getD}
 use Rattle.model.specs.Base.{each, elem, same, andThen, only}
 use Rattle.model.specs.Text.{Line, ended, text, linesFrom, fields, numbers}
 use Rattle.model.specs.Reading.{Read, holds, next, unless, from?}

@@ -1,11 +1,5 @@
--- BLIF, as far as the netlist uses it: a text read, and the values and arrivals of its nets. Apart from the writer. Assumes nothing.
-use Prim.Native.Nat.{ℕ, _+_, _-_, _*_, _≤_}
-use mathlib.Core.Path.{_≡_}
-use mathlib.Core.Bool.{Bool, cond, _&&_}
-use mathlib.Core.Option.{Option, none, some}
-use mathlib.Core.List.{List, [], _∷_, map, List·Memᴰ}
-use lib.Dec.{eqb}
-use lib.ListN.{length, getD}
+-- BLIF, as far as the netlist uses it: a text read, and the values and arrivals of its nets. Apart from the writer.
+use Rattle.base.specs.{ℕ, _+_, _-_, _*_, _≤_, _≡_, Bool, cond, _&&_, Option, none, some, List, [], _∷_, map, List·Memᴰ, eqb, length, getD}
 use Rattle.model.specs.Base.{same, andThen, only, below}
 use Rattle.model.specs.Text.{text, parts, fields, between}
 use Rattle.model.specs.Table.{value, rowOf}

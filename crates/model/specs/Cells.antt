@@ -1,9 +1,5 @@
--- A cell of the library, and the library as the code holds it. Assumes nothing.
-use Prim.Native.Nat.{ℕ, _-_}
-use mathlib.Core.Bool.{Bool, _&&_}
-use mathlib.Core.List.{List, [], _++_}
-use lib.Dec.{eqb, ltb}
-use lib.ListN.{length, take, getD, replicate}
+-- A cell of the library, and the library as the code holds it.
+use Rattle.base.specs.{ℕ, _-_, Bool, _&&_, List, [], _++_, eqb, ltb, length, take, getD, replicate}
 use Rattle.model.specs.Reading.{Read, holds, fault}
 use Rattle.model.specs.declared.Cell.{Cell}
 use Rattle.model.specs.declared.Library.{Library}

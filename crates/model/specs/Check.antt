@@ -1,10 +1,6 @@
--- Request N14, "Netlists edited by the layout group": a netlist's text read, its nets judged, and its outputs compared with the graph's. Assumes nothing.
-use Prim.Native.Nat.{ℕ, zero, suc, _+_, _*_, _^_}
-use mathlib.Core.Bool.{Bool, false, not, cond, _&&_, _||_, Bool·beq}
-use mathlib.Core.Option.{Option, none, some}
-use mathlib.Core.List.{List, [], _∷_, _++_, map}
-use lib.Dec.{eqb, leb}
-use lib.ListN.{length, take, getD, replicate}
+-- Request N14, "Netlists edited by the layout group": a netlist's text read, its nets judged, and its outputs compared with the graph's.
+use Rattle.base.specs.{ℕ, zero, suc, _+_, _*_, _^_, Bool, false, not, cond, _&&_, _||_, Bool·beq, Option, none, some, List, [], _∷_, _++_}
+use Rattle.base.specs.{map, eqb, leb, length, take, getD, replicate}
 use Rattle.model.specs.Base.{bit, all, any, keep, each, same, below, andThen, only, lowest}
 use Rattle.model.specs.Limits.{need}
 use Rattle.model.specs.Text.{Line, endedByTen, text, linesFrom, fields, between, isLetter}

@@ -1,11 +1,5 @@
--- The demands for the check of an edited netlist, for every call: library text, graph text, netlist text and number of lent words. Assumes nothing.
-use Prim.Native.Nat.{ℕ, _+_, _*_, _^_, _≤_, _<_}
-use mathlib.Core.Path.{_≡_}
-use mathlib.Core.Bool.{Bool}
-use mathlib.Core.Option.{some}
-use mathlib.Core.List.{List, map, List·Memᴰ}
-use mathlib.Core.Logic.{_↔_}
-use lib.ListN.{length, getD}
+-- The demands for the check of an edited netlist, for every call: library text, graph text, netlist text and number of lent words.
+use Rattle.base.specs.{ℕ, _+_, _*_, _^_, _≤_, _<_, _≡_, Bool, some, List, map, List·Memᴰ, _↔_, length, getD}
 use Rattle.model.specs.Base.{bit}
 use Rattle.model.specs.Limits.{need}
 use Rattle.model.specs.Reading.{holds}
@@ -15,7 +9,8 @@ use Rattle.model.specs.LibraryText.{readLibrary}
 use Rattle.model.specs.Netlist.{mapped, outName}
 use Rattle.model.specs.Blif.{Blif, readBlif, NetValues}
 use Rattle.model.specs.Mapper.{Call, Design, readTexts, mapTexts}
-use Rattle.model.specs.Check.{Driver, Edited, inputNets, outputNets, settingOf, lineEnds, readEdited, checkTexts, toldOf, toldBy, checkedWork}
+use Rattle.model.specs.Check.{Driver, Edited, inputNets, outputNets, settingOf, lineEnds, readEdited, checkTexts, toldOf, toldBy}
+use Rattle.model.specs.Check.{checkedWork}
 use Rattle.model.specs.declared.Cell.{Cell}
 use Rattle.model.specs.declared.Figures.{Figures}
 use Rattle.model.specs.declared.Checked.{Checked}

@@ -1,9 +1,5 @@
--- The chosen source and arrival of each phase. A phase of a variable is a literal: 2v positive, 2v+1 negative. Assumes nothing.
-use Prim.Native.Nat.{ℕ, suc, _+_, _^_, max}
-use mathlib.Core.Bool.{Bool, true, false, not, cond, _&&_}
-use mathlib.Core.List.{List, [], _∷_, _++_, map}
-use lib.Dec.{ltb}
-use lib.ListN.{length, getD}
+-- The chosen source and arrival of each phase. A phase of a variable is a literal: 2v positive, 2v+1 negative.
+use Rattle.base.specs.{ℕ, suc, _+_, _^_, max, Bool, true, false, not, cond, _&&_, List, [], _∷_, _++_, map, ltb, length, getD}
 use Rattle.model.specs.Base.{any, keep, each, find, run, below, same}
 use Rattle.model.specs.Table.{orders}
 use Rattle.model.specs.Cells.{noCell, cellAt, isInverter}

@@ -1,10 +1,5 @@
--- What a cover is. Not computed: the choice of `Choice` is held against every cover. Assumes nothing.
-use Prim.Native.Nat.{ℕ, _<_}
-use mathlib.Core.Path.{_≡_}
-use mathlib.Core.Bool.{not}
-use mathlib.Core.List.{List, [], _∷_, map, List·Memᴰ}
-use lib.Dec.{T}
-use lib.ListN.{length, getD}
+-- What a cover is. Not computed: the choice of `Choice` is held against every cover.
+use Rattle.base.specs.{ℕ, _<_, _≡_, not, List, [], _∷_, map, List·Memᴰ, T, length, getD}
 use Rattle.model.specs.Table.{orders}
 use Rattle.model.specs.Cells.{cellAt, isInverter}
 use Rattle.model.specs.Graph.{Graph, varOf, negated}

@@ -1,10 +1,6 @@
--- The cut lists, and the function of a cut. Assumes nothing.
-use Prim.Native.Nat.{ℕ, zero, suc, _+_, _*_, compare, Ordering, Ordering·lt, Ordering·eq, Ordering·gt}
-use mathlib.Core.Bool.{Bool, false, cond}
-use mathlib.Core.Option.{Option, none, some}
-use mathlib.Core.List.{List, [], _∷_, map}
-use lib.Dec.{eqb, leb, ltb}
-use lib.ListN.{length, getD}
+-- The cut lists, and the function of a cut.
+use Rattle.base.specs.{ℕ, zero, suc, _+_, _*_, compare, Ordering, Ordering·lt, Ordering·eq, Ordering·gt, Bool, false, cond, Option, none}
+use Rattle.base.specs.{some, List, [], _∷_, map, eqb, leb, ltb, length, getD}
 use Rattle.model.specs.Base.{bit, one, union, keep, each, find, run, orElse}
 use Rattle.model.specs.Limits.{cutLimit}
 use Rattle.model.specs.Graph.{Graph, Node, constant, input, undefined, both, node, placingOrder, span, varOf, nodeValue}

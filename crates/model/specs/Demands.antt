@@ -1,15 +1,8 @@
 -- The three demands as types, for every call: pairs wanted or not, library text, graph text in either form, arrivals' text, number of lent words and
 -- number of lent bytes; and what is promised of two texts that mean the same graph, of texts alike but for line ends, of inputs that arrive late, and of
--- delays given as ranges. Assumes nothing.
-use Prim.Native.Nat.{ℕ, suc, _+_, _*_, _≤_, _<_}
-use mathlib.Core.Path.{_≡_}
-use mathlib.Core.Bool.{Bool, true, false, cond, _&&_, _||_}
-use mathlib.Core.Option.{some}
-use mathlib.Core.List.{List, [], _∷_, _++_, map, List·Memᴰ}
-use mathlib.Core.Logic.{_⊎_, _↔_}
-use Prim.Native.Nat.{Ordering·gt}
-use lib.Dec.{eqb, leb}
-use lib.ListN.{length, take, drop, getD}
+-- delays given as ranges.
+use Rattle.base.specs.{ℕ, suc, _+_, _*_, _≤_, _<_, _≡_, Bool, true, false, cond, _&&_, _||_, some, List, [], _∷_, _++_, map, List·Memᴰ, _⊎_}
+use Rattle.base.specs.{_↔_, Ordering·gt, eqb, leb, length, take, drop, getD}
 use Rattle.model.specs.Base.{each, below, same}
 use Rattle.model.specs.Limits.{need}
 use Rattle.model.specs.Text.{Line, text, linesFrom, shown, fields}
@@ -21,15 +14,17 @@ use Rattle.model.specs.Pairs.{pairAt, cellsFor}
 use Rattle.model.specs.PairDemands.{PairsKept}
 use Rattle.model.specs.FormerLibrary.{formerLibrary}
 use Rattle.model.specs.GraphText.{readHeader, readGraph, asciiText}
-use Rattle.model.specs.ArrivalsText.{Late, readArrivals}
+use Rattle.model.specs.ArrivalsText.{Late, readArrivals, timedBy}
 use Rattle.model.specs.Cuts.{cutsOf, compareLeaves, crowded}
 use Rattle.model.specs.Choice.{feeds, absent, chosen, preference}
 use Rattle.model.specs.Cover.{IsOwn, Allowed, Needed, arrivalBy, Cover, CoverArrivals}
-use Rattle.model.specs.Netlist.{Outcome, refused, mapped, mapGraph, gates, numberOf, figuresOf, netlistText, netName, outName, sum, largest}
+use Rattle.model.specs.Netlist.{Outcome, refused, mapped, mapGraph, gates, numberOf, figuresOf, netlistText, netName, outName, sum}
+use Rattle.model.specs.Netlist.{largest}
 use Rattle.model.specs.Timing.{lowOf, timingLines}
-use Rattle.model.specs.Blif.{GateLine, Binding, Wire, Blif, readBlif, readFigures, TimingLine, readTimings, named, drives, fedBy, pinNames, outputName, NetValues, Delays, delaysAt, NetTimes, NetArrivals, InRange}
-use Rattle.model.specs.ArrivalsText.{timedBy}
-use Rattle.model.specs.Mapper.{Call, Design, designOf, short, readListed, readTexts, within, mapDesign, mapTexts, answerOf, returned, returnedBy, textAfter, workAfter}
+use Rattle.model.specs.Blif.{GateLine, Binding, Wire, Blif, readBlif, readFigures, TimingLine, readTimings, named, drives, fedBy}
+use Rattle.model.specs.Blif.{pinNames, outputName, NetValues, Delays, delaysAt, NetTimes, NetArrivals, InRange}
+use Rattle.model.specs.Mapper.{Call, Design, designOf, short, readListed, readTexts, within, mapDesign, mapTexts, answerOf, returned}
+use Rattle.model.specs.Mapper.{returnedBy, textAfter, workAfter}
 use Rattle.model.specs.declared.Cell.{Cell}
 use Rattle.model.specs.declared.Header.{Header}
 use Rattle.model.specs.declared.Source.{Source}

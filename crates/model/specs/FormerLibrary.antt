@@ -1,11 +1,6 @@
 -- The cell library's text by document 01 alone, before N10's ranges: one names line, eight fields a line, 2 to 6. What stands in a cell for its lowest
--- delays are its delays. Assumes nothing.
-use Prim.Native.Nat.{ℕ, suc, _^_}
-use mathlib.Core.Bool.{Bool, not, _&&_}
-use mathlib.Core.Option.{Option}
-use mathlib.Core.List.{List, [], _∷_}
-use lib.Dec.{eqb, leb, ltb}
-use lib.ListN.{length, getD, drop}
+-- delays are its delays.
+use Rattle.base.specs.{ℕ, suc, _^_, Bool, not, _&&_, Option, List, [], _∷_, eqb, leb, ltb, length, getD, drop}
 use Rattle.model.specs.Base.{all, any, same, andThen, only}
 use Rattle.model.specs.Text.{Line, ended, text, linesFrom, fields, numbers, hexTable, isName}
 use Rattle.model.specs.Reading.{Read, holds, fault, next, unless, from?}

@@ -1,10 +1,6 @@
--- A genlib text, read: the cell text that is written for it, or the first refusal of 1, 22 to 24 and 18. Assumes nothing.
-use Prim.Native.Nat.{ℕ, _+_, _/_, _%_, _^_, max}
-use mathlib.Core.Bool.{Bool, true, false, cond, _&&_, _||_}
-use mathlib.Core.Option.{Option, none, some}
-use mathlib.Core.List.{List, [], _∷_, _++_, map}
-use lib.Dec.{eqb, leb, ltb}
-use lib.ListN.{length, drop, getD}
+-- A genlib text, read: the cell text that is written for it, or the first refusal of 1, 22 to 24 and 18.
+use Rattle.base.specs.{ℕ, _+_, _/_, _%_, _^_, max, Bool, true, false, cond, _&&_, _||_, Option, none, some, List, [], _∷_, _++_, map, eqb}
+use Rattle.base.specs.{leb, ltb, length, drop, getD}
 use Rattle.model.specs.Base.{all, each, keep, same, andThen}
 use Rattle.model.specs.Text.{Line, text, decimal, linesFrom, ended, isNameByte}
 use Rattle.model.specs.Reading.{Read, holds, fault, next, unless, from?}

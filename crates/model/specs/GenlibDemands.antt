@@ -1,11 +1,6 @@
--- What is promised of the cell text that is written for a genlib text, for every text and every number of lent bytes. Assumes nothing.
-use Prim.Native.Nat.{ℕ, _^_, _≤_, _<_, max}
-use mathlib.Core.Path.{_≡_}
-use mathlib.Core.Bool.{Bool, true, false, not, _&&_, _||_}
-use mathlib.Core.Option.{some}
-use mathlib.Core.List.{List, [], _∷_, _++_, map, List·Memᴰ}
-use lib.Dec.{T}
-use lib.ListN.{length, getD}
+-- What is promised of the cell text that is written for a genlib text, for every text and every number of lent bytes.
+use Rattle.base.specs.{ℕ, _^_, _≤_, _<_, max, _≡_, Bool, true, false, not, _&&_, _||_, some, List, [], _∷_, _++_, map, List·Memᴰ, T, length}
+use Rattle.base.specs.{getD}
 use Rattle.model.specs.Base.{all, bit}
 use Rattle.model.specs.Text.{linesFrom, isName}
 use Rattle.model.specs.Reading.{holds}

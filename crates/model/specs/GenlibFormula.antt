@@ -1,10 +1,6 @@
--- The expression of a GATE line: its form, its pins, and its value by the grammar. Its tokens are those behind `=`, the `;` among them. Assumes nothing.
-use Prim.Native.Nat.{ℕ, zero, suc, _+_, _-_, _*_}
-use mathlib.Core.Bool.{Bool, true, false, not, cond, _&&_, _||_}
-use mathlib.Core.Option.{Option, none, some}
-use mathlib.Core.List.{List, [], _∷_, _++_}
-use lib.Dec.{eqb, leb, ltb}
-use lib.ListN.{drop}
+-- The expression of a GATE line: its form, its pins, and its value by the grammar. Its tokens are those behind `=`, the `;` among them.
+use Rattle.base.specs.{ℕ, zero, suc, _+_, _-_, _*_, Bool, true, false, not, cond, _&&_, _||_, Option, none, some, List, [], _∷_, _++_, eqb}
+use Rattle.base.specs.{leb, ltb, drop}
 use Rattle.model.specs.Base.{bit, one, flip, any, same, andThen}
 use Rattle.model.specs.Text.{text}
 use Rattle.model.specs.GenlibWords.{isSign, isWord}

@@ -1,10 +1,6 @@
--- The words and signs of a genlib line, names and figures. Assumes nothing.
-use Prim.Native.Nat.{ℕ, suc}
-use mathlib.Core.Bool.{Bool, true, false, not, cond, _&&_, _||_}
-use mathlib.Core.Option.{Option}
-use mathlib.Core.List.{List, [], _∷_, _++_}
-use lib.Dec.{eqb, leb}
-use lib.ListN.{length, take, drop, replicate}
+-- The words and signs of a genlib line, names and figures.
+use Rattle.base.specs.{ℕ, suc, Bool, true, false, not, cond, _&&_, _||_, Option, List, [], _∷_, _++_, eqb, leb, length, take, drop}
+use Rattle.base.specs.{replicate}
 use Rattle.model.specs.Base.{all, only}
 use Rattle.model.specs.Text.{between, isNameByte, onto, asDigits}
 

@@ -1,11 +1,6 @@
--- The graph, the placing order, and the value of a variable as AIGER has it. Assumes nothing.
-use Prim.Native.Nat.{ℕ, zero, suc, _+_, _*_, _/_, _%_}
-use mathlib.Core.Bool.{Bool, false, not, cond, _&&_}
-use mathlib.Core.Option.{Option, none, some}
-use mathlib.Core.List.{List, [], _∷_, _++_, map, List·Memᴰ}
-use mathlib.Core.Path.{_≡_}
-use lib.Dec.{eqb}
-use lib.ListN.{length}
+-- The graph, the placing order, and the value of a variable as AIGER has it.
+use Rattle.base.specs.{ℕ, zero, suc, _+_, _*_, _/_, _%_, Bool, false, not, cond, _&&_, Option, none, some, List, [], _∷_, _++_, map}
+use Rattle.base.specs.{List·Memᴰ, _≡_, eqb, length}
 use Rattle.model.specs.Base.{flip, elem, keep, lowest, find, run}
 
 -- a line `left right right`: the variable that it defines, and two literals

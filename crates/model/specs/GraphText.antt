@@ -1,11 +1,7 @@
 -- The graph's text in either form, read: its header, then its graph, or the first refusal of 7 to 9, 11 to 14 and 19 to 21 with its place; and a
--- graph written in the ASCII form. Assumes nothing.
-use Prim.Native.Nat.{ℕ, zero, suc, _+_, _-_, _*_, _%_}
-use mathlib.Core.Bool.{Bool, true, false, not, cond, _&&_, _||_}
-use mathlib.Core.Option.{Option, none, some}
-use mathlib.Core.List.{List, [], _∷_, _++_, map}
-use lib.Dec.{eqb, leb, ltb}
-use lib.ListN.{length, getD, drop, replicate}
+-- graph written in the ASCII form.
+use Rattle.base.specs.{ℕ, zero, suc, _+_, _-_, _*_, _%_, Bool, true, false, not, cond, _&&_, _||_, Option, none, some, List, [], _∷_, _++_}
+use Rattle.base.specs.{map, eqb, leb, ltb, length, getD, drop, replicate}
 use Rattle.model.specs.Base.{from, all, keep, each, elem, same, andThen, only}
 use Rattle.model.specs.Text.{Line, ended, endedByTen, nextOf, text, decimal, linesFrom, fields, numbers}
 use Rattle.model.specs.Reading.{Read, holds, fault, next, unless, from?, Ruling}

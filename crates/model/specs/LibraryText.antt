@@ -1,10 +1,6 @@
--- The cell library's text, read: its cells, or the first refusal of 2 to 6 and 27 with its place. Assumes nothing.
-use Prim.Native.Nat.{ℕ, suc, _-_, _^_}
-use mathlib.Core.Bool.{Bool, true, false, not, cond, _&&_, _||_}
-use mathlib.Core.Option.{Option}
-use mathlib.Core.List.{List, [], _∷_, _++_}
-use lib.Dec.{eqb, leb, ltb}
-use lib.ListN.{length, getD, take, drop, replicate}
+-- The cell library's text, read: its cells, or the first refusal of 2 to 6 and 27 with its place.
+use Rattle.base.specs.{ℕ, suc, _-_, _^_, Bool, true, false, not, cond, _&&_, _||_, Option, List, [], _∷_, _++_, eqb, leb, ltb, length, getD}
+use Rattle.base.specs.{take, drop, replicate}
 use Rattle.model.specs.Base.{all, any, same, andThen, only}
 use Rattle.model.specs.Text.{Line, ended, text, linesFrom, fields, numbers, hexTable, isName}
 use Rattle.model.specs.Reading.{Read, holds, fault, next, unless, from?}

@@ -1,5 +1,5 @@
--- The two figures of request N4: the cut limit, and the need of lent words that it brings. Assumes nothing.
-use Prim.Native.Nat.{ℕ, suc, _+_, _*_}
+-- The two figures of request N4: the cut limit, and the need of lent words that it brings.
+use Rattle.base.specs.{ℕ, suc, _+_, _*_}
 
 -- "Make 18 the limit", of 16 and of demand 3's premise: "more than 18 cuts"
 abbrev pub cutLimit : ℕ

@@ -1,9 +1,5 @@
--- The whole: three texts, the lent words and bytes, the answer "in checking order", and what the lent memory then holds. Assumes nothing.
-use Prim.Native.Nat.{ℕ}
-use mathlib.Core.Bool.{Bool, cond, _&&_, _||_}
-use mathlib.Core.List.{List, _++_}
-use lib.Dec.{eqb, leb}
-use lib.ListN.{length, drop, replicate}
+-- The whole: three texts, the lent words and bytes, the answer "in checking order", and what the lent memory then holds.
+use Rattle.base.specs.{ℕ, Bool, cond, _&&_, _||_, List, _++_, eqb, leb, length, drop, replicate}
 use Rattle.model.specs.Limits.{need}
 use Rattle.model.specs.Reading.{Read, holds, fault, next, unless}
 use Rattle.model.specs.LibraryText.{readLibrary, isRanged}

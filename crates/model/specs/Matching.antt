@@ -1,9 +1,5 @@
--- When a cell matches a cut, and the nets that then feed its pins. Assumes nothing.
-use Prim.Native.Nat.{ℕ, zero, suc, _-_, _/_, _^_}
-use mathlib.Core.Bool.{Bool, cond, _&&_, Bool·beq}
-use mathlib.Core.List.{List, [], _∷_}
-use lib.Dec.{ltb}
-use lib.ListN.{take, getD}
+-- When a cell matches a cut, and the nets that then feed its pins.
+use Rattle.base.specs.{ℕ, zero, suc, _-_, _/_, _^_, Bool, cond, _&&_, Bool·beq, List, [], _∷_, ltb, take, getD}
 use Rattle.model.specs.Base.{all, below, bit}
 use Rattle.model.specs.Table.{value, orders, pinRow}
 use Rattle.model.specs.Cells.{cellAt}

@@ -1,10 +1,6 @@
--- The gates, the netlist's text and its figures, and what is printed for a graph that is read. Assumes nothing.
-use Prim.Native.Nat.{ℕ, suc, _+_, _*_, max}
-use mathlib.Core.Bool.{Bool, true, false, cond, not}
-use mathlib.Core.Option.{Option, none, some}
-use mathlib.Core.List.{List, [], _∷_, _++_, map, reverse}
-use lib.Dec.{ltb}
-use lib.ListN.{length, take, drop}
+-- The gates, the netlist's text and its figures, and what is printed for a graph that is read.
+use Rattle.base.specs.{ℕ, suc, _+_, _*_, max, Bool, true, false, cond, not, Option, none, some, List, [], _∷_, _++_, map, reverse, ltb}
+use Rattle.base.specs.{length, take, drop}
 use Rattle.model.specs.Base.{keep, each, find, elem, below, lowest}
 use Rattle.model.specs.Text.{text, decimal}
 use Rattle.model.specs.Reading.{refusedAt, firstOf}

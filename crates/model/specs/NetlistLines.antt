@@ -1,11 +1,6 @@
 -- The forms of a printed netlist's lines, field by field: "the kind and form mapping prints there (net and output numbers and times may be any digits)".
--- Assumes nothing.
-use Prim.Native.Nat.{ℕ, suc, _+_}
-use mathlib.Core.Bool.{Bool, true, false, cond, _&&_, _||_}
-use mathlib.Core.Option.{Option, none, some}
-use mathlib.Core.List.{List, [], _∷_, _++_, map}
-use lib.Dec.{eqb, ltb}
-use lib.ListN.{length, getD, drop}
+use Rattle.base.specs.{ℕ, suc, _+_, Bool, true, false, cond, _&&_, _||_, Option, none, some, List, [], _∷_, _++_, map, eqb, ltb, length}
+use Rattle.base.specs.{getD, drop}
 use Rattle.model.specs.Base.{all, same, below}
 use Rattle.model.specs.Text.{text, decimal, fields, between}
 use Rattle.model.specs.Cells.{nameOf}

@@ -1,10 +1,5 @@
 -- Orders of the ANDs and sets of cuts as document 01's sentences have them, apart from the definitions that compute them: what 15 and 16 are stated by.
--- Assumes nothing.
-use Prim.Native.Nat.{ℕ, _≤_, _<_}
-use mathlib.Core.Path.{_≡_}
-use mathlib.Core.Logic.{_⊎_, _↔_}
-use mathlib.Core.List.{List, [], _∷_, _++_, List·Memᴰ}
-use lib.ListN.{length}
+use Rattle.base.specs.{ℕ, _≤_, _<_, _≡_, _⊎_, _↔_, List, [], _∷_, _++_, List·Memᴰ, length}
 use Rattle.model.specs.Limits.{cutLimit}
 use Rattle.model.specs.Graph.{And, Graph, varOf, andVars, placingOrder}
 use Rattle.model.specs.Demands.{Distinct}

@@ -1,9 +1,5 @@
--- Request N12: which pairs are formed, and in which order, apart from the definition that lists them. Assumes nothing.
-use Prim.Native.Nat.{_+_, _≤_, _<_}
-use mathlib.Core.Path.{_≡_}
-use mathlib.Core.Logic.{_⊎_, _↔_}
-use mathlib.Core.List.{List, [], _∷_, List·Memᴰ}
-use lib.ListN.{length}
+-- Request N12: which pairs are formed, and in which order, apart from the definition that lists them.
+use Rattle.base.specs.{_+_, _≤_, _<_, _≡_, _⊎_, _↔_, List, [], _∷_, List·Memᴰ, length}
 use Rattle.model.specs.Cells.{cellAt}
 use Rattle.model.specs.Pairs.{Pair, pairsOf}
 use Rattle.model.specs.declared.Cell.{Cell}

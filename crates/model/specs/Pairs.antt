@@ -1,10 +1,6 @@
 -- Pairs of cells as one: "for each root cell, pin and inner cell with at least one pin, in that order of lines, form a pair feeding that pin, if the
--- result has at most four pins". A pair is a cell without a name, so that matching, covers and arrivals know cells alone. Assumes nothing.
-use Prim.Native.Nat.{ℕ, zero, suc, _+_, _-_, _^_}
-use mathlib.Core.Bool.{Bool, true, false, _&&_}
-use mathlib.Core.List.{List, [], _∷_, _++_, map}
-use lib.Dec.{leb}
-use lib.ListN.{length, take, drop, getD}
+-- result has at most four pins". A pair is a cell without a name, so that matching, covers and arrivals know cells alone.
+use Rattle.base.specs.{ℕ, zero, suc, _+_, _-_, _^_, Bool, true, false, _&&_, List, [], _∷_, _++_, map, leb, length, take, drop, getD}
 use Rattle.model.specs.Base.{bit, below, keep, each}
 use Rattle.model.specs.Table.{value, rowOf}
 use Rattle.model.specs.Cuts.{tabulate}

@@ -1,8 +1,5 @@
--- What reading gives: what is read, or the first refusal that applies. Assumes nothing.
-use Prim.Native.Nat.{ℕ}
-use mathlib.Core.Bool.{Bool, true, false}
-use mathlib.Core.Option.{Option, none, some}
-use mathlib.Core.List.{List, [], _∷_}
+-- What reading gives: what is read, or the first refusal that applies.
+use Rattle.base.specs.{ℕ, Bool, true, false, Option, none, some, List, [], _∷_}
 use Rattle.model.specs.declared.Verdict.{Verdict}
 use Rattle.model.specs.declared.Verdict.the-variants.{Accepted, Refused}
 

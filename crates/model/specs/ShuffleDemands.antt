@@ -1,9 +1,6 @@
 -- Request N13, "Shuffled libraries": what "two accepted libraries holding the same cell lines in any orders" agree on. Nothing is said of the gates, of the
--- area, of low arrivals and of 18, which "may differ". Assumes nothing.
-use Prim.Native.Nat.{ℕ, _≤_}
-use mathlib.Core.Path.{_≡_}
-use mathlib.Core.Logic.{_↔_}
-use mathlib.Core.List.{List, [], _∷_, map, List·Memᴰ}
+-- area, of low arrivals and of 18, which "may differ".
+use Rattle.base.specs.{ℕ, _≤_, _≡_, _↔_, List, [], _∷_, map, List·Memᴰ}
 use Rattle.model.specs.Text.{Line, linesFrom}
 use Rattle.model.specs.Reading.{holds}
 use Rattle.model.specs.Graph.{Graph, unplaced}

@@ -1,7 +1,5 @@
--- Tables of up to four pins, the 24 orders, the row map and the masks. Assumes nothing.
-use Prim.Native.Nat.{ℕ, zero, suc, _+_, _*_, _/_}
-use mathlib.Core.Bool.{Bool}
-use mathlib.Core.List.{List, [], _∷_, map}
+-- Tables of up to four pins, the 24 orders, the row map and the masks.
+use Rattle.base.specs.{ℕ, zero, suc, _+_, _*_, _/_, Bool, List, [], _∷_, map}
 use Rattle.model.specs.Base.{bit, one, flip, each, below}
 
 -- "bit r is the cell's value in row r"

@@ -1,11 +1,7 @@
 -- Netlists of one library counted into a tally, and its report: "a line per cell in library order, as `inv 3 3 2`: its gates, their total area and in how many
--- netlists it occurs; then `total` with gates, area and netlists counted". Assumes nothing.
-use Prim.Native.Nat.{ℕ, suc, _+_, _-_, _*_, _^_}
-use mathlib.Core.Bool.{Bool, cond, _&&_}
-use mathlib.Core.Option.{Option, none, some}
-use mathlib.Core.List.{List, [], _∷_, _++_, map}
-use lib.Dec.{eqb, leb, ltb}
-use lib.ListN.{length, take, getD, replicate}
+-- netlists it occurs; then `total` with gates, area and netlists counted".
+use Rattle.base.specs.{ℕ, suc, _+_, _-_, _*_, _^_, Bool, cond, _&&_, Option, none, some, List, [], _∷_, _++_, map, eqb, leb, ltb, length}
+use Rattle.base.specs.{take, getD, replicate}
 use Rattle.model.specs.Base.{one, all, each, same, below}
 use Rattle.model.specs.Text.{Line, endedByTen, text, decimal, linesFrom, fields}
 use Rattle.model.specs.Reading.{Read, holds, fault, next, unless}

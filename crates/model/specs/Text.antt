@@ -1,12 +1,8 @@
--- Bytes: a quoted text, numbers in decimal, lines, fields, hexadecimal tables and names. Assumes nothing.
-use Prim.Native.Nat.{ℕ, zero, suc, _+_, _-_, _*_, _/_, _%_}
+-- Bytes: a quoted text, numbers in decimal, lines, fields, hexadecimal tables and names.
 use Prim.Native.Char.{code}
 use Prim.Native.String.{String, [] as end, _∷_ as _then_}
-use mathlib.Core.Bool.{Bool, true, false, cond, _&&_, _||_}
-use mathlib.Core.Option.{Option, none, some}
-use mathlib.Core.List.{List, [], _∷_, reverse}
-use lib.Dec.{eqb, ltb, leb}
-use lib.ListN.{length}
+use Rattle.base.specs.{ℕ, zero, suc, _+_, _-_, _*_, _/_, _%_, Bool, true, false, cond, _&&_, _||_, Option, none, some, List, [], _∷_}
+use Rattle.base.specs.{reverse, eqb, ltb, leb, length}
 use Rattle.model.specs.Base.{all, same, andThen, only}
 
 -- the bytes of a quoted text

@@ -1,8 +1,6 @@
 -- The arrivals of the chosen phases under other pin delays: the sources stay, and `delays l` are those of the cell that drives phase l.
--- With the lowest delays they are the low arrivals of the `# timing` lines. Assumes nothing.
-use Prim.Native.Nat.{ℕ, suc}
-use mathlib.Core.Bool.{Bool, true, false, cond}
-use mathlib.Core.List.{List, [], _∷_, _++_, map}
+-- With the lowest delays they are the low arrivals of the `# timing` lines.
+use Rattle.base.specs.{ℕ, suc, Bool, true, false, cond, List, [], _∷_, _++_, map}
 use Rattle.model.specs.Base.{find, run}
 use Rattle.model.specs.Text.{text, decimal}
 use Rattle.model.specs.Graph.{Graph, placingOrder, varOf, negated, literal}

@@ -123,8 +123,8 @@ pub struct Counted {
     pub tally: Tally,
 }
 
-// What a check of a netlist answers: it computes the graph; or the lowest setting that differs and that setting's first wrong output; or a refusal's number
-// and place.
+// What a check of a netlist answers: it computes the graph; or the lowest setting that differs and that setting's first wrong output; or a
+// refusal's number and place.
 pub enum Checked {
     Accepted,
     Differs(usize, usize),

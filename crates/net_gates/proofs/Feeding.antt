@@ -3,27 +3,17 @@
 --     root-before, ..     which net a root's pin has
 --     drives-by           what drives a phase by the cell of a number are its gates
 --     number-pins         a number's pins are at most four
--- Assumes nothing.
-use mathlib.Core.Path.{_≡_, refl, sym, ap, _∙_}
-use mathlib.Core.Bool.{Bool, true, false, cond}
-use mathlib.Core.List.{List, [], _∷_, map}
-use Prim.Native.Nat.{ℕ, zero, suc, _+_, _-_, _*_, _/_, _%_, _≤_, _<_}
-use native.Mathlib.Nat.{not-suc-le-zero}
-use native.Mathlib.Omega.{arith}
-use lib.Dec.{eqb, ltb}
-use lib.ListN.{length, getD, take, drop, List·getD-map}
-use borrow.Author.Tests.{lt-ltb, le-ltb, ltb-true, ltb-false}
-use Rattle.model.specs.Base.{bit}
-use Rattle.model.specs.Pairs.{splice, pairPins}
-use Rattle.model.specs.Matching.{fedNets}
-use Rattle.model.specs.Netlist.{Net, ofPhase, ofPair, oneGate, twoGates}
+use Rattle.base.specs.{_≡_, refl, sym, ap, _∙_, Bool, true, false, cond, List, [], _∷_, map, ℕ, zero, suc, _+_, _-_, _*_, _/_, _%_, _≤_}
+use Rattle.base.specs.{_<_, not-suc-le-zero, arith, eqb, ltb, length, getD, take, drop, List·getD-map, lt-ltb, le-ltb, ltb-true, ltb-false}
+use Rattle.model.specs.{bit, splice, pairPins, fedNets, Net, ofPhase, ofPair, oneGate, twoGates}
 use Rattle.model.specs.declared.Cell.{Cell}
-use Rattle.base_truth.specs.Variant.{placesOf}
-use Rattle.base_truth.proofs.Variants.{places-four}
-use Rattle.theory_graph.proofs.Distinct.{length-map}
-use Rattle.theory_demands.proofs.Settled.{map-take}
-use Rattle.cells_pairs.specs.Bytes.{countIn, lineCell, codeIn}
-use Rattle.net_gates.specs.Gates.{netOf, phaseNet, insideNet, fourNets, innerFour, rootPick, rootFour, gateOf, gatesOf, oneDriver, twoDriver, pairDriver, driverBy, pinsBy, gatesUnder, rootIn, innerIn, NumberReady, Drives}
+use Rattle.theory_graph.proofs.{length-map}
+use Rattle.theory_demands.proofs.{map-take}
+use Rattle.base_truth.specs.{placesOf}
+use Rattle.base_truth.proofs.{places-four}
+use Rattle.cells_pairs.specs.{countIn, lineCell, codeIn}
+use Rattle.net_gates.specs.{netOf, phaseNet, insideNet, fourNets, innerFour, rootPick, rootFour, gateOf, gatesOf, oneDriver}
+use Rattle.net_gates.specs.{twoDriver, pairDriver, driverBy, pinsBy, gatesUnder, rootIn, innerIn, NumberReady, Drives}
 
 -- the first of the four nets are those that feed so many pins
 four-places : (places : List ℕ) → length places ≡ 4 → (mask : ℕ) (leaves : List ℕ) (n : ℕ) → n ≤ 4 → take n (fourNets places mask leaves) ≡ fedNets n places mask leaves

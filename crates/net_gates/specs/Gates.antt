@@ -1,16 +1,9 @@
--- What drives a phase: its gates as the code holds them, and what in the book they are made of. Assumes nothing.
-use Prim.Native.Nat.{ℕ, _+_, _-_, _*_, _/_, _%_, _≤_, _<_}
-use mathlib.Core.Path.{_≡_}
-use mathlib.Core.Bool.{true, false, cond}
-use mathlib.Core.List.{List, [], _∷_, map}
-use lib.Dec.{eqb, ltb}
-use lib.ListN.{length, getD, take}
-use Rattle.model.specs.Cells.{blank}
-use Rattle.model.specs.Pairs.{pairPins}
-use Rattle.model.specs.Netlist.{Net, ofPhase, ofPair, Gate, oneGate, twoGates}
+-- What drives a phase: its gates as the code holds them, and what in the book they are made of.
+use Rattle.base.specs.{ℕ, _+_, _-_, _*_, _/_, _%_, _≤_, _<_, _≡_, true, false, cond, List, [], _∷_, map, eqb, ltb, length, getD, take}
+use Rattle.model.specs.{blank, pairPins, Net, ofPhase, ofPair, Gate, oneGate, twoGates}
 use Rattle.model.specs.declared.Cell.{Cell}
-use Rattle.base_truth.specs.Variant.{pinNet}
-use Rattle.cells_pairs.specs.Bytes.{countIn, lineCell, codePlace, codeIn}
+use Rattle.base_truth.specs.{pinNet}
+use Rattle.cells_pairs.specs.{countIn, lineCell, codePlace, codeIn}
 use Rattle.net_gates.specs.declared.Instance.{Instance}
 use Rattle.net_gates.specs.declared.Driver.{Driver}
 

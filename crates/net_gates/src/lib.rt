@@ -1,12 +1,9 @@
 // What drives a phase: one gate, or two for a pair, each of a listed cell with its nets.
 use model::Cell;
-ghost use mathlib.Core.Path.{_≡_};
-ghost use mathlib.Core.List.{[], map};
-ghost use Prim.Native.Nat.{_≤_, _<_};
-ghost use lib.ListN.{getD};
-ghost use Rattle.base_truth.specs.Variant.{placesOf};
-ghost use Rattle.net_gates.specs.Gates.{phaseNet, fourNets, innerNets, rootNet, rootNets, noInstance, oneDriver, twoDriver, pairDriver, driverBy};
-ghost use Rattle.net_gates.specs.Gates.{PairReady, NumberReady, Drives};
+ghost use Rattle.base.specs.{_≡_, [], map, _≤_, _<_, getD};
+ghost use Rattle.base_truth.specs.{placesOf};
+ghost use Rattle.net_gates.specs.{phaseNet, fourNets, innerNets, rootNet, rootNets, noInstance, oneDriver, twoDriver, pairDriver};
+ghost use Rattle.net_gates.specs.{driverBy, PairReady, NumberReady, Drives};
 
 // A gate of the netlist: a listed cell, the nets of its first `count` pins in order, and its own net. A net's number is twice a phase's literal, and
 // one more for the net inside the pair that drives the phase.

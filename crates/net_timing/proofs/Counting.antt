@@ -1,16 +1,10 @@
--- The timing lines one by one, their lengths, and that they are `model`'s. Assumes nothing.
-use Prim.Native.Nat.{ℕ, suc, _+_, _-_, _≤_, _<_}
-use native.Mathlib.Omega.{arith}
-use mathlib.Core.Path.{_≡_, refl, sym, ap, ap₂, _∙_}
-use mathlib.Core.List.{List, [], _∷_, _++_, append-assoc, List·Memᴰ, List·Memᴰ·head, List·Memᴰ·tail}
-use lib.ListN.{length, length-append, getD}
-use Rattle.model.specs.Base.{from, each}
-use Rattle.model.specs.Text.{text}
-use Rattle.model.specs.Timing.{timingLines}
-use Rattle.base_words.specs.Layout.{outputAt, lowAt}
-use Rattle.base_words.specs.Phases.{phaseAt}
-use Rattle.net_timing.specs.Lines.{timesText, timesLength, lineText, lineLength, lineOf, linesFrom}
-use Rattle.net_writer.proofs.Counting.{each-next, each-none}
+-- The timing lines one by one, their lengths, and that they are `model`'s.
+use Rattle.base.specs.{ℕ, suc, _+_, _-_, _≤_, _<_, arith, _≡_, refl, sym, ap, ap₂, _∙_, List, [], _∷_, _++_, append-assoc, List·Memᴰ}
+use Rattle.base.specs.{List·Memᴰ·head, List·Memᴰ·tail, length, length-append, getD}
+use Rattle.model.specs.{from, each, text, timingLines}
+use Rattle.base_words.specs.{outputAt, lowAt, phaseAt}
+use Rattle.net_writer.proofs.{each-next, each-none}
+use Rattle.net_timing.specs.{timesText, timesLength, lineText, lineLength, lineOf, linesFrom}
 
 pub times-length : (low high : ℕ) → length (timesText low high) ≡ timesLength low high
 unfolding timesText

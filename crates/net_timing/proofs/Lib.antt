@@ -2,3 +2,6 @@
 pub mod Lowest
 pub mod Retimed
 pub mod Counting
+pub use Lowest.{LowsKept, lows-leaves, lows-phase}
+pub use Retimed.{Ready, retime-kept, retime-lows}
+pub use Counting.{lines-are}

@@ -5,35 +5,21 @@
 --     put-kept, turn-kept         only words of the low arrivals are written
 --     lows-phase .. lows-retimable        so what is read in the pass stays
 --     turn-positive, turn-negative, turn-other    what a turn stores is there, and every other low arrival stays
--- Assumes nothing.
-use Prim.Native.Nat.{ℕ, zero, suc, _+_, _-_, _*_, _/_, _≤_, _<_, max}
-use native.Mathlib.Omega.{arith}
-use mathlib.Core.Path.{_≡_, refl, sym, ap, ap₂, subst, _∙_}
-use mathlib.Core.Bool.{Bool, cond}
-use mathlib.Core.List.{List, [], _∷_, map, List·Memᴰ, List·Memᴰ·head, List·Memᴰ·tail}
-use lib.Dec.{leb, le→leb}
-use lib.ListN.{length, getD, drop}
-use lib.Seq.{drop-cons, drop-length, getD-drop}
-use Rattle.model.specs.Base.{bit}
-use Rattle.model.specs.Limits.{cutLimit}
-use Rattle.model.specs.Graph.{varOf, negated}
-use Rattle.model.specs.Matching.{fedNets}
-use Rattle.model.specs.Choice.{phaseOf, latest}
+use Rattle.base.specs.{ℕ, zero, suc, _+_, _-_, _*_, _/_, _≤_, _<_, max, arith, _≡_, refl, sym, ap, ap₂, subst, _∙_, Bool, cond, List, []}
+use Rattle.base.specs.{_∷_, map, List·Memᴰ, List·Memᴰ·head, List·Memᴰ·tail, leb, le→leb, length, getD, drop, drop-cons, drop-length}
+use Rattle.base.specs.{getD-drop}
+use Rattle.model.specs.{bit, cutLimit, varOf, negated, fedNets, phaseOf, latest}
 use Rattle.model.specs.declared.Cell.{Cell}
 use Rattle.model.specs.declared.Phase.{Phase}
-use Rattle.theory_graph.proofs.Lists.{is-true}
-use Rattle.theory_graph.proofs.Literals.{lit-var}
-use Rattle.base_truth.specs.Variant.{placesOf, pinNet}
-use Rattle.base_truth.proofs.Variants.{places-four}
-use Rattle.base_truth.proofs.Nets.{nets-length, nets-get}
-use Rattle.base_words.specs.Layout.{Room, listsTo, outputAddr, lowAt, slotAt, countAt, positiveAddr, negativeAddr}
-use Rattle.base_words.specs.Record.{leavesOf, leavesAt}
-use Rattle.base_words.specs.Phases.{sourceOf, phaseIn, phaseAt}
-use Rattle.base_words.proofs.Lows.{low-length, low-before, low-behind, low-put, low-apart}
-use Rattle.base_words.proofs.Stored.{cut-same}
-use Rattle.cover_choice.specs.Asked.{SlotsIn, CutsIn}
-use Rattle.cover_choice.proofs.Keeping.{Kept, kept-on}
-use Rattle.net_timing.specs.Retiming.{after, latestLow, turnedLow, ownAt, putLow, retimedTurn, InverterIn, Retimable}
+use Rattle.theory_graph.proofs.{is-true, lit-var}
+use Rattle.base_words.specs.{Room, listsTo, outputAddr, lowAt, slotAt, countAt, positiveAddr, negativeAddr, leavesOf, leavesAt, sourceOf}
+use Rattle.base_words.specs.{phaseIn, phaseAt}
+use Rattle.base_words.proofs.{low-length, low-before, low-behind, low-put, low-apart, cut-same}
+use Rattle.base_truth.specs.{placesOf, pinNet}
+use Rattle.base_truth.proofs.{places-four, nets-length, nets-get}
+use Rattle.cover_choice.specs.{SlotsIn, CutsIn}
+use Rattle.cover_choice.proofs.{Kept, kept-on}
+use Rattle.net_timing.specs.{after, latestLow, turnedLow, ownAt, putLow, retimedTurn, InverterIn, Retimable}
 
 -- ---- sums
 

@@ -1,42 +1,23 @@
 -- The law of `retimedUp`: what it leaves is `model`'s low arrival of every phase that is chosen a source.
--- Assumes nothing.
-use Prim.Native.Nat.{ℕ, zero, suc, _+_, _*_, _/_, _%_, _≤_, _<_, max}
-use native.Mathlib.Omega.{arith}
-use mathlib.Core.Path.{_≡_, refl, sym, ap, ap₂, subst, _∙_}
-use mathlib.Core.Bool.{Bool, true, false, not, true≢false}
-use mathlib.Core.Logic.{_⊎_, inl, inr}
-use mathlib.Core.List.{List, [], _∷_, _++_, map, List·Memᴰ, List·Memᴰ·head, List·Memᴰ·tail, List·Memᴰ·append-cases, List·Memᴰ·not-nil, List·Memᴰ·eq-of-singleton, Memᴰ·append-right, Memᴰ·cast}
-use lib.Dec.{eqb}
-use lib.ListN.{length, getD, take, drop, take-append-drop}
-use lib.Seq.{take-suc, take-length, drop-cons}
-use borrow.Author.Tests.{eqb-true, eqb-false}
-use Rattle.model.specs.Base.{elem}
-use Rattle.model.specs.Cells.{cellAt}
-use Rattle.model.specs.Graph.{Graph, placingOrder, varOf, negated, literal, opposite}
-use Rattle.model.specs.Cuts.{cutsOf, cutAt, crowded}
-use Rattle.model.specs.Matching.{matchNets}
-use Rattle.model.specs.Choice.{feeds, cellOf, latest, absent, chosen}
-use Rattle.model.specs.Timing.{lowOf}
-use Rattle.model.specs.Demands.{Distinct}
+use Rattle.base.specs.{ℕ, zero, suc, _+_, _*_, _/_, _%_, _≤_, _<_, max, arith, _≡_, refl, sym, ap, ap₂, subst, _∙_, Bool, true, false, not}
+use Rattle.base.specs.{true≢false, _⊎_, inl, inr, List, [], _∷_, _++_, map, List·Memᴰ, List·Memᴰ·head, List·Memᴰ·tail}
+use Rattle.base.specs.{List·Memᴰ·append-cases, List·Memᴰ·not-nil, List·Memᴰ·eq-of-singleton, Memᴰ·append-right, Memᴰ·cast, eqb, length}
+use Rattle.base.specs.{getD, take, drop, take-append-drop, take-suc, take-length, drop-cons, eqb-true, eqb-false}
+use Rattle.model.specs.{elem, cellAt, placingOrder, varOf, negated, literal, opposite, cutsOf, cutAt, crowded, matchNets, feeds, cellOf}
+use Rattle.model.specs.{latest, absent, chosen, lowOf, Distinct}
+use Rattle.model.specs.Graph.{Graph}
 use Rattle.model.specs.declared.Cell.{Cell}
 use Rattle.model.specs.declared.Phase.{Phase}
 use Rattle.model.specs.declared.Source.{Source}
 use Rattle.model.specs.declared.Source.the-variants.{Input, Cell as Matched, Inverter as Inverted, Nothing}
-use Rattle.theory_graph.proofs.Lists.{elem-in, elem-out}
-use Rattle.theory_graph.proofs.Literals.{opposite-var}
+use Rattle.theory_graph.proofs.{elem-in, elem-out, opposite-var, order-once, order-small}
 use Rattle.theory_graph.specs.Accepted.{Accepted}
-use Rattle.theory_graph.proofs.Placing.{order-once, order-small}
-use Rattle.theory_cover.proofs.Covers.{Straight}
-use Rattle.theory_cover.proofs.Turns.{chosen-none}
-use Rattle.theory_cover.proofs.Sound.{Present, chosen-fine, straight-before, is-match}
-use Rattle.theory_cover.proofs.Retime.{timeBy, retimed-rule, retimed-below}
-use Rattle.base_words.specs.Layout.{Room, listsTo, outputAddr, slotAt, lateAt, lowAt}
-use Rattle.base_words.specs.Record.{leavesAt}
-use Rattle.base_words.specs.Phases.{phaseAt}
-use Rattle.cover_choice.proofs.Keeping.{kept-same, kept-on}
-use Rattle.cover_choice.proofs.Counting.{few-cuts}
-use Rattle.net_timing.specs.Retiming.{after, latestLow, matchLow, ownLow, turnedLow, ownAt, retimedTurn, retimedUp}
-use Rattle.net_timing.proofs.Lowest.{after-is, latest-held, LowsKept, kept-room, lows-phase, lows-leaves, stored, turn-kept, turn-positive, turn-negative, turn-other}
+use Rattle.theory_cover.proofs.{Straight, chosen-none, Present, chosen-fine, straight-before, is-match, timeBy, retimed-rule, retimed-below}
+use Rattle.base_words.specs.{Room, listsTo, outputAddr, slotAt, lateAt, lowAt, leavesAt, phaseAt}
+use Rattle.cover_choice.proofs.{kept-same, kept-on, few-cuts}
+use Rattle.net_timing.specs.{after, latestLow, matchLow, ownLow, turnedLow, ownAt, retimedTurn, retimedUp}
+use Rattle.net_timing.proofs.Lowest.{after-is, latest-held, LowsKept, kept-room, lows-phase, lows-leaves, stored, turn-kept}
+use Rattle.net_timing.proofs.Lowest.{turn-positive, turn-negative, turn-other}
 
 -- what the words hold before the pass, and still do in it
 pub record Ready (w : List ℕ) (cells : List Cell) (g : Graph) : Type 0 where

@@ -1,12 +1,7 @@
--- The timing lines, as the lent words have them. Assumes nothing.
-use mathlib.Core.List.{List, [], _∷_, _++_}
-use Prim.Native.Nat.{ℕ, _+_}
-use lib.ListN.{length}
-use Rattle.model.specs.Base.{from, each}
-use Rattle.model.specs.Text.{text, decimal}
-use Rattle.model.specs.Netlist.{outName}
-use Rattle.base_words.specs.Layout.{outputAt, lowAt}
-use Rattle.base_words.specs.Phases.{phaseAt}
+-- The timing lines, as the lent words have them.
+use Rattle.base.specs.{List, [], _∷_, _++_, ℕ, _+_, length}
+use Rattle.model.specs.{from, each, text, decimal, outName}
+use Rattle.base_words.specs.{outputAt, lowAt, phaseAt}
 
 -- a low and a high arrival, each behind a space, and the end of the line
 unfoldable pub timesText : ℕ → ℕ → List ℕ

@@ -1,21 +1,12 @@
--- The low arrivals of the chosen phases, from the words and into them. Assumes nothing.
-use Prim.Native.Nat.{ℕ, zero, suc, _+_, _*_, _/_, _≤_, _<_, max}
-use mathlib.Core.Path.{_≡_}
-use mathlib.Core.Bool.{cond}
-use mathlib.Core.List.{List, [], _∷_}
-use lib.Dec.{leb}
-use lib.ListN.{length, getD, set, drop}
-use Rattle.model.specs.Cells.{cellAt}
-use Rattle.model.specs.Matching.{matchNets}
+-- The low arrivals of the chosen phases, from the words and into them.
+use Rattle.base.specs.{ℕ, zero, suc, _+_, _*_, _/_, _≤_, _<_, max, _≡_, cond, List, [], _∷_, leb, length, getD, set, drop}
+use Rattle.model.specs.{cellAt, matchNets}
 use Rattle.model.specs.declared.Cell.{Cell}
 use Rattle.model.specs.declared.Match.{Match}
 use Rattle.model.specs.declared.Source.{Source}
 use Rattle.model.specs.declared.Source.the-variants.{Input, Cell as Matched, Inverter as Inverted, Nothing}
-use Rattle.base_words.specs.Put.{putAt}
-use Rattle.base_words.specs.Layout.{slotAt, lateAt, lowAddr, lowAt, lowWords}
-use Rattle.base_words.specs.Record.{leavesAt}
-use Rattle.base_words.specs.Phases.{phaseAt}
-use Rattle.cover_choice.specs.Asked.{MatchesIn}
+use Rattle.base_words.specs.{putAt, slotAt, lateAt, lowAddr, lowAt, lowWords, leavesAt, phaseAt}
+use Rattle.cover_choice.specs.{MatchesIn}
 
 -- a time and a delay, as long as their sum is a number of the code's
 abbrev pub after : ℕ → ℕ → ℕ

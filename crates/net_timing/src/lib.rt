@@ -5,22 +5,17 @@ use model::Library;
 use model::Match;
 use model::Phase;
 use model::Source;
-ghost use mathlib.Core.Path.{_≡_};
-ghost use Prim.Native.Nat.{_+_, _*_, _/_, _≤_, _<_, max};
-ghost use mathlib.Core.List.{List};
-ghost use lib.ListN.{length, getD, drop};
-ghost use Rattle.model.specs.Cells.{cellsOf};
+ghost use Rattle.base.specs.{_≡_, _+_, _*_, _/_, _≤_, _<_, max, List, length, getD, drop};
+ghost use Rattle.model.specs.{cellsOf, fedNets};
 ghost use Rattle.model.specs.declared.Cell.{Cell};
-ghost use Rattle.model.specs.Matching.{fedNets};
-ghost use Rattle.base_words.specs.Layout.{placedOf, Room, outputAt, lowAt};
-ghost use Rattle.base_words.specs.Phases.{phaseAt};
-ghost use Rattle.base_truth.specs.Variant.{placesOf};
-ghost use Rattle.base_text.specs.Writing.{Wrote};
-ghost use Rattle.cells_pairs.specs.Codes.{cellsBy, Coded};
-ghost use Rattle.cells_matching.specs.Variants.{Matchable};
-ghost use Rattle.cover_choice.specs.Asked.{PinsOf, PinsIn, OutputsIn, SlotsIn, CutsIn, MatchIn, MatchesIn};
-ghost use Rattle.net_timing.specs.Retiming.{after, latestLow, matchLow, ownLow, turnedLow, retimedTurn, retimedUp, InverterIn, Retimable, fourAt, LowsOf};
-ghost use Rattle.net_timing.specs.Lines.{timesText, timesLength, lineText, lineLength, linesFrom};
+ghost use Rattle.base_words.specs.{placedOf, Room, outputAt, lowAt, phaseAt};
+ghost use Rattle.base_truth.specs.{placesOf};
+ghost use Rattle.base_text.specs.{Wrote};
+ghost use Rattle.cells_pairs.specs.{cellsBy, Coded};
+ghost use Rattle.cells_matching.specs.{Matchable};
+ghost use Rattle.cover_choice.specs.{PinsOf, PinsIn, OutputsIn, SlotsIn, CutsIn, MatchIn, MatchesIn};
+ghost use Rattle.net_timing.specs.{after, latestLow, matchLow, ownLow, turnedLow, retimedTurn, retimedUp, InverterIn, Retimable};
+ghost use Rattle.net_timing.specs.{fourAt, LowsOf, timesText, timesLength, lineText, lineLength, linesFrom};
 
 // ---- the low arrivals
 

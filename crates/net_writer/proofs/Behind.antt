@@ -2,16 +2,11 @@
 --     then        what two of them write
 --     reads       a text that is another
 --     left        there is room for what is left
--- Assumes nothing.
-use mathlib.Core.Path.{_≡_, sym, ap, _∙_}
-use mathlib.Core.List.{List, [], _++_, append-assoc, append-nil}
-use Prim.Native.Nat.{ℕ, _+_, _≤_}
-use native.Mathlib.Omega.{arith}
-use lib.ListN.{length, take, drop, length-append, length-take, length-drop}
-use lib.Seq.{take-append-seam, drop-append-add, drop-drop}
-use Rattle.base_words.specs.Put.{putAt}
-use Rattle.base_text.specs.Writing.{Wrote}
-use Rattle.base_text.proofs.Progress.{Partly, room}
+use Rattle.base.specs.{_≡_, sym, ap, _∙_, List, [], _++_, append-assoc, append-nil, ℕ, _+_, _≤_, arith, length, take, drop, length-append}
+use Rattle.base.specs.{length-take, length-drop, take-append-seam, drop-append-add, drop-drop}
+use Rattle.base_words.specs.{putAt}
+use Rattle.base_text.specs.{Wrote}
+use Rattle.base_text.proofs.{Partly, room}
 
 -- a writer that ends within the memory began there
 began : {w w′ : List ℕ} {at next : ℕ} {bs : List ℕ} → next ≤ length w′ → Wrote w w′ at next bs → at ≤ length w

@@ -1,32 +1,22 @@
 -- Lengths of names, pins and lines, and figures of gates.
--- Assumes nothing.
-use mathlib.Core.Path.{_≡_, refl, sym, ap, _∙_}
-use mathlib.Core.Bool.{Bool, true, false, cond}
-use mathlib.Core.List.{List, [], _∷_, _++_, map, append-assoc, append-nil}
-use Prim.Native.Nat.{ℕ, suc, _+_, _-_, _*_, _/_, _%_, _≤_, _<_, max}
-use native.Mathlib.Nat.{add-zero}
-use native.Mathlib.Numerals.{add-one}
-use native.Mathlib.Omega.{arith}
-use borrow.Author.Tests.{eq-eqb, ne-eqb}
-use lib.ListN.{length, take, drop, getD, length-append, drop-of-length-le}
-use lib.Seq.{drop-cons, length-take-le, getD-take}
-use Rattle.model.specs.Base.{from, each}
-use Rattle.model.specs.Text.{text, decimal}
-use Rattle.model.specs.Cells.{nameOf}
-use Rattle.model.specs.Graph.{varOf}
-use Rattle.model.specs.Netlist.{ofPhase, ofPair, Gate, netName, label, outName, pinWords, gateLine, wireLine, sum, largest}
+use Rattle.base.specs.{_≡_, refl, sym, ap, _∙_, Bool, true, false, cond, List, [], _∷_, _++_, map, append-assoc, append-nil, ℕ, suc, _+_}
+use Rattle.base.specs.{_-_, _*_, _/_, _%_, _≤_, _<_, max, add-zero, add-one, arith, eq-eqb, ne-eqb, length, take, drop, getD, length-append}
+use Rattle.base.specs.{drop-of-length-le, drop-cons, length-take-le, getD-take}
+use Rattle.model.specs.{from, each, text, decimal, nameOf, varOf, ofPhase, ofPair, Gate, netName, label, outName, pinWords, gateLine}
+use Rattle.model.specs.{wireLine, sum, largest}
 use Rattle.model.specs.declared.Cell.{Cell}
 use Rattle.model.specs.declared.Header.{Header}
 use Rattle.model.specs.declared.Figures.{Figures}
-use Rattle.base_words.specs.Layout.{outputAt}
-use Rattle.base_words.specs.Phases.{phaseAt, isNeeded}
-use Rattle.base_text.proofs.Decimal.{dec-below}
+use Rattle.base_words.specs.{outputAt, phaseAt, isNeeded}
+use Rattle.base_text.proofs.{dec-below}
 use Rattle.net_gates.specs.declared.Instance.{Instance}
 use Rattle.net_gates.specs.declared.Driver.{Driver}
+use Rattle.net_gates.specs.{netOf, gateOf, gatesOf}
 use Rattle.net_writer.specs.declared.Tally.{Tally}
 use Rattle.net_writer.specs.declared.Measured.{Measured}
-use Rattle.net_gates.specs.Gates.{netOf, gateOf, gatesOf}
-use Rattle.net_writer.specs.Lines.{netWords, pinWord, lineOf, lineLength, gateBy, gateAt, gatesFrom, tallied, noTally, inputNet, inputNamesFrom, outputNamesFrom, spaced, wireLength, wireLinesFrom, latestFrom, frameText, frameLength, figuresText, figuresLength, allGates, figuresIn, textIn, textLength, measuredIn}
+use Rattle.net_writer.specs.{netWords, pinWord, lineOf, lineLength, gateBy, gateAt, gatesFrom, tallied, noTally, inputNet}
+use Rattle.net_writer.specs.{inputNamesFrom, outputNamesFrom, spaced, wireLength, wireLinesFrom, latestFrom, frameText, frameLength}
+use Rattle.net_writer.specs.{figuresText, figuresLength, allGates, figuresIn, textIn, textLength, measuredIn}
 
 -- ---- names
 

@@ -2,33 +2,18 @@
 --     gated, named        every access is inside the words
 --     text-held           the text
 --     measured-held       its length and its figures
--- Assumes nothing.
-use mathlib.Core.Path.{_≡_, refl, sym, ap, ap₂, subst, _∙_}
-use mathlib.Core.Bool.{Bool, true, false, not, cond, true≢false, _&&_}
-use mathlib.Core.List.{List, [], _∷_, _++_, map, append-assoc, List·Memᴰ, List·Memᴰ·head, List·Memᴰ·tail, List·Memᴰ·not-nil, Memᴰ·append-left}
-use Prim.Native.Nat.{ℕ, zero, suc, _+_, _-_, _*_, _/_, _%_, _≤_, _<_}
-use native.Mathlib.Nat.{add-zero, le-of-suc-le-suc, not-suc-le-zero, lt-of-not-le}
-use native.Mathlib.Decide.{decLe}
-use native.Mathlib.Omega.{arith}
-use lib.Dec.{T, eqb, leb, ltb}
-use lib.ListN.{length, getD, take, drop, length-append, List·getD-append}
-use lib.Seq.{getD-append-add}
-use mir.Facts.{and-yes, leb-yes}
-use borrow.Author.Tests.{ltb-false, lt-ltb, le-ltb}
-use Rattle.model.specs.Base.{all, each, elem, keep, from, below}
-use Rattle.model.specs.Limits.{cutLimit}
-use Rattle.model.specs.Text.{text, isLetter, isNameByte, isName}
-use Rattle.model.specs.Cells.{noCell, nameOf, cellAt, cellsOf, isInverter}
-use Rattle.model.specs.Table.{orders}
-use Rattle.model.specs.Pairs.{splice, Pair, joins, pairPins, pairOf, cellOfPair, pairAt}
-use Rattle.model.specs.Graph.{And, Graph, placingOrder, placeF, varOf, negated, literal, opposite}
-use Rattle.model.specs.Cuts.{cutsOf, cutTable, crowded}
-use Rattle.model.specs.Cuts as cuts
-use Rattle.model.specs.Matching.{phaseTable, fedNets, matchNets}
-use Rattle.model.specs.Choice.{feeds, absent, chosen}
-use Rattle.model.specs.Cover.{IsMatch, Allowed}
-use Rattle.model.specs.Netlist.{Net, ofPhase, ofPair, Gate, oneGate, twoGates, gatesBy, numberOf, gates, gateLine, pinWords, netName, namesLine, wireLine, wireLines, needed, isOwn, sum, largest, figuresOf, netlistText}
-use Rattle.model.specs.Demands.{Distinct, choiceFigures}
+use Rattle.base.specs.{_≡_, refl, sym, ap, ap₂, subst, _∙_, Bool, true, false, not, cond, true≢false, _&&_, List, [], _∷_, _++_, map}
+use Rattle.base.specs.{append-assoc, List·Memᴰ, List·Memᴰ·head, List·Memᴰ·tail, List·Memᴰ·not-nil, Memᴰ·append-left, ℕ, zero, suc, _+_, _-_}
+use Rattle.base.specs.{_*_, _/_, _%_, _≤_, _<_, add-zero, le-of-suc-le-suc, not-suc-le-zero, lt-of-not-le, decLe, arith, T, eqb, leb, ltb}
+use Rattle.base.specs.{length, getD, take, drop, length-append, List·getD-append, getD-append-add, and-yes, leb-yes, ltb-false, lt-ltb}
+use Rattle.base.specs.{le-ltb}
+use Rattle.model.specs.{all, each, elem, keep, from, below, cutLimit, text, isLetter, isNameByte, isName, noCell, nameOf, cellAt, cellsOf}
+use Rattle.model.specs.{isInverter, orders, splice, Pair, joins, pairPins, pairOf, cellOfPair, pairAt, And, placingOrder, placeF, varOf}
+use Rattle.model.specs.{negated, literal, opposite, cutsOf, cutTable, crowded, phaseTable, fedNets, matchNets, feeds, absent, chosen}
+use Rattle.model.specs.{IsMatch, Allowed, Net, ofPhase, ofPair, Gate, oneGate, twoGates, gatesBy, numberOf, gates, gateLine, pinWords}
+use Rattle.model.specs.{netName, namesLine, wireLine, wireLines, needed, isOwn, sum, largest, figuresOf, netlistText, Distinct}
+use Rattle.model.specs.{choiceFigures}
+use Rattle.model.specs.Graph.{Graph}
 use Rattle.model.specs.declared.Cell.{Cell}
 use Rattle.model.specs.declared.Library.{Library}
 use Rattle.model.specs.declared.Header.{Header}
@@ -37,33 +22,27 @@ use Rattle.model.specs.declared.Source.{Source}
 use Rattle.model.specs.declared.Source.the-variants.{Input, Cell as Matched, Inverter as Inverted, Nothing}
 use Rattle.model.specs.declared.Phase.{Phase}
 use Rattle.model.specs.declared.Figures.{Figures}
-use Rattle.base_truth.specs.Variant.{placesBelow}
-use Rattle.base_truth.proofs.Variants.{places-fit}
-use Rattle.base_truth.proofs.Nets.{nets-taken}
-use Rattle.base_words.specs.Layout.{slotAt, outputAt}
-use Rattle.base_words.specs.Record.{cutOf, leavesOf}
-use Rattle.base_words.specs.Phases.{phaseAt, isNeeded}
-use Rattle.base_words.proofs.Columns.{room-need}
-use Rattle.theory_graph.proofs.Lists.{keep-in, below-out, getD-in, elem-in, elem-out, map-map, map-same}
-use Rattle.theory_graph.proofs.Distinct.{length-map}
-use Rattle.theory_graph.proofs.Placing.{order-once, order-small, defined-placed}
-use Rattle.theory_graph.proofs.CutFacts.{cuts-none}
-use Rattle.theory_cover.proofs.Matches.{fits-places}
-use Rattle.theory_cover.proofs.Sound.{chosen-fine, needed-present}
-use Rattle.theory_text.proofs.Names.{library-cell, cell-form}
-use Rattle.theory_demands.proofs.Needs.{listed-needed}
-use Rattle.theory_demands.proofs.Numbered.{OfPair, Numbered, single, double, Fitting}
-use Rattle.theory_demands.proofs.Settled.{gates-single, gates-double}
-use Rattle.theory_demands.proofs.Gates.{line-bound}
-use Rattle.cells_pairs.specs.Codes.{pairOfCode, cellsBy}
-use Rattle.base_text.specs.Writing.{Wrote}
-use Rattle.base_text.proofs.Progress.{put-front}
-use Rattle.cells_pairs.specs.Bytes.{codeBytes, listedBytes, bookOf, lineCell, codeIn}
-use Rattle.cells_pairs.proofs.Looking.{booked, booked-name, booked-pins, booked-area, listed-length, line-is, line-within, code-is, code-within}
-use Rattle.net_gates.specs.Gates.{pinsBy, gatesUnder, rootIn, innerIn, LineReady, PairReady, NumberReady}
-use Rattle.net_writer.specs.Lines.{SourceReady, Gated, matchedGates, invertedGates, gateBy, gateAt, gatesFrom, Named, inputNet, inputNamesFrom, outputNamesFrom, spaced, wireLinesFrom, latestFrom, frameText, figuresText, allGates, figuresIn, textIn, measuredIn}
-use Rattle.net_writer.specs.Mapped.{Mapped, gatesFor, textFor, measuredFor}
+use Rattle.theory_graph.proofs.{keep-in, below-out, getD-in, elem-in, elem-out, map-map, map-same, length-map, order-once, order-small}
+use Rattle.theory_graph.proofs.{defined-placed, cuts-none}
+use Rattle.theory_cover.proofs.{fits-places, chosen-fine, needed-present}
+use Rattle.theory_text.proofs.{library-cell, cell-form}
+use Rattle.theory_demands.proofs.{listed-needed, OfPair, single, double, Fitting, gates-single, gates-double, line-bound}
+use Rattle.theory_demands.proofs.Numbered.{Numbered}
+use Rattle.base_words.specs.{slotAt, outputAt, cutOf, leavesOf, phaseAt, isNeeded}
+use Rattle.base_words.proofs.{room-need}
+use Rattle.base_truth.specs.{placesBelow}
+use Rattle.base_truth.proofs.{places-fit, nets-taken}
+use Rattle.base_text.specs.{Wrote}
+use Rattle.base_text.proofs.{put-front}
+use Rattle.cells_pairs.specs.{pairOfCode, cellsBy, codeBytes, listedBytes, bookOf, lineCell, codeIn}
+use Rattle.cells_pairs.proofs.{booked, booked-name, booked-pins, booked-area, listed-length, line-is, line-within, code-is, code-within}
+use Rattle.net_gates.specs.{pinsBy, gatesUnder, rootIn, innerIn, LineReady, PairReady, NumberReady}
+use Rattle.net_writer.specs.{SourceReady, Gated, matchedGates, invertedGates, gateBy, gateAt, gatesFrom, Named, inputNet}
+use Rattle.net_writer.specs.{inputNamesFrom, outputNamesFrom, spaced, wireLinesFrom, latestFrom, frameText, figuresText, allGates}
+use Rattle.net_writer.specs.{figuresIn, textIn, measuredIn, gatesFor, textFor, measuredFor}
+use Rattle.net_writer.specs.Mapped.{Mapped}
 use Rattle.net_writer.proofs.Counting.{gate-needed, gate-idle, map-append, longer}
+use Rattle.model.specs.Cuts as cuts
 
 -- ---- lists
 

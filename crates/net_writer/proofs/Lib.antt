@@ -4,3 +4,5 @@ pub mod Counting
 pub mod Walking
 pub mod Behind
 pub mod Held
+pub use Counting.{each-next, each-none, ten-digits}
+pub use Behind.{left, then}

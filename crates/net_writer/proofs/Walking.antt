@@ -2,21 +2,15 @@
 --     gate-here, gate-later, gate-end     the first gate from phase l on, by whether l is one
 --     comes                               it lies at l or later, not past the end, and the gates from l on are those from it on
 --     gates-on, lines-on                  the gates from l on are those of what drives l, and those after l
--- Assumes nothing.
-use mathlib.Core.Path.{_≡_, refl, sym, ap, _∙_}
-use mathlib.Core.Bool.{Bool, true, false, cond, true≢false}
-use mathlib.Core.List.{List, [], _++_}
-use Prim.Native.Nat.{ℕ, zero, suc, _+_, _-_, _*_, _≤_, _<_}
-use native.Mathlib.Numerals.{add-one}
-use native.Mathlib.Omega.{arith}
-use Rattle.model.specs.Base.{from, each}
-use Rattle.model.specs.Netlist.{Gate, gateLine}
+use Rattle.base.specs.{_≡_, refl, sym, ap, _∙_, Bool, true, false, cond, true≢false, List, [], _++_, ℕ, zero, suc, _+_, _-_, _*_, _≤_, _<_}
+use Rattle.base.specs.{add-one, arith}
+use Rattle.model.specs.{from, each, Gate, gateLine}
 use Rattle.model.specs.declared.Source.{Source}
 use Rattle.model.specs.declared.Source.the-variants.{Input, Cell as Matched, Inverter as Inverted, Nothing}
-use Rattle.net_gates.specs.Gates.{gatesOf, Drives}
+use Rattle.base_words.specs.{phaseAt, isNeeded, makesGate}
+use Rattle.net_gates.specs.{gatesOf, Drives}
 use Rattle.net_gates.specs.declared.Driver.{Driver}
-use Rattle.base_words.specs.Phases.{phaseAt, isNeeded, makesGate}
-use Rattle.net_writer.specs.Lines.{gateBy, gateAt, isGateAt, gateFrom, gatesFrom}
+use Rattle.net_writer.specs.{gateBy, gateAt, isGateAt, gateFrom, gatesFrom}
 use Rattle.net_writer.proofs.Counting.{gate-needed, gate-idle, gates-next, each-append}
 
 -- ---- one phase

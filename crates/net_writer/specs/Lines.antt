@@ -1,26 +1,16 @@
--- The gates, the nets of the names lines, the figures and the text, as the lent words have them. Assumes nothing.
-use mathlib.Core.Bool.{Bool, false, cond}
-use mathlib.Core.List.{List, [], _∷_, _++_, map}
-use Prim.Native.Nat.{ℕ, zero, suc, _+_, _*_, _/_, _≤_, _<_}
-use lib.ListN.{length, take, getD}
-use Rattle.model.specs.Base.{from, each}
-use Rattle.model.specs.Limits.{cutLimit}
-use Rattle.model.specs.Table.{orders}
-use Rattle.model.specs.Text.{text, decimal}
-use Rattle.model.specs.Graph.{varOf, literal, opposite}
-use Rattle.model.specs.Matching.{fedNets}
-use Rattle.model.specs.Netlist.{Gate, oneGate, netName, label, outName, pinWords, gateLine, wireLine, sum, largest}
+-- The gates, the nets of the names lines, the figures and the text, as the lent words have them.
+use Rattle.base.specs.{Bool, false, cond, List, [], _∷_, _++_, map, ℕ, zero, suc, _+_, _*_, _/_, _≤_, _<_, length, take, getD}
+use Rattle.model.specs.{from, each, cutLimit, orders, text, decimal, varOf, literal, opposite, fedNets, Gate, oneGate, netName, label}
+use Rattle.model.specs.{outName, pinWords, gateLine, wireLine, sum, largest}
 use Rattle.model.specs.declared.Cell.{Cell}
 use Rattle.model.specs.declared.Header.{Header}
 use Rattle.model.specs.declared.Match.{Match}
 use Rattle.model.specs.declared.Figures.{Figures}
 use Rattle.model.specs.declared.Source.{Source}
 use Rattle.model.specs.declared.Source.the-variants.{Input, Cell as Matched, Inverter as Inverted, Nothing}
-use Rattle.base_words.specs.Layout.{Room, RoomFor, slotAt, outputAt}
-use Rattle.base_words.specs.Record.{cutOf}
-use Rattle.base_words.specs.Phases.{phaseAt, makesGate, isNeeded}
-use Rattle.cells_pairs.specs.Bytes.{lineCell}
-use Rattle.net_gates.specs.Gates.{netOf, pinsBy, gatesUnder, LineReady, NumberReady}
+use Rattle.base_words.specs.{Room, RoomFor, slotAt, outputAt, cutOf, phaseAt, makesGate, isNeeded}
+use Rattle.cells_pairs.specs.{lineCell}
+use Rattle.net_gates.specs.{netOf, pinsBy, gatesUnder, LineReady, NumberReady}
 use Rattle.net_writer.specs.declared.Tally.{Tally}
 use Rattle.net_writer.specs.declared.Measured.{Measured}
 

@@ -1,24 +1,14 @@
--- What the lent words hold when a netlist is measured and written: a graph with its placing order, cuts, chosen and needed phases. Assumes nothing.
-use mathlib.Core.Path.{_≡_}
-use mathlib.Core.Bool.{false}
-use mathlib.Core.List.{List, [], List·Memᴰ}
-use Prim.Native.Nat.{ℕ, _≤_, _<_}
-use lib.Dec.{T}
-use lib.ListN.{length, getD}
-use Rattle.model.specs.Cells.{cellsOf}
-use Rattle.model.specs.Pairs.{noPair, pairsOf}
+-- What the lent words hold when a netlist is measured and written: a graph with its placing order, cuts, chosen and needed phases.
+use Rattle.base.specs.{_≡_, false, List, [], List·Memᴰ, ℕ, _≤_, _<_, T, length, getD}
+use Rattle.model.specs.{cellsOf, noPair, pairsOf, cutsOf, crowded, absent, chosen, Gate, gates, netlistText, choiceText, choiceFigures}
 use Rattle.model.specs.Graph.{Graph}
-use Rattle.model.specs.Cuts.{cutsOf, crowded}
-use Rattle.model.specs.Choice.{absent, chosen}
-use Rattle.model.specs.Netlist.{Gate, gates, netlistText}
-use Rattle.model.specs.Demands.{choiceText, choiceFigures}
 use Rattle.model.specs.declared.Library.{Library}
 use Rattle.model.specs.declared.Header.{Header}
 use Rattle.model.specs.declared.Figures.{Figures}
-use Rattle.base_words.specs.Holding.{HoldsGraph, HoldsOrder, HoldsPhases, HoldsNeeded}
-use Rattle.base_words.specs.Record.{leavesAt}
-use Rattle.theory_graph.specs.Accepted.{Accepted, libraryFits}
-use Rattle.cells_pairs.specs.Codes.{pairOfCode, cellsBy, Coded}
+use Rattle.theory_graph.specs.Accepted.{Accepted}
+use Rattle.theory_graph.specs.{libraryFits}
+use Rattle.base_words.specs.{HoldsGraph, HoldsOrder, HoldsPhases, HoldsNeeded, leavesAt}
+use Rattle.cells_pairs.specs.{pairOfCode, cellsBy, Coded}
 use Rattle.net_writer.specs.declared.Measured.{Measured}
 
 -- After refusals 1 to 17 none is left: the header's numbers are the graph's, the library and the graph are free of faults, the numbers of pairs are

@@ -9,22 +9,18 @@ use model::Match;
 use model::Source;
 use net_gates::Driver;
 use net_gates::Instance;
-ghost use mathlib.Core.Path.{_≡_};
-ghost use mathlib.Core.List.{_∷_, [], _++_};
-ghost use Prim.Native.Nat.{_+_, _-_, _*_, _/_, _≤_, _<_, max};
-ghost use lib.ListN.{length, take, drop};
-ghost use Rattle.model.specs.Base.{each};
-ghost use Rattle.model.specs.Text.{decimal};
+ghost use Rattle.base.specs.{_≡_, _∷_, [], _++_, _+_, _-_, _*_, _/_, _≤_, _<_, max, length, take, drop};
+ghost use Rattle.model.specs.{each, decimal, netName, label, gateLine, outName, wireLine};
 ghost use Rattle.model.specs.Graph.{Graph};
-ghost use Rattle.model.specs.Netlist.{netName, label, gateLine, outName, wireLine};
-ghost use Rattle.base_words.specs.Layout.{Room, RoomFor, outputAt};
-ghost use Rattle.base_words.specs.Phases.{phaseAt};
-ghost use Rattle.base_text.specs.Writing.{Wrote};
-ghost use Rattle.net_gates.specs.Gates.{netOf, gateOf, gatesOf, FewPins, LineReady, Drives};
-ghost use Rattle.net_writer.specs.Lines.{netWords, pinWord, lineOf, lineLength, MatchReady, SourceReady, Gated, matchedGates, invertedGates, gateBy, gateAt, isGateAt};
-ghost use Rattle.net_writer.specs.Lines.{gateFrom, gatesFrom, tallied, noTally, Bounded, Roomy, Grown, Named, inputNet, inputNamesFrom, outputNamesFrom};
-ghost use Rattle.net_writer.specs.Lines.{spaced, wireLength, wireLinesFrom, latestFrom, frameText, frameLength, figuresText, figuresLength, textIn, textLength, measuredIn, Small};
-ghost use Rattle.net_writer.specs.Mapped.{Mapped, textFor, measuredFor};
+ghost use Rattle.base_words.specs.{Room, RoomFor, outputAt, phaseAt};
+ghost use Rattle.base_text.specs.{Wrote};
+ghost use Rattle.net_gates.specs.{netOf, gateOf, gatesOf, FewPins, LineReady, Drives};
+ghost use Rattle.net_writer.specs.{netWords, pinWord, lineOf, lineLength, MatchReady, SourceReady, Gated, matchedGates};
+ghost use Rattle.net_writer.specs.{invertedGates, gateBy, gateAt, isGateAt, gateFrom, gatesFrom, tallied, noTally, Bounded, Roomy};
+ghost use Rattle.net_writer.specs.{Grown, Named, inputNet, inputNamesFrom, outputNamesFrom, spaced, wireLength, wireLinesFrom};
+ghost use Rattle.net_writer.specs.{latestFrom, frameText, frameLength, figuresText, figuresLength, textIn, textLength, measuredIn};
+ghost use Rattle.net_writer.specs.{Small, textFor, measuredFor};
+ghost use Rattle.net_writer.specs.Mapped.{Mapped};
 
 // "A walk over the mapped gates holds the lent words and the next gate": `next` is the gate's phase, as a literal, past the last phase at the
 // end.

@@ -1,18 +1,9 @@
 -- Where a text ends:
 --     end-here, end-on, end-past      at a byte 0, not at another byte, and at the end of the input
 --     end-within                      no earlier than it begins, and within the input
--- Assumes nothing.
-use mathlib.Core.Path.{_≡_, refl, sym, ap, _∙_}
-use mathlib.Core.Bool.{Bool, true, false, cond}
-use mathlib.Core.List.{List, [], _∷_}
-use Prim.Native.Nat.{ℕ, suc, _+_, _≤_, _<_}
-use native.Mathlib.Nat.{add-zero, add-suc, suc-add}
-use native.Mathlib.Omega.{arith}
-use lib.Dec.{eqb}
-use lib.ListN.{length, drop, getD, length-drop, drop-of-length-le}
-use lib.Seq.{drop-cons}
-use borrow.Author.Tests.{eq-eqb, ne-eqb}
-use Rattle.program_files.specs.Parts.{before, endFrom}
+use Rattle.base.specs.{_≡_, refl, sym, ap, _∙_, Bool, true, false, cond, List, [], _∷_, ℕ, suc, _+_, _≤_, _<_, add-zero, add-suc, suc-add}
+use Rattle.base.specs.{arith, eqb, length, drop, getD, length-drop, drop-of-length-le, drop-cons, eq-eqb, ne-eqb}
+use Rattle.program_files.specs.{before, endFrom}
 
 before-cons : (b : ℕ) (bs : List ℕ) → before (b ∷ bs) ≡ cond (eqb b 0) 0 (suc (before bs))
 unfolding before

@@ -1,10 +1,9 @@
--- What the contracts of `program_files` say of a file that was read: the bytes counted stand at the buffer's start. Assumes nothing.
-use Prim.Native.Nat.{ℕ}
-use mathlib.Core.List.{List}
+-- What the contracts of `program_files` say of a file that was read: the bytes counted stand at the buffer's start.
+use Rattle.base.specs.{ℕ, List}
 use Rattle.io.specs.Counts.{Counts}
 use Rattle.program_files.specs.declared.Found.{Found}
-use Rattle.program_files.specs.declared.Found.the-variants as found
 use Rattle.program_files.specs.declared.Loaded.{Loaded}
+use Rattle.program_files.specs.declared.Found.the-variants as found
 use Rattle.program_files.specs.declared.Loaded.the-variants as loaded
 
 abbrev pub Found-in : Found → List ℕ → Type 0

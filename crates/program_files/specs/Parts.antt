@@ -1,9 +1,5 @@
--- Where a text that byte 0 ends does so. Assumes nothing.
-use Prim.Native.Nat.{ℕ, suc, _+_}
-use mathlib.Core.Bool.{cond}
-use mathlib.Core.List.{List, [], _∷_}
-use lib.Dec.{eqb}
-use lib.ListN.{drop}
+-- Where a text that byte 0 ends does so.
+use Rattle.base.specs.{ℕ, suc, _+_, cond, List, [], _∷_, eqb, drop}
 
 -- the bytes before the first byte 0
 unfoldable pub before : List ℕ → ℕ

@@ -2,11 +2,8 @@
 use libc::ENOENT;
 use libc::STDERR_FILENO;
 use libc::STDOUT_FILENO;
-ghost use mathlib.Core.Path.{_≡_};
-ghost use Prim.Native.Nat.{_≤_};
-ghost use lib.ListN.{length};
-ghost use Rattle.program_files.specs.Parts.{endFrom};
-ghost use Rattle.program_files.specs.Loading.{Found-in, Loaded-in};
+ghost use Rattle.base.specs.{_≡_, _≤_, length};
+ghost use Rattle.program_files.specs.{endFrom, Found-in, Loaded-in};
 
 // Texts that stand one after the other in one input, each ended by byte 0: how the programs that run on stored cases take theirs apart.
 
@@ -57,7 +54,8 @@ fn read_some(fd: i32, buf: &mut [u8]) -> Loaded
     Loaded::Bytes(n)
 }
 
-// An open file's bytes, up to its end or the buffer's; a pipe gives them in pieces. The bytes before a read that fails are no text: they count for nothing.
+// An open file's bytes, up to its end or the buffer's; a pipe gives them in pieces. The bytes before a read that fails are no text: they count
+// for nothing.
 fn fill(fd: i32, buf: &mut [u8]) -> Loaded
     ensures { λ r. ⌜ Loaded-in r (now (buf .exit)) ⌝ }
 {
@@ -76,8 +74,8 @@ fn fill(fd: i32, buf: &mut [u8]) -> Loaded
 }
 
 // The file's first bytes, at most buf's length. The buffer has room for one byte more than 65,536, so that "one over 65,536 bytes brings refusal 1".
-// A file is absent where the system says that there is none of its name (ENOENT). The file is closed again before anything is printed: with standard output
-// closed it may have its number.
+// A file is absent where the system says that there is none of its name (ENOENT). The file is closed again before anything is printed: with
+// standard output closed it may have its number.
 pub fn find(program: &[u8], path: &[u8], buf: &mut [u8]) -> Found
     requires { ⌜ length (now buf) ≡ 65537 ⌝ }
     ensures { λ r. ⌜ Found-in r (now (buf .exit)) ⌝ }

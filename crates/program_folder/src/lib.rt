@@ -3,8 +3,7 @@
 // without, a program each.
 use model::Answer;
 use program_files::Loaded;
-ghost use mathlib.Core.Path.{_≡_};
-ghost use lib.ListN.{length};
+ghost use Rattle.base.specs.{_≡_, length};
 
 // "It lends 32,768 words and 65,536 bytes."
 fn map_files(

@@ -1,12 +1,7 @@
 -- The forms of the three texts as relations over bytes, written from the documents' sentences: what a number, a name, a table, a line, a header, a cell line,
--- a line of literals and a difference is. Each says that bytes are such a thing and what they mean; no reader stands here. Assumes nothing.
-use Prim.Native.Nat.{ℕ, _+_, _-_, _*_, _≤_, _<_}
-use mathlib.Core.Path.{_≡_}
-use mathlib.Core.Logic.{_⊎_}
-use mathlib.Core.Bool.{Bool, true, false}
-use mathlib.Core.List.{List, [], _∷_, _++_, List·Memᴰ}
-use lib.ListN.{length, replicate}
-use Rattle.model.specs.Text.{text}
+-- a line of literals and a difference is. Each says that bytes are such a thing and what they mean; no reader stands here.
+use Rattle.base.specs.{ℕ, _+_, _-_, _*_, _≤_, _<_, _≡_, _⊎_, Bool, true, false, List, [], _∷_, _++_, List·Memᴰ, length, replicate}
+use Rattle.model.specs.{text}
 use Rattle.model.specs.declared.Cell.{Cell}
 use Rattle.model.specs.declared.Header.{Header}
 

@@ -1,14 +1,8 @@
--- Every refusal of a call by its condition: those of its texts, 15 and 16; with `model.Demands.Decided`, 17 and 18. Assumes nothing.
-use Prim.Native.Nat.{ℕ, _<_}
-use mathlib.Core.Path.{_≡_}
-use mathlib.Core.Logic.{_⊎_, _↔_}
-use mathlib.Core.List.{List·Memᴰ}
-use Rattle.model.specs.Graph.{Graph, placingOrder, andVars}
-use Rattle.model.specs.Netlist.{refused}
-use Rattle.model.specs.Mapper.{Call, Design, mapTexts}
-use Rattle.model.specs.Demands.{Mappable}
+-- Every refusal of a call by its condition: those of its texts, 15 and 16; with `model.Demands.Decided`, 17 and 18.
+use Rattle.base.specs.{ℕ, _<_, _≡_, _⊎_, _↔_, List·Memᴰ}
+use Rattle.model.specs.Graph.{Graph}
+use Rattle.model.specs.{placingOrder, andVars, refused, Call, Design, mapTexts, Mappable, Stands, OrderOfAll, Many, FirstCrowded}
 use Rattle.promises.specs.Refusals.{ToDesign, TextsFault, Refusals}
-use Rattle.model.specs.OrderDemands.{Stands, OrderOfAll, Many, FirstCrowded}
 
 -- "Some AND can't be placed; place, the lowest such variable": it stands in no order in which each AND comes behind its operands, and each lower one does
 pub record LowestUnplaced (g : Graph) (v : ℕ) : Type 0 where

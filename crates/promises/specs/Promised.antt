@@ -1,15 +1,11 @@
 -- What is promised of a call, a field for each demand and each request, by the documents' sentences in their order; and with the memory that the call was
--- lent, the whole of what `mapper::map_texts` says. Assumes nothing.
-use Prim.Native.Nat.{ℕ, _≤_}
-use mathlib.Core.Bool.{Bool}
-use mathlib.Core.List.{List}
-use lib.ListN.{length}
-use Rattle.model.specs.Mapper.{Call, callOf, mapTexts, answerOf}
-use Rattle.model.specs.Demands.{Memory, Values, Earliest, Twins, Sequenced, EitherEnd, Untimed, Listed, Former}
-use Rattle.model.specs.ShuffleDemands.{Shuffles}
-use Rattle.promises.specs.Outcomes.{Outcomes}
+-- lent, the whole of what `mapper::map_texts` says.
+use Rattle.base.specs.{ℕ, _≤_, Bool, List, length}
+use Rattle.model.specs.{Call, callOf, mapTexts, answerOf, Memory, Values, Earliest, Twins, Sequenced, EitherEnd, Untimed, Listed, Former}
+use Rattle.model.specs.{Shuffles}
 use Rattle.model.specs.declared.Answer.{Answer}
 use Rattle.model.specs.declared.Answer.the-variants.{Mapped, Refused}
+use Rattle.promises.specs.Outcomes.{Outcomes}
 
 -- the netlist's length is within so many bytes
 abbrev pub Fits : Answer → ℕ → Type 0

@@ -1,20 +1,11 @@
 -- The refusals as conditions over the bytes of the texts, a constructor for each number, by the forms of `Forms`. A text is refused with a number at a place
 -- where what stands before the place is accepted, and what stands there meets the number's condition and none that is tried before it. No reader's definition
--- is used: a reader is named only where `Exactly` says what it does. Assumes nothing.
-use Prim.Native.Nat.{ℕ, suc, _+_, _-_, _*_, _^_, _≤_, _<_}
-use mathlib.Core.Path.{_≡_}
-use mathlib.Core.Logic.{_⊎_, _↔_}
-use mathlib.Core.Bool.{Bool, true, false}
-use mathlib.Core.List.{List, [], _∷_, _++_, map, List·Memᴰ}
-use lib.ListN.{length, getD, drop, replicate}
-use Rattle.model.specs.Base.{bit, from}
-use Rattle.model.specs.Reading.{Read, holds, fault}
-use Rattle.model.specs.Cells.{nameOf}
-use Rattle.model.specs.Graph.{Graph, varOf}
-use Rattle.model.specs.GraphText.{Kind, anInput, anOutput, anAnd, Item, graphOf}
-use Rattle.model.specs.ArrivalsText.{Late, timedBy}
-use Rattle.model.specs.Pairs.{cellsFor}
-use Rattle.model.specs.Mapper.{Call, Design, designOf, readTexts}
+-- is used: a reader is named only where `Exactly` says what it does.
+use Rattle.base.specs.{ℕ, suc, _+_, _-_, _*_, _^_, _≤_, _<_, _≡_, _⊎_, _↔_, Bool, true, false, List, [], _∷_, _++_, map, List·Memᴰ, length}
+use Rattle.base.specs.{getD, drop, replicate}
+use Rattle.model.specs.{bit, from, Read, holds, fault, nameOf, varOf, Kind, anInput, anOutput, anAnd, Item, graphOf, Late, timedBy}
+use Rattle.model.specs.{cellsFor, Call, Design, designOf, readTexts}
+use Rattle.model.specs.Graph.{Graph}
 use Rattle.model.specs.declared.Cell.{Cell}
 use Rattle.model.specs.declared.Header.{Header}
 use Rattle.promises.specs.Forms.{Begins, BeginsNone, NamesLine, CellLine, HeaderLine, NumberLine, TitleLine, Difference}

@@ -1,19 +1,13 @@
--- The demands for two channels, for every call: library text, each channel's texts and number of lent bytes, and number of lent words. Assumes nothing.
-use Prim.Native.Nat.{ℕ, _+_, _≤_, _<_}
-use mathlib.Core.Path.{_≡_}
-use mathlib.Core.Bool.{Bool, true, false}
-use mathlib.Core.List.{List}
-use mathlib.Core.Logic.{_↔_}
-use lib.ListN.{length}
-use Rattle.model.specs.Reading.{holds, fault}
+-- The demands for two channels, for every call: library text, each channel's texts and number of lent bytes, and number of lent words.
+use Rattle.base.specs.{ℕ, _+_, _≤_, _<_, _≡_, Bool, true, false, List, _↔_, length}
+use Rattle.model.specs.{holds, fault, refused, mapped, Design, mapTexts, returned, returnedBy, textAfter, workAfter, triedEarly, Channel}
+use Rattle.model.specs.{TwoCall, channelOf, twoCallOf, alone, needOf, needsOf, mapTwo, answersOf, twoWorkAfter, Decided, Mappable}
+use Rattle.model.specs.{AlikeTexts}
 use Rattle.model.specs.Graph.{Graph}
-use Rattle.model.specs.Netlist.{refused, mapped}
-use Rattle.model.specs.Mapper.{Design, mapTexts, returned, returnedBy, textAfter, workAfter, triedEarly}
-use Rattle.model.specs.Channels.{Channel, TwoCall, channelOf, twoCallOf, alone, needOf, needsOf, mapTwo, answersOf, twoWorkAfter}
-use Rattle.model.specs.Demands.{Means, Decided, Mappable, AlikeTexts}
-use Rattle.promises.specs.Promised.{Fits, Promised}
+use Rattle.model.specs.Demands.{Means}
 use Rattle.model.specs.declared.Figures.{Figures}
 use Rattle.model.specs.declared.Two.{Two}
+use Rattle.promises.specs.Promised.{Fits, Promised}
 
 -- ---- Demand 1: the answers of a call for two channels, and what it leaves of work, first and second, the memory lent to it (c is `twoCallOf` of the
 -- texts and of this memory)

@@ -2,14 +2,9 @@
 // says what was found:
 // `refused`, number and place; or `placed`, the placing order, and the outputs' literals behind `outputs`. cases.py writes the texts, and the lines by a
 // reader of its own.
-ghost use mathlib.Core.Path.{_≡_};
-ghost use Prim.Native.Nat.{_+_, _≤_};
-ghost use lib.ListN.{length};
-ghost use Rattle.model.specs.Limits.{need};
-ghost use Rattle.model.specs.Reading.{holds};
-ghost use Rattle.model.specs.GraphText.{readHeader};
-ghost use Rattle.graph_placing.specs.Loaded.{Fit};
-ghost use Rattle.graph_placing.specs.Placing.{Operands};
+ghost use Rattle.base.specs.{_≡_, _+_, _≤_, length};
+ghost use Rattle.model.specs.{need, holds, readHeader};
+ghost use Rattle.graph_placing.specs.{Fit, Operands};
 use libc::STDIN_FILENO;
 use libc::STDOUT_FILENO;
 use model::Header;

@@ -7,7 +7,7 @@ use base_text::Number;
 use libc::STDIN_FILENO;
 use libc::STDOUT_FILENO;
 use model::Answer;
-ghost use Prim.Native.Nat.{_≤_};
+ghost use Rattle.base.specs.{_≤_};
 
 fn wide(x: u16) -> usize
     ensures { λ r. ⌜ r ≤ 65535 ⌝ }

@@ -1,20 +1,10 @@
--- A report is within the memory lent to it, and a file's name within its sixteen bytes. Assumes nothing.
-use Prim.Native.Nat.{ℕ, _≤_, _<_}
-use native.Mathlib.Omega.{arith}
-use mathlib.Core.Path.{_≡_, refl, subst}
-use mathlib.Core.List.{List}
-use lib.Dec.{leb}
-use lib.ListN.{length}
-use mir.Facts.{leb-yes}
-use Rattle.model.specs.Text.{decimal}
-use Rattle.model.specs.Reading.{Read, holds, fault, next, unless}
-use Rattle.model.specs.LibraryText.{readLibrary}
-use Rattle.model.specs.Genlib.{writtenAnswer}
-use Rattle.model.specs.Tally.{inWidth, reportText, reportOf}
+-- A report is within the memory lent to it, and a file's name within its sixteen bytes.
+use Rattle.base.specs.{ℕ, _≤_, _<_, arith, _≡_, refl, subst, List, leb, length, leb-yes}
+use Rattle.model.specs.{decimal, Read, holds, fault, next, unless, readLibrary, writtenAnswer, inWidth, reportText, reportOf}
 use Rattle.model.specs.declared.Tally.{Tally}
 use Rattle.model.specs.declared.Written.the-variants.{Length}
-use Rattle.theory_text.proofs.Steps.{holds-once, unless-out, next-out}
-use Rattle.base_text.proofs.Decimal.{dec-below}
+use Rattle.theory_text.proofs.{holds-once, unless-out, next-out}
+use Rattle.base_text.proofs.{dec-below}
 
 held-fits : (t : Tally) (library : List ℕ) (bytes : ℕ) (r : List ℕ) → reportOf t library bytes ≡ holds r → length r ≤ bytes
 unfolding reportOf

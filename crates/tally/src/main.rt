@@ -6,8 +6,7 @@ use model::Verdict;
 use model::Written;
 use program_files::Found;
 use program_files::Loaded;
-ghost use mathlib.Core.Path.{_≡_};
-ghost use lib.ListN.{length};
+ghost use Rattle.base.specs.{_≡_, length};
 
 // What the next name led to: a netlist, counted or refused; the end of the netlists; or a file that cannot be read.
 pub enum Turn {

@@ -1,23 +1,15 @@
--- The numbers of a tally, column by column, and what a call leaves of them. Assumes nothing.
-use Prim.Native.Nat.{ℕ, _+_, _≤_, _<_}
-use native.Mathlib.Omega.{arith}
-use mathlib.Core.Path.{_≡_, refl, sym, ap, ap₂, _∙_}
-use mathlib.Core.Bool.{Bool, true, false}
-use mathlib.Core.List.{List, [], _∷_, _++_, append-nil}
-use lib.Dec.{eqb}
-use lib.ListN.{length, take, drop, getD, set, length-drop}
-use lib.Seq.{getD-drop, length-take-le}
-use borrow.Author.Tests.{eq-eqb, ne-eqb, eqb-true}
-use Rattle.model.specs.Reading.{Read, holds, fault, verdictOf}
-use Rattle.model.specs.Tally.{countText, countedAnswer}
+-- The numbers of a tally, column by column, and what a call leaves of them.
+use Rattle.base.specs.{ℕ, _+_, _≤_, _<_, arith, _≡_, refl, sym, ap, ap₂, _∙_, Bool, true, false, List, [], _∷_, _++_, append-nil, eqb}
+use Rattle.base.specs.{length, take, drop, getD, set, length-drop, getD-drop, length-take-le, eq-eqb, ne-eqb, eqb-true}
+use Rattle.model.specs.{Read, holds, fault, verdictOf, countText, countedAnswer}
 use Rattle.model.specs.declared.Tally.{Tally}
 use Rattle.model.specs.declared.Counted.{Counted}
 use Rattle.model.specs.declared.Verdict.the-variants.{Accepted, Refused}
-use Rattle.theory_tally.proofs.Used.{counted-by}
-use Rattle.base_text.proofs.Progress.{put-front}
-use Rattle.base_words.specs.Put.{putAt, zeros}
-use Rattle.base_words.proofs.Putting.{put-taken, put-one, length-put}
-use Rattle.tally_call.specs.Numbers.{overfull, tallyOf, stored, numbersAfter}
+use Rattle.theory_tally.proofs.{counted-by}
+use Rattle.base_words.specs.{putAt, zeros}
+use Rattle.base_words.proofs.{put-taken, put-one, length-put}
+use Rattle.base_text.proofs.{put-front}
+use Rattle.tally_call.specs.{overfull, tallyOf, stored, numbersAfter}
 
 -- ---- a column
 

@@ -4,3 +4,4 @@ pub mod Columns
 pub mod RoundTrip
 pub mod Returned
 pub mod Cases
+pub use Returned.{count-returned, report-returned}

@@ -1,22 +1,14 @@
--- What the calls promise of the numbers, by the number that they return. Assumes nothing.
-use Prim.Native.Nat.{ℕ, _<_}
-use native.Mathlib.Omega.{arith}
-use mathlib.Core.Path.{_≡_, refl, sym, ap₂, subst}
-use mathlib.Core.Bool.{Bool, cond}
-use mathlib.Core.List.{List, _∷_}
-use borrow.Author.Tests.{ne-eqb}
-use Rattle.model.specs.Reading.{Read, holds, fault, verdictOf}
-use Rattle.model.specs.Genlib.{writtenAnswer, writtenPair}
-use Rattle.model.specs.Tally.{countText, reportOf}
+-- What the calls promise of the numbers, by the number that they return.
+use Rattle.base.specs.{ℕ, _<_, arith, _≡_, refl, sym, ap₂, subst, Bool, cond, List, _∷_, ne-eqb}
+use Rattle.model.specs.{Read, holds, fault, verdictOf, writtenAnswer, writtenPair, countText, reportOf}
 use Rattle.model.specs.declared.Tally.{Tally}
 use Rattle.model.specs.declared.Verdict.{Verdict}
 use Rattle.model.specs.declared.Verdict.the-variants.{Accepted, Refused}
 use Rattle.model.specs.declared.Written.{Written}
+use Rattle.theory_tally.specs.{Tallied, countedWith}
+use Rattle.theory_tally.proofs.{count-numbered, report-numbered}
+use Rattle.tally_call.specs.{tallyOf, CountSums, ReportSums, CountReturned, ReportReturned, numberOf}
 use Rattle.model.specs.declared.Written.the-variants as written
-use Rattle.theory_tally.specs.TallyDemands.{Tallied, countedWith}
-use Rattle.theory_tally.proofs.Numbered.{count-numbered, report-numbered}
-use Rattle.tally_call.specs.Numbers.{tallyOf}
-use Rattle.tally_call.specs.Demands.{CountSums, ReportSums, CountReturned, ReportReturned, numberOf}
 
 refused-by : (o : Read Tally) (n k : ℕ) → verdictOf o ≡ Refused n k → o ≡ fault n k
 unfolding verdictOf

@@ -1,28 +1,18 @@
--- A tally put into numbers is read out of them, and what the calls promise of the numbers. Assumes nothing.
-use Prim.Native.Nat.{ℕ}
-use native.Mathlib.Omega.{arith}
-use mathlib.Core.Path.{_≡_, refl, sym, ap, ap₂, _∙_, subst}
-use mathlib.Core.List.{List, [], _∷_}
-use lib.ListN.{length, take, drop, replicate}
-use lib.Seq.{take-append-seam}
-use Rattle.model.specs.Reading.{Read, holds, fault}
-use Rattle.model.specs.Genlib.{writtenAnswer, writtenAfter}
-use Rattle.model.specs.LibraryText.{readLibrary}
-use Rattle.model.specs.Tally.{emptyTally, countText, reportOf}
+-- A tally put into numbers is read out of them, and what the calls promise of the numbers.
+use Rattle.base.specs.{ℕ, arith, _≡_, refl, sym, ap, ap₂, _∙_, subst, List, [], _∷_, length, take, drop, replicate, take-append-seam}
+use Rattle.model.specs.{Read, holds, fault, writtenAnswer, writtenAfter, readLibrary, emptyTally, countText, reportOf}
 use Rattle.model.specs.declared.Cell.{Cell}
 use Rattle.model.specs.declared.Tally.{Tally}
 use Rattle.model.specs.declared.Written.{Written}
 use Rattle.model.specs.declared.Written.the-variants.{Length, Refused}
 use Rattle.model.specs.declared.Verdict.the-variants.{Accepted}
-use Rattle.model.specs.declared.Verdict.the-variants as verdict
-use Rattle.theory_tally.specs.TallyDemands.{Tallied, countedWith, ReadsBack}
-use Rattle.theory_tally.proofs.TallyDemands.{tallied-none, tallied-more, reads-back}
-use Rattle.base_words.specs.Put.{putAt}
-use Rattle.base_words.proofs.Putting.{length-put}
-use Rattle.base_words.proofs.Parts.{part-put, part-apart, word-put}
-use Rattle.tally_call.specs.Numbers.{tallyOf, stored}
-use Rattle.tally_call.specs.Demands.{FromZeros, RoundTrip, CountSums, ReportSums}
+use Rattle.theory_tally.specs.{Tallied, countedWith, ReadsBack}
+use Rattle.theory_tally.proofs.{tallied-none, tallied-more, reads-back}
+use Rattle.base_words.specs.{putAt}
+use Rattle.base_words.proofs.{length-put, part-put, part-apart, word-put}
+use Rattle.tally_call.specs.{tallyOf, stored, FromZeros, RoundTrip, CountSums, ReportSums}
 use Rattle.tally_call.proofs.Columns.{tally-is, only-97}
+use Rattle.model.specs.declared.Verdict.the-variants as verdict
 
 pub from-zeros : FromZeros
 unfolding tallyOf emptyTally

@@ -1,20 +1,13 @@
--- What is promised of a tally lent as numbers, and of its report. Assumes nothing.
-use Prim.Native.Nat.{ℕ}
-use mathlib.Core.Path.{_≡_}
-use mathlib.Core.Bool.{cond}
-use mathlib.Core.List.{List, _∷_}
-use lib.Dec.{eqb}
-use lib.ListN.{length, take, replicate}
-use Rattle.model.specs.Reading.{holds}
-use Rattle.model.specs.LibraryText.{readLibrary}
-use Rattle.model.specs.Tally.{emptyTally}
+-- What is promised of a tally lent as numbers, and of its report.
+use Rattle.base.specs.{ℕ, _≡_, cond, List, _∷_, eqb, length, take, replicate}
+use Rattle.model.specs.{holds, readLibrary, emptyTally}
 use Rattle.model.specs.declared.Cell.{Cell}
 use Rattle.model.specs.declared.Tally.{Tally}
 use Rattle.model.specs.declared.Verdict.{Verdict}
 use Rattle.model.specs.declared.Verdict.the-variants.{Accepted, Refused}
 use Rattle.model.specs.declared.Written.{Written}
 use Rattle.model.specs.declared.Written.the-variants.{Length}
-use Rattle.theory_tally.specs.TallyDemands.{Tallied, countedWith, ReadsBack}
+use Rattle.theory_tally.specs.{Tallied, countedWith, ReadsBack}
 use Rattle.tally_call.specs.Numbers.{tallyOf, stored}
 
 -- 97 zeros are "an empty one"

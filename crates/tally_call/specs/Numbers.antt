@@ -1,12 +1,8 @@
--- A tally as 97 numbers: the gates of the 32 cells, their areas, the netlists in which each occurs, and the netlists counted. Assumes nothing.
-use Prim.Native.Nat.{ℕ}
-use mathlib.Core.Bool.{Bool, true, false}
-use mathlib.Core.List.{List, [], _∷_}
-use lib.Dec.{eqb}
-use lib.ListN.{length, take, drop, getD, replicate}
-use Rattle.model.specs.Reading.{Read, holds, fault}
+-- A tally as 97 numbers: the gates of the 32 cells, their areas, the netlists in which each occurs, and the netlists counted.
+use Rattle.base.specs.{ℕ, Bool, true, false, List, [], _∷_, eqb, length, take, drop, getD, replicate}
+use Rattle.model.specs.{Read, holds, fault}
 use Rattle.model.specs.declared.Tally.{Tally}
-use Rattle.base_words.specs.Put.{putAt}
+use Rattle.base_words.specs.{putAt}
 
 -- the tally that any call refuses for its figures
 abbrev pub overfull : Tally

@@ -1,15 +1,11 @@
-// A tally lent as 97 numbers: the gates of the 32 cells, their areas, the netlists in which each occurs, and the netlists counted. A slice of another length is
-// refused as a figure over 2^40 is.
-ghost use mathlib.Core.Path.{_≡_};
-ghost use Prim.Native.Nat.{_+_, _≤_};
-ghost use lib.ListN.{length, take, drop};
-ghost use Rattle.model.specs.Reading.{verdictOf, rulingOf, verdictRuling};
-ghost use Rattle.model.specs.Genlib.{writtenAnswer, writtenPair, writtenBy, writtenAfter};
-ghost use Rattle.model.specs.Tally.{countText, reportOf};
-ghost use Rattle.base_words.specs.Put.{putAt};
-ghost use Rattle.theory_tally.specs.CountRefusals.{CountRefusals, ReportRefusals};
-ghost use Rattle.tally_call.specs.Numbers.{overfull, tallyOf, stored, numbersAfter};
-ghost use Rattle.tally_call.specs.Demands.{CountSums, ReportSums};
+// A tally lent as 97 numbers: the gates of the 32 cells, their areas, the netlists in which each occurs, and the netlists counted. A slice of
+// another length is refused as a figure over 2^40 is.
+ghost use Rattle.base.specs.{_≡_, _+_, _≤_, length, take, drop};
+ghost use Rattle.model.specs.{verdictOf, rulingOf, verdictRuling, writtenAnswer, writtenPair, writtenBy, writtenAfter, countText, reportOf};
+ghost use Rattle.theory_tally.specs.CountRefusals.{CountRefusals};
+ghost use Rattle.theory_tally.specs.{ReportRefusals};
+ghost use Rattle.base_words.specs.{putAt};
+ghost use Rattle.tally_call.specs.{overfull, tallyOf, stored, numbersAfter, CountSums, ReportSums};
 use model::Tally;
 use model::Verdict;
 use model::Written;

@@ -1,30 +1,19 @@
--- The answers of counting and of a report, refusal by refusal, and the library that was read. Assumes nothing.
-use Prim.Native.Nat.{ℕ, zero, suc, _+_, _-_, _*_, _≤_, _<_}
-use native.Mathlib.Omega.{arith}
-use mathlib.Core.Path.{_≡_, refl, sym, ap, ap₂, _∙_, subst}
-use mathlib.Core.Bool.{Bool, true, false}
-use mathlib.Core.List.{List, [], _∷_, _++_}
-use lib.Dec.{leb, ltb}
-use lib.ListN.{length, getD, replicate, length-append}
-use lib.Seq.{take-append-seam}
-use borrow.Author.Tests.{lt-ltb, le-ltb, le-leb, lt-leb}
-use Rattle.model.specs.Base.{one}
-use Rattle.model.specs.Reading.{Read, holds, fault, next, unless}
-use Rattle.model.specs.Cells.{noCell, blank, cellAt, cellsOf, libraryOf, libraryAnswer}
-use Rattle.model.specs.LibraryText.{readLibrary, isRanged}
-use Rattle.model.specs.Tally.{inWidth, readCounted, times, addEach, counted, countText, countedAnswer}
+-- The answers of counting and of a report, refusal by refusal, and the library that was read.
+use Rattle.base.specs.{ℕ, zero, suc, _+_, _-_, _*_, _≤_, _<_, arith, _≡_, refl, sym, ap, ap₂, _∙_, subst, Bool, true, false, List, [], _∷_}
+use Rattle.base.specs.{_++_, leb, ltb, length, getD, replicate, length-append, take-append-seam, lt-ltb, le-ltb, le-leb, lt-leb}
+use Rattle.model.specs.{one, Read, holds, fault, next, unless, noCell, blank, cellAt, cellsOf, libraryOf, libraryAnswer, readLibrary}
+use Rattle.model.specs.{isRanged, inWidth, readCounted, times, addEach, counted, countText, countedAnswer}
 use Rattle.model.specs.declared.Cell.{Cell}
 use Rattle.model.specs.declared.Library.{Library}
 use Rattle.model.specs.declared.LibraryAnswer.{LibraryAnswer}
 use Rattle.model.specs.declared.Tally.{Tally}
 use Rattle.model.specs.declared.Verdict.the-variants.{Accepted, Refused}
-use Rattle.theory_graph.proofs.Lists.{getD-in}
-use Rattle.theory_text.proofs.ReadLibrary.{library-few, library-written}
-use Rattle.base_text.proofs.Bytes.{and-false}
-use Rattle.tally_lines.specs.Kinds.{Listed}
+use Rattle.theory_graph.proofs.{getD-in}
+use Rattle.theory_text.proofs.{library-few, library-written}
+use Rattle.base_text.proofs.{and-false}
+use Rattle.tally_lines.specs.{Listed}
 use Rattle.tally_counting.specs.declared.Counts.{Counts}
-use Rattle.tally_counting.specs.Adding.{gatesAt, areasAt, occursAt, addUpTo, countedBy, Wide, Blank}
-use Rattle.tally_counting.specs.Netlists.{Whole, countRead}
+use Rattle.tally_counting.specs.{gatesAt, areasAt, occursAt, addUpTo, countedBy, Wide, Blank, Whole, countRead}
 use Rattle.tally_counting.proofs.Places.{add-all, add-same}
 
 -- ---- the library

@@ -3,29 +3,16 @@
 --     due-then, due-append, next-next one after the other
 --     wires-.., timings-..            as many as there are outputs
 --     behind-is                       all that is due behind the gates
--- Assumes nothing.
-use Prim.Native.Nat.{ℕ, zero, suc, _+_, _-_, _≤_, _<_}
-use native.Mathlib.Numerals.{add-one}
-use native.Mathlib.Omega.{arith}
-use mathlib.Core.Path.{_≡_, refl, sym, ap, _∙_}
-use mathlib.Core.Bool.{Bool, true, false, cond, _&&_}
-use mathlib.Core.List.{List, [], _∷_, _++_, map}
-use lib.Dec.{ltb}
-use lib.ListN.{length, take, drop, getD, length-drop}
-use lib.Seq.{drop-drop, getD-drop}
-use borrow.Author.Tests.{eq-eqb, ne-eqb}
-use Rattle.model.specs.Base.{each, same, from, below}
-use Rattle.model.specs.Text.{Line, endedByTen, text, fields}
-use Rattle.model.specs.Reading.{Read, holds, fault, next, unless}
-use Rattle.model.specs.NetlistLines.{isWire, isFigures, isTiming}
-use Rattle.model.specs.Tally.{dueLines, nothingLeft, wirePairs, timings, behindGates, outputsOf}
+use Rattle.base.specs.{ℕ, zero, suc, _+_, _-_, _≤_, _<_, add-one, arith, _≡_, refl, sym, ap, _∙_, Bool, true, false, cond, _&&_, List, []}
+use Rattle.base.specs.{_∷_, _++_, map, ltb, length, take, drop, getD, length-drop, drop-drop, getD-drop, eq-eqb, ne-eqb}
+use Rattle.model.specs.{each, same, from, below, Line, endedByTen, text, fields, Read, holds, fault, next, unless, isWire, isFigures}
+use Rattle.model.specs.{isTiming, dueLines, nothingLeft, wirePairs, timings, behindGates, outputsOf}
 use Rattle.base_text.specs.declared.Span.{Span}
-use Rattle.base_text.specs.Lines.{lineAt, pastLine, spanAt}
-use Rattle.base_text.proofs.Bridge.{lines-none}
-use Rattle.base_text.proofs.Spans.{span-out, span-from, span-fits, span-long, span-next, span-contents}
-use Rattle.genlib_groups.proofs.LineLaws.{bounded}
+use Rattle.base_text.specs.{lineAt, pastLine, spanAt}
+use Rattle.base_text.proofs.{lines-none, span-out, span-from, span-fits, span-long, span-next, span-contents}
+use Rattle.genlib_groups.proofs.{bounded}
 use Rattle.tally_counting.specs.declared.Reached.{Reached}
-use Rattle.tally_counting.specs.Reached.{linesOf, pickRead, readIn}
+use Rattle.tally_counting.specs.{linesOf, pickRead, readIn}
 
 -- ---- one line
 

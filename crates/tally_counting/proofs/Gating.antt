@@ -2,35 +2,23 @@
 --     gate-none, gate-line            the line at a place, by what the reader met
 --     Passing, passing, stopping      what a gate line and another line leave of the lines
 --     SoFar, so-far-..                the counts, gate by gate
--- Assumes nothing.
-use Prim.Native.Nat.{ℕ, zero, suc, _+_, _-_, _*_, _≤_, _<_}
-use native.Mathlib.Omega.{arith}
-use mathlib.Core.Path.{_≡_, refl, sym, ap, _∙_}
-use mathlib.Core.Bool.{Bool, true, false, cond}
-use mathlib.Core.Option.{Option, none, some}
-use mathlib.Core.List.{List, [], _∷_}
-use lib.Dec.{eqb}
-use lib.ListN.{length, take, drop, getD, set, replicate, length-set}
-use lib.Seq.{getD-set-same, getD-set-other}
-use borrow.Author.Tests.{eqb-true, eqb-false}
-use Rattle.model.specs.Text.{Line, endedByTen, fields}
-use Rattle.model.specs.Cells.{noCell, cellAt, cellsOf}
-use Rattle.model.specs.NetlistLines.{ofForm, gateForm, gateOf}
-use Rattle.model.specs.Netlist.{sum}
-use Rattle.model.specs.Tally.{gateIn, gatesIn, afterGates, areaOf, times}
+use Rattle.base.specs.{ℕ, zero, suc, _+_, _-_, _*_, _≤_, _<_, arith, _≡_, refl, sym, ap, _∙_, Bool, true, false, cond, Option, none, some}
+use Rattle.base.specs.{List, [], _∷_, eqb, length, take, drop, getD, set, replicate, length-set, getD-set-same, getD-set-other, eqb-true}
+use Rattle.base.specs.{eqb-false}
+use Rattle.model.specs.{Line, endedByTen, fields, noCell, cellAt, cellsOf, ofForm, gateForm, gateOf, sum, gateIn, gatesIn, afterGates}
+use Rattle.model.specs.{areaOf, times}
 use Rattle.model.specs.declared.Cell.{Cell}
 use Rattle.model.specs.declared.Library.{Library}
 use Rattle.base_text.specs.declared.Span.{Span}
-use Rattle.base_text.specs.Lines.{lineAt, pastLine, spanAt}
-use Rattle.base_text.proofs.Spans.{span-long}
+use Rattle.base_text.specs.{lineAt, pastLine, spanAt}
+use Rattle.base_text.proofs.{span-long}
 use Rattle.tally_lines.specs.declared.Which.{Which}
 use Rattle.tally_lines.specs.declared.Which.the-variants.{Line as Found, Nothing}
-use Rattle.tally_lines.specs.Kinds.{whichOf, Listed}
-use Rattle.tally_lines.proofs.Gates.{cells-count, cells-at}
+use Rattle.tally_lines.specs.{whichOf, Listed}
+use Rattle.tally_lines.proofs.{cells-count, cells-at}
 use Rattle.tally_counting.specs.declared.Counts.{Counts}
 use Rattle.tally_counting.specs.declared.Gate.the-variants.{Is, Other}
-use Rattle.tally_counting.specs.Reached.{linesOf}
-use Rattle.tally_counting.specs.Counts.{gateOr, gateAt, noGates, withGate, Counted}
+use Rattle.tally_counting.specs.{linesOf, gateOr, gateAt, noGates, withGate, Counted}
 use Rattle.tally_counting.proofs.DueLines.{Ten, ten-line, NotTen, missing, other, not-ten}
 
 -- ---- the line at a place

@@ -4,3 +4,4 @@ pub mod Gating
 pub mod Reading
 pub mod Places
 pub mod Answers
+pub use Answers.{accepted, cells-back, listed, turned-back}

@@ -2,25 +2,14 @@
 --     add-step, add-here      one place more
 --     tally-step, tally-low   the same of the three figures
 --     add-all, add-same       all places, as the crate model adds them
--- Assumes nothing.
-use Prim.Native.Nat.{ℕ, zero, suc, _+_, _*_, _^_, _≤_, _<_}
-use native.Mathlib.Nat.{mul-le-mul, le-of-lt}
-use native.Mathlib.Numerals.{add-one}
-use native.Mathlib.Omega.{arith}
-use mathlib.Core.Path.{_≡_, refl, sym, ap, ap₂, _∙_}
-use mathlib.Core.Bool.{Bool, true, false}
-use mathlib.Core.List.{List, [], _∷_}
-use lib.Dec.{leb, ltb}
-use lib.ListN.{length, getD, set}
-use borrow.Author.Tests.{lt-ltb, le-ltb, le-leb, lt-leb, leb-true}
-use Rattle.base_text.proofs.Bytes.{and-left, and-right}
-use Rattle.model.specs.Base.{one, all}
-use Rattle.model.specs.Cells.{noCell}
-use Rattle.model.specs.Tally.{inWidth, addEach}
+use Rattle.base.specs.{ℕ, zero, suc, _+_, _*_, _^_, _≤_, _<_, mul-le-mul, le-of-lt, add-one, arith, _≡_, refl, sym, ap, ap₂, _∙_, Bool}
+use Rattle.base.specs.{true, false, List, [], _∷_, leb, ltb, length, getD, set, lt-ltb, le-ltb, le-leb, lt-leb, leb-true}
+use Rattle.model.specs.{one, all, noCell, inWidth, addEach}
 use Rattle.model.specs.declared.Library.{Library}
 use Rattle.model.specs.declared.Tally.{Tally}
+use Rattle.base_text.proofs.{and-left, and-right}
 use Rattle.tally_counting.specs.declared.Counts.{Counts}
-use Rattle.tally_counting.specs.Adding.{addUpTo, gatesAt, areasAt, occursAt, addedUpTo, placed, Wide}
+use Rattle.tally_counting.specs.{addUpTo, gatesAt, areasAt, occursAt, addedUpTo, placed, Wide}
 
 pub some-occurs : (n : ℕ) → 0 < n → 1 ≡ one (ltb 0 n)
 unfolding one

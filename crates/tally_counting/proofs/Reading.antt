@@ -1,20 +1,11 @@
--- A netlist read whole: the frame, the gates and what is due behind them are `readCounted`. Assumes nothing.
-use Prim.Native.Nat.{ℕ}
-use native.Mathlib.Omega.{arith}
-use mathlib.Core.Path.{_≡_, refl, sym, ap, ap₂, _∙_}
-use mathlib.Core.Bool.{Bool, true, false}
-use mathlib.Core.List.{List}
-use lib.ListN.{length}
-use Rattle.model.specs.Text.{Line}
-use Rattle.model.specs.Reading.{Read, holds, fault, next}
-use Rattle.model.specs.Cells.{cellsOf}
-use Rattle.model.specs.Tally.{dueLines, nothingLeft, frame, gatesIn, afterGates, areaOf, behindGates, outputsOf, readCounted}
+-- A netlist read whole: the frame, the gates and what is due behind them are `readCounted`.
+use Rattle.base.specs.{ℕ, arith, _≡_, refl, sym, ap, ap₂, _∙_, Bool, true, false, List, length}
+use Rattle.model.specs.{Line, Read, holds, fault, next, cellsOf, dueLines, nothingLeft, frame, gatesIn, afterGates, areaOf, behindGates}
+use Rattle.model.specs.{outputsOf, readCounted}
 use Rattle.model.specs.declared.Library.{Library}
 use Rattle.tally_counting.specs.declared.Counts.{Counts}
 use Rattle.tally_counting.specs.declared.Reached.{Reached}
-use Rattle.tally_counting.specs.Reached.{linesOf, pickRead, readIn}
-use Rattle.tally_counting.specs.Counts.{Counted}
-use Rattle.tally_counting.specs.Netlists.{Whole}
+use Rattle.tally_counting.specs.{linesOf, pickRead, readIn, Counted, Whole}
 use Rattle.tally_counting.proofs.DueLines.{next-next}
 
 pub never : {A : Type 0} → false ≡ true → A

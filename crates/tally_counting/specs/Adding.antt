@@ -1,11 +1,6 @@
--- The tally with a netlist's counts added, place by place, and the sums of a report. Assumes nothing.
-use Prim.Native.Nat.{ℕ, zero, suc, _+_, _*_, _^_, _≤_, _<_}
-use mathlib.Core.Path.{_≡_}
-use mathlib.Core.List.{List, [], _∷_}
-use lib.Dec.{ltb}
-use lib.ListN.{length, getD, set}
-use Rattle.model.specs.Base.{one}
-use Rattle.model.specs.Cells.{noCell, cellAt, cellsOf}
+-- The tally with a netlist's counts added, place by place, and the sums of a report.
+use Rattle.base.specs.{ℕ, zero, suc, _+_, _*_, _^_, _≤_, _<_, _≡_, List, [], _∷_, ltb, length, getD, set}
+use Rattle.model.specs.{one, noCell, cellAt, cellsOf}
 use Rattle.model.specs.declared.Library.{Library}
 use Rattle.model.specs.declared.Tally.{Tally}
 use Rattle.model.specs.declared.Counted.{Counted}

@@ -1,13 +1,8 @@
--- The gates of a netlist, counted by cell. Assumes nothing.
-use Prim.Native.Nat.{ℕ, _+_, _≤_, _<_}
-use mathlib.Core.Path.{_≡_}
-use mathlib.Core.Option.{Option, none, some}
-use mathlib.Core.List.{List}
-use lib.ListN.{length, getD, set, replicate}
-use Rattle.model.specs.Cells.{cellsOf}
-use Rattle.model.specs.Tally.{gateIn, gatesIn, afterGates, areaOf, times}
+-- The gates of a netlist, counted by cell.
+use Rattle.base.specs.{ℕ, _+_, _≤_, _<_, _≡_, Option, none, some, List, length, getD, set, replicate}
+use Rattle.model.specs.{cellsOf, gateIn, gatesIn, afterGates, areaOf, times}
 use Rattle.model.specs.declared.Library.{Library}
-use Rattle.base_text.specs.Lines.{lineAt, pastLine}
+use Rattle.base_text.specs.{lineAt, pastLine}
 use Rattle.tally_counting.specs.declared.Counts.{Counts}
 use Rattle.tally_counting.specs.declared.Gate.{Gate}
 use Rattle.tally_counting.specs.declared.Gate.the-variants.{Is, Other}

@@ -1,10 +1,6 @@
--- The test of each kind of line that is due. Assumes nothing.
-use Prim.Native.Nat.{ℕ}
-use mathlib.Core.Bool.{Bool}
-use mathlib.Core.List.{List}
-use Rattle.model.specs.Base.{same}
-use Rattle.model.specs.Text.{text}
-use Rattle.model.specs.NetlistLines.{isNameList, isWire, isFigures, isTiming}
+-- The test of each kind of line that is due.
+use Rattle.base.specs.{ℕ, Bool, List}
+use Rattle.model.specs.{same, text, isNameList, isWire, isFigures, isTiming}
 use Rattle.tally_counting.specs.declared.Form.{Form}
 use Rattle.tally_counting.specs.declared.Form.the-variants.{Model, Inputs, Outputs, Wire, One, End, Figures, Timing}
 

@@ -1,13 +1,6 @@
--- What is read of a netlist: its cells' counts, or 29. Assumes nothing.
-use Prim.Native.Nat.{ℕ, _<_}
-use mathlib.Core.Path.{_≡_}
-use mathlib.Core.Bool.{Bool, true, false, _&&_}
-use mathlib.Core.List.{List}
-use lib.Dec.{ltb}
-use lib.ListN.{getD}
-use Rattle.model.specs.Reading.{Read, holds, fault, next, unless}
-use Rattle.model.specs.Cells.{cellsOf}
-use Rattle.model.specs.Tally.{inWidth, readCounted, times, counted}
+-- What is read of a netlist: its cells' counts, or 29.
+use Rattle.base.specs.{ℕ, _<_, _≡_, Bool, true, false, _&&_, List, ltb, getD}
+use Rattle.model.specs.{Read, holds, fault, next, unless, cellsOf, inWidth, readCounted, times, counted}
 use Rattle.model.specs.declared.Cell.{Cell}
 use Rattle.model.specs.declared.Library.{Library}
 use Rattle.model.specs.declared.Tally.{Tally}

@@ -1,10 +1,6 @@
--- What a reader of lines answers: the place of the next line, or that of the line at fault. Assumes nothing.
-use Prim.Native.Nat.{ℕ}
-use mathlib.Core.Bool.{Bool, true, false}
-use mathlib.Core.List.{List, []}
-use lib.ListN.{drop}
-use Rattle.model.specs.Text.{Line, linesFrom}
-use Rattle.model.specs.Reading.{Read, holds, fault}
+-- What a reader of lines answers: the place of the next line, or that of the line at fault.
+use Rattle.base.specs.{ℕ, Bool, true, false, List, [], drop}
+use Rattle.model.specs.{Line, linesFrom, Read, holds, fault}
 use Rattle.tally_counting.specs.declared.Reached.{Reached}
 
 -- the lines from a place on

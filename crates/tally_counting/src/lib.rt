@@ -1,21 +1,11 @@
-// Mapped netlists counted into a tally, and its report. "Stock planning reads up to 64 mapped netlists of one library, one after another, into a tally handed
-// on by these calls from an empty one."
-ghost use mathlib.Core.Path.{_≡_};
-ghost use mathlib.Core.Bool.{true};
-ghost use mathlib.Core.List.{[], _∷_};
-ghost use Prim.Native.Nat.{ℕ, _+_, _*_, _^_, _≤_, _<_};
-ghost use lib.Dec.{leb, ltb};
-ghost use lib.ListN.{length, getD};
-ghost use Rattle.model.specs.Base.{one, all};
-ghost use Rattle.model.specs.Reading.{fault, next, rulingOf, verdictRuling};
-ghost use Rattle.model.specs.Cells.{cellsOf};
-ghost use Rattle.model.specs.Tally.{inWidth, dueLines, nothingLeft, frame, wirePairs, timings, behindGates, outputsOf, countText, countedAnswer};
-ghost use Rattle.tally_lines.specs.Kinds.{Listed};
-ghost use Rattle.tally_counting.specs.Forms.{formTest};
-ghost use Rattle.tally_counting.specs.Reached.{linesOf, readIn};
-ghost use Rattle.tally_counting.specs.Counts.{gateAt, noGates, withGate, Counted as CountedFrom};
-ghost use Rattle.tally_counting.specs.Adding.{placed, addedUpTo, countedBy, Wide, Blank};
-ghost use Rattle.tally_counting.specs.Netlists.{NetlistRead, countRead};
+// Mapped netlists counted into a tally, and its report. "Stock planning reads up to 64 mapped netlists of one library, one after another, into a
+// tally handed on by these calls from an empty one."
+ghost use Rattle.base.specs.{_≡_, true, [], _∷_, ℕ, _+_, _*_, _^_, _≤_, _<_, leb, ltb, length, getD};
+ghost use Rattle.model.specs.{one, all, fault, next, rulingOf, verdictRuling, cellsOf, inWidth, dueLines, nothingLeft, frame, wirePairs};
+ghost use Rattle.model.specs.{timings, behindGates, outputsOf, countText, countedAnswer};
+ghost use Rattle.tally_lines.specs.{Listed};
+ghost use Rattle.tally_counting.specs.{formTest, linesOf, readIn, gateAt, noGates, withGate, Counted as CountedFrom, placed};
+ghost use Rattle.tally_counting.specs.{addedUpTo, countedBy, Wide, Blank, NetlistRead, countRead};
 use model::Counted;
 use model::Library;
 use model::LibraryAnswer;
@@ -260,8 +250,8 @@ pub struct Netlist {
     pub counts: Counts,
 }
 
-// A netlist's gates by cell: "29 when a line isn't of the kind and form mapping prints there .., names no listed cell, or gives a gate count or area that isn't
-// that of the gates above it, at the line's offset".
+// A netlist's gates by cell: "29 when a line isn't of the kind and form mapping prints there .., names no listed cell, or gives a gate count or
+// area that isn't that of the gates above it, at the line's offset".
 fn read_netlist(s: &[u8], lib: Library, ranged: bool) -> Netlist
     requires { ⌜ (length (now s) ≤ 65536) × Listed lib ⌝ }
     ensures { λ r. ⌜ NetlistRead ranged lib (now (s .entry)) r ⌝ }

@@ -1,20 +1,9 @@
--- Fields by their bytes: digits, a letter and digits, a pin and its net, and a number's own digits. Assumes nothing.
-use Prim.Native.Nat.{ℕ, _+_, _-_, _≤_, _<_}
-use native.Mathlib.Omega.{arith}
-use mathlib.Core.Path.{_≡_, refl, sym, _∙_}
-use mathlib.Core.Bool.{true, false}
-use mathlib.Core.List.{List, [], _∷_}
-use lib.Dec.{eqb, leb}
-use lib.ListN.{length, take, drop, getD, replicate, length-drop}
-use lib.Seq.{take-append-seam, take-all}
-use borrow.Author.Tests.{eq-eqb, ne-eqb, le-leb, lt-leb, lt-ltb, le-ltb}
-use Rattle.model.specs.Base.{all}
-use Rattle.model.specs.Text.{decimal, between}
-use Rattle.model.specs.NetlistLines.{areDigits, isLabel, isPhaseNet, isInnerNet, isGateNet, isBound}
-use Rattle.base_words.specs.Put.{putAt}
-use Rattle.base_text.proofs.Bytes.{and-false}
-use Rattle.base_text.proofs.Decimal.{dec-below}
-use Rattle.base_text.proofs.Progress.{put-front}
+-- Fields by their bytes: digits, a letter and digits, a pin and its net, and a number's own digits.
+use Rattle.base.specs.{ℕ, _+_, _-_, _≤_, _<_, arith, _≡_, refl, sym, _∙_, true, false, List, [], _∷_, eqb, leb, length, take, drop, getD}
+use Rattle.base.specs.{replicate, length-drop, take-append-seam, take-all, eq-eqb, ne-eqb, le-leb, lt-leb, lt-ltb, le-ltb}
+use Rattle.model.specs.{all, decimal, between, areDigits, isLabel, isPhaseNet, isInnerNet, isGateNet, isBound}
+use Rattle.base_words.specs.{putAt}
+use Rattle.base_text.proofs.{and-false, dec-below, put-front}
 
 -- ---- one byte
 

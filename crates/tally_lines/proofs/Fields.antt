@@ -2,19 +2,11 @@
 --     end-space, end-step, end-out         where a field ends, by the byte at a place
 --     count-space, count-step, count-out   how many fields there are, likewise
 --     field-part, field-fits, field-next   the bytes up to its end are the field, and behind it stand the others
--- Assumes nothing.
-use Prim.Native.Nat.{ℕ, suc, _+_, _-_, _≤_, _<_}
-use native.Mathlib.Numerals.{add-one}
-use native.Mathlib.Omega.{arith}
-use mathlib.Core.Path.{_≡_, refl, sym, ap, _∙_}
-use mathlib.Core.Bool.{Bool, true, false}
-use mathlib.Core.List.{List, [], _∷_, _++_}
-use lib.Dec.{eqb}
-use lib.ListN.{length, take, drop, getD, drop-of-length-le, length-append, length-drop}
-use lib.Seq.{drop-cons, drop-drop, take-all, take-append-seam, drop-append-add}
-use borrow.Author.Tests.{eq-eqb, ne-eqb, eqb-true, le-leb, lt-leb}
-use Rattle.model.specs.Text.{fields, split, onto}
-use Rattle.tally_lines.specs.Steps.{fieldsAt, fieldAt, fieldEnd}
+use Rattle.base.specs.{ℕ, suc, _+_, _-_, _≤_, _<_, add-one, arith, _≡_, refl, sym, ap, _∙_, Bool, true, false, List, [], _∷_, _++_, eqb}
+use Rattle.base.specs.{length, take, drop, getD, drop-of-length-le, length-append, length-drop, drop-cons, drop-drop, take-all}
+use Rattle.base.specs.{take-append-seam, drop-append-add, eq-eqb, ne-eqb, eqb-true, le-leb, lt-leb}
+use Rattle.model.specs.{fields, split, onto}
+use Rattle.tally_lines.specs.{fieldsAt, fieldAt, fieldEnd}
 
 -- ---- by bytes
 

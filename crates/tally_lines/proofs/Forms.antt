@@ -3,19 +3,10 @@
 --     step-low, step-on                     where it leads
 --     form-yes, form-no                     the line has the form just where the steps lead one past its length
 --     labels-step, labels-end, ..           the same of a list of names
--- Assumes nothing.
-use Prim.Native.Nat.{ℕ, _+_, _-_, _≤_, _<_}
-use native.Mathlib.Omega.{arith}
-use mathlib.Core.Path.{_≡_, refl, sym, ap, _∙_}
-use mathlib.Core.Bool.{Bool, true, false, _&&_}
-use mathlib.Core.List.{List, [], _∷_, _++_}
-use lib.Dec.{eqb, leb}
-use lib.ListN.{length, take, drop}
-use borrow.Author.Tests.{eq-eqb, ne-eqb, le-leb, lt-leb, leb-true, leb-false}
-use Rattle.model.specs.Base.{all, same}
-use Rattle.model.specs.Text.{fields}
-use Rattle.model.specs.NetlistLines.{isLabel, ofForm, ofList, isNameList}
-use Rattle.tally_lines.specs.Steps.{pickN, fieldsAt, fieldAt, fieldEnd, stepAt, stepsAt}
+use Rattle.base.specs.{ℕ, _+_, _-_, _≤_, _<_, arith, _≡_, refl, sym, ap, _∙_, Bool, true, false, _&&_, List, [], _∷_, _++_, eqb, leb}
+use Rattle.base.specs.{length, take, drop, eq-eqb, ne-eqb, le-leb, lt-leb, leb-true, leb-false}
+use Rattle.model.specs.{all, same, fields, isLabel, ofForm, ofList, isNameList}
+use Rattle.tally_lines.specs.{pickN, fieldsAt, fieldAt, fieldEnd, stepAt, stepsAt}
 use Rattle.tally_lines.proofs.Fields.{fields-past, fields-in, field-part, field-fits, field-next, field-from}
 
 -- ---- a step

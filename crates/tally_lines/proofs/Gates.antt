@@ -1,20 +1,10 @@
--- The cell of a gate line, from the library's first line on, and the steps over its pins. Assumes nothing.
-use Prim.Native.Nat.{ℕ, suc, _+_, _-_, _≤_, _<_}
-use native.Mathlib.Numerals.{add-one}
-use native.Mathlib.Omega.{arith}
-use mathlib.Core.Path.{_≡_, refl, sym, ap, _∙_}
-use mathlib.Core.Bool.{Bool, true, false, cond, _&&_}
-use mathlib.Core.Option.{none, some}
-use mathlib.Core.List.{List, [], _∷_, map}
-use lib.ListN.{length, take, drop, getD, drop-of-length-le}
-use lib.Seq.{drop-cons, length-take-le, getD-take}
-use Rattle.model.specs.Base.{same, from, below}
-use Rattle.model.specs.Text.{text, fields}
-use Rattle.model.specs.Cells.{nameOf, noCell, cellsOf}
-use Rattle.model.specs.NetlistLines.{isBound, ofForm, gateForm, gateOf}
+-- The cell of a gate line, from the library's first line on, and the steps over its pins.
+use Rattle.base.specs.{ℕ, suc, _+_, _-_, _≤_, _<_, add-one, arith, _≡_, refl, sym, ap, _∙_, Bool, true, false, cond, _&&_, none, some, List}
+use Rattle.base.specs.{[], _∷_, map, length, take, drop, getD, drop-of-length-le, drop-cons, length-take-le, getD-take}
+use Rattle.model.specs.{same, from, below, text, fields, nameOf, noCell, cellsOf, isBound, ofForm, gateForm, gateOf}
 use Rattle.model.specs.declared.Cell.{Cell}
 use Rattle.model.specs.declared.Library.{Library}
-use Rattle.tally_lines.specs.Steps.{fieldsAt, fieldAt, fieldEnd, stepAt, stepsAt}
+use Rattle.tally_lines.specs.{fieldsAt, fieldAt, fieldEnd, stepAt, stepsAt}
 use Rattle.tally_lines.proofs.Fields.{field-next, field-fits}
 use Rattle.tally_lines.proofs.Forms.{Led, on, off, out, led, from-start, steps-append}
 

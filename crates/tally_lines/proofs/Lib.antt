@@ -3,3 +3,4 @@ pub mod Digits
 pub mod Fields
 pub mod Forms
 pub mod Gates
+pub use Gates.{cells-at, cells-count}

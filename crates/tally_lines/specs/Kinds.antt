@@ -1,15 +1,7 @@
--- The test of each kind of field, and the answer to whether a line is a gate's. Assumes nothing.
-use Prim.Native.Nat.{ℕ, _≤_, _<_}
-use mathlib.Core.Path.{_≡_}
-use mathlib.Core.Bool.{Bool}
-use mathlib.Core.Option.{Option, none, some}
-use mathlib.Core.List.{List}
-use lib.ListN.{length, getD}
-use Rattle.model.specs.Base.{same}
-use Rattle.model.specs.Text.{decimal}
-use Rattle.model.specs.Cells.{noCell}
+-- The test of each kind of field, and the answer to whether a line is a gate's.
+use Rattle.base.specs.{ℕ, _≤_, _<_, _≡_, Bool, Option, none, some, List, length, getD}
+use Rattle.model.specs.{same, decimal, noCell, areDigits, isLabel, isPhaseNet, isBound}
 use Rattle.model.specs.declared.Library.{Library}
-use Rattle.model.specs.NetlistLines.{areDigits, isLabel, isPhaseNet, isBound}
 use Rattle.tally_lines.specs.declared.Kind.{Kind}
 use Rattle.tally_lines.specs.declared.Kind.the-variants.{Digits, Label, Net, Bound, Number}
 use Rattle.tally_lines.specs.declared.Which.{Which}

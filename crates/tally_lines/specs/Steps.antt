@@ -1,11 +1,7 @@
 -- The fields of a line from a place on, and steps over them: a step leads past a field that passes its test, to the place of the next. Behind the last field
--- that is one past the line's length, and two past it once a field failed, or was missing. Assumes nothing.
-use Prim.Native.Nat.{ℕ, _+_}
-use mathlib.Core.Bool.{Bool, true, false, _&&_}
-use mathlib.Core.List.{List, [], _∷_}
-use lib.Dec.{leb}
-use lib.ListN.{length, drop, getD}
-use Rattle.model.specs.Text.{fields}
+-- that is one past the line's length, and two past it once a field failed, or was missing.
+use Rattle.base.specs.{ℕ, _+_, Bool, true, false, _&&_, List, [], _∷_, leb, length, drop, getD}
+use Rattle.model.specs.{fields}
 
 abbrev pub pickN : Bool → ℕ → ℕ → ℕ
 pickN true a b = a

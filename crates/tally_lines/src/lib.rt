@@ -1,17 +1,10 @@
 // The lines of a printed netlist: their fields, and the form of each kind of line. A line is lent without its end.
-// A reader goes from field to field by steps that lead past a field of its kind, to the place of the next; a place past the line says that no field is left, or
-// that one was not of its kind.
-ghost use mathlib.Core.Path.{_≡_};
-ghost use mathlib.Core.List.{map};
-ghost use Prim.Native.Nat.{ℕ, _+_, _-_, _≤_};
-ghost use lib.ListN.{length, take, drop};
-ghost use Rattle.model.specs.Base.{all, same, below};
-ghost use Rattle.model.specs.Text.{decimal, fields, between};
-ghost use Rattle.model.specs.Cells.{cellsOf};
-ghost use Rattle.model.specs.NetlistLines.{areDigits, isLabel, isPhaseNet, isInnerNet, isGateNet, isBound, ofForm, isNameList, gateForm, gateOf, isWire};
-ghost use Rattle.model.specs.NetlistLines.{isFigures, isTiming};
-ghost use Rattle.tally_lines.specs.Steps.{fieldsAt, fieldEnd, stepAt, stepsAt};
-ghost use Rattle.tally_lines.specs.Kinds.{kindTest, whichOf, Listed};
+// A reader goes from field to field by steps that lead past a field of its kind, to the place of the next; a place past the line says that no
+// field is left, or that one was not of its kind.
+ghost use Rattle.base.specs.{_≡_, map, ℕ, _+_, _-_, _≤_, length, take, drop};
+ghost use Rattle.model.specs.{all, same, below, decimal, fields, between, cellsOf, areDigits, isLabel, isPhaseNet, isInnerNet, isGateNet};
+ghost use Rattle.model.specs.{isBound, ofForm, isNameList, gateForm, gateOf, isWire, isFigures, isTiming};
+ghost use Rattle.tally_lines.specs.{fieldsAt, fieldEnd, stepAt, stepsAt, kindTest, whichOf, Listed};
 use model::Cell;
 use model::Library;
 

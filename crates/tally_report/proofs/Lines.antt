@@ -1,24 +1,15 @@
--- A report's lines: their parts in the order in which they are written, and their lengths. Assumes nothing.
-use Prim.Native.Nat.{ℕ, zero, suc, _+_, _-_, _*_, _^_, _≤_, _<_}
-use native.Mathlib.Numerals.{add-one}
-use native.Mathlib.Omega.{arith}
-use mathlib.Core.Path.{_≡_, refl, sym, ap, ap₂, _∙_}
-use mathlib.Core.List.{List, [], _∷_, _++_}
-use lib.ListN.{length, take, getD, length-append}
-use lib.Seq.{take-suc}
-use Rattle.model.specs.Base.{each, from, below}
-use Rattle.model.specs.Text.{decimal, text}
-use Rattle.model.specs.Cells.{nameOf, noCell, cellAt, cellsOf}
-use Rattle.model.specs.Netlist.{sum}
-use Rattle.model.specs.Tally.{reportLine, cellLine, totalLine, reportText}
+-- A report's lines: their parts in the order in which they are written, and their lengths.
+use Rattle.base.specs.{ℕ, zero, suc, _+_, _-_, _*_, _^_, _≤_, _<_, add-one, arith, _≡_, refl, sym, ap, ap₂, _∙_, List, [], _∷_, _++_}
+use Rattle.base.specs.{length, take, getD, length-append, take-suc}
+use Rattle.model.specs.{each, from, below, decimal, text, nameOf, noCell, cellAt, cellsOf, sum, reportLine, cellLine, totalLine, reportText}
 use Rattle.model.specs.declared.Cell.{Cell}
 use Rattle.model.specs.declared.Library.{Library}
 use Rattle.model.specs.declared.Tally.{Tally}
-use Rattle.base_text.proofs.Decimal.{dec-below}
-use Rattle.tally_lines.specs.Kinds.{Listed}
-use Rattle.tally_lines.proofs.Gates.{cells-count, cells-at}
-use Rattle.tally_counting.specs.Adding.{Wide}
-use Rattle.tally_report.specs.Pages.{cellLines, figureText}
+use Rattle.base_text.proofs.{dec-below}
+use Rattle.tally_lines.specs.{Listed}
+use Rattle.tally_lines.proofs.{cells-count, cells-at}
+use Rattle.tally_counting.specs.{Wide}
+use Rattle.tally_report.specs.{cellLines, figureText}
 
 pub figure-is : (n : ℕ) → figureText n ≡ 32 ∷ decimal n
 unfolding figureText

@@ -1,32 +1,20 @@
--- The page that a report is written on, and the answers, refusal by refusal. Assumes nothing.
-use Prim.Native.Nat.{ℕ, _^_, _≤_, _<_}
-use native.Mathlib.Omega.{arith}
-use mathlib.Core.Path.{_≡_, sym, ap, _∙_, subst}
-use mathlib.Core.Bool.{true, false, _&&_}
-use mathlib.Core.List.{List}
-use lib.Dec.{leb}
-use lib.ListN.{length, take, drop, getD}
-use lib.Seq.{take-append-seam}
-use borrow.Author.Tests.{le-leb, lt-leb, leb-true}
-use Rattle.model.specs.Base.{all}
-use Rattle.model.specs.Reading.{Read, holds, fault, next, unless}
-use Rattle.model.specs.Cells.{noCell, cellsOf, libraryOf}
-use Rattle.model.specs.LibraryText.{readLibrary}
-use Rattle.model.specs.Genlib.{writtenAnswer, writtenAfter}
-use Rattle.model.specs.Tally.{inWidth, reportText, reportOf}
+-- The page that a report is written on, and the answers, refusal by refusal.
+use Rattle.base.specs.{ℕ, _^_, _≤_, _<_, arith, _≡_, sym, ap, _∙_, subst, true, false, _&&_, List, leb, length, take, drop, getD}
+use Rattle.base.specs.{take-append-seam, le-leb, lt-leb, leb-true}
+use Rattle.model.specs.{all, Read, holds, fault, next, unless, noCell, cellsOf, libraryOf, readLibrary, writtenAnswer, writtenAfter}
+use Rattle.model.specs.{inWidth, reportText, reportOf}
 use Rattle.model.specs.declared.Cell.{Cell}
 use Rattle.model.specs.declared.Tally.{Tally}
 use Rattle.model.specs.declared.Written.the-variants.{Length, Refused}
-use Rattle.theory_graph.proofs.Lists.{getD-in}
-use Rattle.theory_text.proofs.ReadLibrary.{library-written}
-use Rattle.base_text.specs.Writing.{Wrote}
-use Rattle.base_text.proofs.Bytes.{and-right}
-use Rattle.base_text.proofs.Progress.{put-front}
-use Rattle.base_words.specs.Put.{putAt}
-use Rattle.tally_lines.proofs.Gates.{cells-at}
-use Rattle.tally_counting.specs.Adding.{Wide}
-use Rattle.tally_counting.proofs.Answers.{cells-back, listed}
-use Rattle.tally_report.specs.Pages.{fitting}
+use Rattle.theory_graph.proofs.{getD-in}
+use Rattle.theory_text.proofs.{library-written}
+use Rattle.base_words.specs.{putAt}
+use Rattle.base_text.specs.{Wrote}
+use Rattle.base_text.proofs.{and-right, put-front}
+use Rattle.tally_lines.proofs.{cells-at}
+use Rattle.tally_counting.specs.{Wide}
+use Rattle.tally_counting.proofs.{cells-back, listed}
+use Rattle.tally_report.specs.{fitting}
 use Rattle.tally_report.proofs.Lines.{report-low}
 
 -- ---- the page

@@ -1,13 +1,6 @@
--- A report's lines, and a tally that can be reported. Assumes nothing.
-use Prim.Native.Nat.{ℕ}
-use mathlib.Core.List.{List, _∷_}
-use lib.ListN.{length}
-use lib.Dec.{leb}
-use Rattle.model.specs.Base.{each, from}
-use Rattle.model.specs.Reading.{Read, holds, unless}
-use Rattle.model.specs.Text.{decimal}
-use Rattle.model.specs.Cells.{cellsOf}
-use Rattle.model.specs.Tally.{cellLine}
+-- A report's lines, and a tally that can be reported.
+use Rattle.base.specs.{ℕ, List, _∷_, length, leb}
+use Rattle.model.specs.{each, from, Read, holds, unless, decimal, cellsOf, cellLine}
 use Rattle.model.specs.declared.Library.{Library}
 use Rattle.model.specs.declared.Tally.{Tally}
 

@@ -1,18 +1,14 @@
-// A tally's report: "a line per cell in library order, as `inv 3 3 2`: its gates, their total area and in how many netlists it occurs; then `total` with gates,
-// area and netlists counted". It is written on a page of its own first, so that a report that does not fit leaves the lent memory as it was.
-ghost use mathlib.Core.Path.{_≡_};
-ghost use Prim.Native.Nat.{ℕ, _+_, _^_, _≤_, _<_};
-ghost use lib.ListN.{length, take, getD};
-ghost use Rattle.model.specs.Text.{decimal};
-ghost use Rattle.model.specs.Cells.{cellsOf};
-ghost use Rattle.model.specs.Netlist.{sum};
-ghost use Rattle.model.specs.Genlib.{writtenAnswer, writtenPair, writtenBy, writtenAfter};
-ghost use Rattle.model.specs.Tally.{reportLine, cellLine, totalLine, reportText, reportOf};
-ghost use Rattle.base_text.specs.Writing.{Wrote};
-ghost use Rattle.base_words.specs.Put.{putAt};
-ghost use Rattle.tally_lines.specs.Kinds.{Listed};
-ghost use Rattle.tally_counting.specs.Adding.{Wide};
-ghost use Rattle.tally_report.specs.Pages.{cellLines, figureText, fitting};
+// A tally's report: "a line per cell in library order, as `inv 3 3 2`: its gates, their total area and in how many netlists it occurs; then
+// `total` with gates, area and netlists counted". It is written on a page of its own first, so that a report that does not fit leaves the lent
+// memory as it was.
+ghost use Rattle.base.specs.{_≡_, ℕ, _+_, _^_, _≤_, _<_, length, take, getD};
+ghost use Rattle.model.specs.{decimal, cellsOf, sum, writtenAnswer, writtenPair, writtenBy, writtenAfter, reportLine, cellLine, totalLine};
+ghost use Rattle.model.specs.{reportText, reportOf};
+ghost use Rattle.base_words.specs.{putAt};
+ghost use Rattle.base_text.specs.{Wrote};
+ghost use Rattle.tally_lines.specs.{Listed};
+ghost use Rattle.tally_counting.specs.{Wide};
+ghost use Rattle.tally_report.specs.{cellLines, figureText, fitting};
 use model::Library;
 use model::Tally;
 use model::Verdict;
@@ -150,8 +146,8 @@ fn report_in(t: Tally, lib: Library, text: &mut [u8]) -> Written
     Written::Length(end)
 }
 
-// The report of a tally, or the first refusal: 1, the library's, 28 where "a tally figure exceeds 2^40", and 18 for "the report's memory". A refusal leaves the
-// memory as it was; success keeps the bytes after the text.
+// The report of a tally, or the first refusal: 1, the library's, 28 where "a tally figure exceeds 2^40", and 18 for "the report's memory". A
+// refusal leaves the memory as it was; success keeps the bytes after the text.
 pub fn report(t: Tally, cells: &[u8], text: &mut [u8]) -> Written
     ensures answer { λ r. ⌜ r ≡ writtenAnswer (reportOf t (now (cells .entry)) (length (now (text .entry)))) ⌝ }
     ensures bytes { λ _. ⌜ now (text .exit) ≡ writtenAfter (reportOf t (now (cells .entry)) (length (now (text .entry)))) (now (text .entry)) ⌝ }

@@ -1,48 +1,22 @@
--- "every netlist that `map` prints from the same texts with I up to 12 is accepted". Assumes nothing.
-use Prim.Native.Nat.{ℕ, suc, _+_, _*_, _≤_, _<_}
-use mathlib.Core.Path.{_≡_, refl, sym, _∙_, ap, ap₂, subst}
-use mathlib.Core.Bool.{false}
-use mathlib.Core.Option.{none}
-use mathlib.Core.List.{List, [], _∷_, _++_, map, append-assoc, append-nil, List·Memᴰ, Memᴰ·append-left}
-use lib.Dec.{leb, le→leb}
-use lib.ListN.{length, getD}
-use Rattle.model.specs.Base.{each, same, below, lowest}
-use Rattle.model.specs.Limits.{need}
-use Rattle.model.specs.Text.{Line, text, decimal, linesFrom}
-use Rattle.model.specs.Reading.{Read, holds, next, unless}
-use Rattle.model.specs.Cells.{nameOf}
-use Rattle.model.specs.Graph.{And, Graph, literal, varOf, unplaced, literalValue}
-use Rattle.model.specs.Choice.{absent, chosen}
-use Rattle.model.specs.Cover.{output}
-use Rattle.model.specs.LibraryText.{readLibrary}
-use Rattle.model.specs.GraphText.{readHeader, readGraph}
-use Rattle.model.specs.ArrivalsText.{Late, timedBy}
-use Rattle.model.specs.Netlist.{Net, Gate, netName, label, outName, pinWords, gateLine, namesLine, wireLine, wireLines, netlistText}
-use Rattle.model.specs.Mapper.{Call}
-use Rattle.model.specs.Demands.{choiceText, choiceFigures}
-use Rattle.model.specs.Check.{Driver, isGate, isLine, unlessAt, readNames, readDrivers, pastLines, frameOf, inputNets, outputNets, readNetlist, judgeNets, lineEnds, settingOf, readEdited}
-use Rattle.model.specs.CheckDemands.{Right, AcceptsPrinted, PrintedAccepted}
+-- "every netlist that `map` prints from the same texts with I up to 12 is accepted".
+use Rattle.base.specs.{ℕ, suc, _+_, _*_, _≤_, _<_, _≡_, refl, sym, _∙_, ap, ap₂, subst, false, none, List, [], _∷_, _++_, map, append-assoc}
+use Rattle.base.specs.{append-nil, List·Memᴰ, Memᴰ·append-left, leb, le→leb, length, getD}
+use Rattle.model.specs.{each, same, below, lowest, need, Line, text, decimal, linesFrom, Read, holds, next, unless, nameOf, And, literal}
+use Rattle.model.specs.{varOf, unplaced, literalValue, absent, chosen, output, readLibrary, readHeader, readGraph, Late, timedBy, Net, Gate}
+use Rattle.model.specs.{netName, label, outName, pinWords, gateLine, namesLine, wireLine, wireLines, netlistText, Call, choiceText}
+use Rattle.model.specs.{choiceFigures, Driver, isGate, isLine, unlessAt, readNames, readDrivers, pastLines, frameOf, inputNets, outputNets}
+use Rattle.model.specs.{readNetlist, judgeNets, lineEnds, settingOf, readEdited, Right, AcceptsPrinted, PrintedAccepted}
+use Rattle.model.specs.Graph.{Graph}
 use Rattle.model.specs.declared.Cell.{Cell}
 use Rattle.model.specs.declared.Header.{Header}
 use Rattle.model.specs.declared.Figures.{Figures}
 use Rattle.theory_graph.specs.Accepted.{Accepted}
-use Rattle.theory_graph.proofs.Lists.{is-true, same-refl, getD-in}
-use Rattle.theory_graph.proofs.Distinct.{length-map}
-use Rattle.theory_graph.proofs.Placing.{defined-placed}
-use Rattle.theory_graph.proofs.GraphValue.{values-only}
-use Rattle.theory_graph.proofs.Timed.{timed-values, timed-unplaced}
-use Rattle.theory_text.proofs.Plain.{Free, net-free, clears-map, Clears, out-clear}
-use Rattle.theory_text.proofs.LineLaws.{lineOfBytes, line-first}
-use Rattle.theory_text.proofs.ReadBack.{blifOf}
-use Rattle.theory_text.proofs.ReadGraph.{Counted, graph-counted}
-use Rattle.theory_text.proofs.ReadTexts.{Texts, texts-read, design-accepted, design-graph}
-use Rattle.theory_demands.proofs.Numbered.{Fitting}
-use Rattle.theory_demands.proofs.Gates.{chosenGates}
-use Rattle.theory_demands.proofs.Wires.{at-output}
-use Rattle.theory_demands.proofs.Values.{net-value}
-use Rattle.theory_text.proofs.Outcomes.{FromChoice, FromDesign, printed-choice}
-use Rattle.theory_demands.proofs.Demanded.{design-fitting, with-timings}
-use Rattle.theory_check.proofs.PrintedLines.{AreNets, worded, worded-line, bindWords, Shown, shownWords, shownLine, gatesAt, behindGates, gates-read, namesText, namesAt, names-read, names-fields}
+use Rattle.theory_graph.proofs.{is-true, same-refl, getD-in, length-map, defined-placed, values-only, timed-values, timed-unplaced}
+use Rattle.theory_text.proofs.{Free, net-free, clears-map, Clears, out-clear, lineOfBytes, line-first, blifOf, Counted, graph-counted}
+use Rattle.theory_text.proofs.{Texts, texts-read, design-accepted, design-graph, FromChoice, FromDesign, printed-choice}
+use Rattle.theory_demands.proofs.{Fitting, chosenGates, at-output, net-value, design-fitting, with-timings}
+use Rattle.theory_check.proofs.PrintedLines.{AreNets, worded, worded-line, bindWords, Shown, shownWords, shownLine, gatesAt}
+use Rattle.theory_check.proofs.PrintedLines.{behindGates, gates-read, namesText, namesAt, names-read, names-fields}
 use Rattle.theory_check.proofs.PrintedNets.{shownOf, printedDrivers, outputs-form, gates-fine, drivers-pass, drivers-values}
 use Rattle.theory_check.proofs.Whole.{edited-compared}
 

@@ -1,22 +1,10 @@
--- The numbers below 2^I are all settings of the inputs, "input k as bit k": so an answer over these numbers is one over every setting. Assumes nothing.
-use Prim.Native.Nat.{ℕ, zero, suc, _+_, _*_, _^_, _<_}
-use native.Mathlib.Nat.{le-refl, le-of-suc-le-suc, not-suc-le-zero, zero-add, pow-suc}
-use native.Mathlib.Omega.{arith}
-use mathlib.Core.Path.{_≡_, refl, sym, _∙_, ap}
-use mathlib.Core.Bool.{Bool, false}
-use mathlib.Core.List.{List, [], _∷_, map, List·Memᴰ, List·Memᴰ·head, List·Memᴰ·tail, Memᴰ·cast}
-use lib.Dec.{eqb, eqb→eq, eqb-refl}
-use lib.ListN.{length, getD}
-use Rattle.model.specs.Base.{bit}
-use Rattle.model.specs.Table.{rowOf}
-use Rattle.model.specs.Graph.{Graph, GraphValues}
-use Rattle.model.specs.Check.{Driver, settingOf}
-use Rattle.model.specs.CheckDemands.{ValuesUnder, RightUnder, Right}
-use Rattle.model.specs.Demands.{Distinct}
-use Rattle.theory_graph.proofs.Lists.{map-same, is-true, getD-in}
-use Rattle.theory_graph.proofs.Distinct.{length-map}
-use Rattle.theory_graph.proofs.Split.{by-bool}
-use Rattle.theory_graph.proofs.Literals.{one-le, bit-row}
+-- The numbers below 2^I are all settings of the inputs, "input k as bit k": so an answer over these numbers is one over every setting.
+use Rattle.base.specs.{ℕ, zero, suc, _+_, _*_, _^_, _<_, le-refl, le-of-suc-le-suc, not-suc-le-zero, zero-add, pow-suc, arith, _≡_, refl}
+use Rattle.base.specs.{sym, _∙_, ap, Bool, false, List, [], _∷_, map, List·Memᴰ, List·Memᴰ·head, List·Memᴰ·tail, Memᴰ·cast, eqb, eqb→eq}
+use Rattle.base.specs.{eqb-refl, length, getD}
+use Rattle.model.specs.{bit, rowOf, GraphValues, Driver, settingOf, ValuesUnder, RightUnder, Right, Distinct}
+use Rattle.model.specs.Graph.{Graph}
+use Rattle.theory_graph.proofs.{map-same, is-true, getD-in, length-map, by-bool, one-le, bit-row}
 
 -- ---- a number with given bits
 

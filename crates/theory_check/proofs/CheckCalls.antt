@@ -1,38 +1,19 @@
--- A check is refused exactly by the conditions, in checking order, and reads what they say: for every library, graph, netlist and number of lent words. Assumes
--- nothing.
-use Prim.Native.Nat.{ℕ, _+_, _*_, _≤_}
-use native.Mathlib.Omega.{arith}
-use mathlib.Core.Path.{_≡_, refl, sym, _∙_, ap, subst}
-use mathlib.Core.Logic.{_⊎_, inl, inr, _↔_, ⊎-elim}
-use mathlib.Core.Bool.{_&&_}
-use mathlib.Core.Option.{none, some}
-use mathlib.Core.List.{List, _∷_, _++_}
-use lib.Dec.{T, leb}
-use lib.ListN.{length, drop, length-append}
-use mir.Facts.{and-yes, yes-and, leb-yes, yes-leb}
-use Rattle.model.specs.Base.{lowest}
-use Rattle.model.specs.Limits.{need}
-use Rattle.model.specs.Graph.{Graph, unplaced, andVars}
-use Rattle.model.specs.Reading.{Read, holds, next, unless}
-use Rattle.model.specs.LibraryText.{readLibrary}
-use Rattle.model.specs.GraphText.{readHeader, readGraph}
-use Rattle.model.specs.Check.{Driver, Edited, inputNets, lineEnds, readNetlist, judgeNets, unlessAt, readEdited}
+-- A check is refused exactly by the conditions, in checking order, and reads what they say: for every library, graph, netlist and number of lent words.
+use Rattle.base.specs.{ℕ, _+_, _*_, _≤_, arith, _≡_, refl, sym, _∙_, ap, subst, _⊎_, inl, inr, _↔_, ⊎-elim, _&&_, none, some, List, _∷_}
+use Rattle.base.specs.{_++_, T, leb, length, drop, length-append, and-yes, yes-and, leb-yes, yes-leb}
+use Rattle.model.specs.{lowest, need, unplaced, andVars, Read, holds, next, unless, readLibrary, readHeader, readGraph, Driver, Edited}
+use Rattle.model.specs.{inputNets, lineEnds, readNetlist, judgeNets, unlessAt, readEdited, OrderOfAll}
+use Rattle.model.specs.Graph.{Graph}
 use Rattle.model.specs.declared.Cell.{Cell}
 use Rattle.model.specs.declared.Header.{Header}
-use Rattle.theory_graph.specs.Accepted.{distinct}
-use Rattle.theory_order.proofs.Splits.{lowest-none, none-in}
-use Rattle.model.specs.OrderDemands.{OrderOfAll}
-use Rattle.theory_order.proofs.Orders.{unplaced-none-iff, unplaced-lowest-iff}
-use Rattle.theory_text.proofs.ReadLibrary.{library-fits}
-use Rattle.theory_text.proofs.ReadGraph.{graph-known, once-distinct}
-use Rattle.promises.specs.Refusals.{Exactly, LibraryHolds, LibraryFault, HeaderHolds, HeaderFault, GraphIn, GraphFault}
-use Rattle.promises.specs.Outcomes.{LowestUnplaced}
-use Rattle.theory_refusals.proofs.Results.{exactly-next, exactly-unless, exactly-holds, exactly-map}
-use Rattle.theory_refusals.proofs.LibraryForms.{library-exactly}
-use Rattle.theory_refusals.proofs.HeaderForms.{header-exactly}
-use Rattle.theory_refusals.proofs.GraphForms.{graph-exactly}
-use Rattle.theory_check.specs.CheckForms.{InputNames}
-use Rattle.theory_check.specs.CheckRefusals.{EditedIn, EditedFault, NetsHold, NetsFault, AllShort, Enough, ToGraph, ToNetlist, CheckFault, one, ofLibrary, ofHeader, ten, ofGraph, fifteen, thirtyOne, ofNetlist, ofNets, CheckHolds, CheckRefusals}
+use Rattle.promises.specs.{Exactly, LibraryHolds, LibraryFault, HeaderHolds, HeaderFault, GraphIn, GraphFault, LowestUnplaced}
+use Rattle.theory_graph.specs.{distinct}
+use Rattle.theory_order.proofs.{lowest-none, none-in, unplaced-none-iff, unplaced-lowest-iff}
+use Rattle.theory_text.proofs.{library-fits, graph-known, once-distinct}
+use Rattle.theory_refusals.proofs.{exactly-next, exactly-unless, exactly-holds, exactly-map, library-exactly, header-exactly, graph-exactly}
+use Rattle.theory_check.specs.{InputNames, EditedIn, EditedFault, NetsHold, NetsFault, AllShort, Enough, ToGraph, ToNetlist}
+use Rattle.theory_check.specs.{CheckFault, one, ofLibrary, ofHeader, ten, ofGraph, fifteen, thirtyOne, ofNetlist, ofNets, CheckHolds}
+use Rattle.theory_check.specs.CheckRefusals.{CheckRefusals}
 use Rattle.theory_check.proofs.CheckNets.{exactly-at, nets-exactly}
 use Rattle.theory_check.proofs.CheckWords.{inputs-only, inputs-are}
 use Rattle.theory_check.proofs.CheckExactly.{edited-exactly}

@@ -1,26 +1,18 @@
--- An edited netlist is read exactly where its lines are those that are due, and 32 comes exactly by its condition, for listed cells of different names. Assumes
--- nothing.
-use Prim.Native.Nat.{ℕ, _+_}
-use native.Mathlib.Omega.{arith}
-use mathlib.Core.Path.{_≡_, refl, sym, _∙_, ap, subst}
-use mathlib.Core.Option.{Option, none, some}
-use mathlib.Core.List.{List, [], _∷_, _++_, append-nil, append-assoc}
-use lib.Dec.{T}
-use lib.ListN.{length, length-append}
-use Rattle.model.specs.Text.{Line, linesFrom}
+-- An edited netlist is read exactly where its lines are those that are due, and 32 comes exactly by its condition, for listed cells of different names.
+use Rattle.base.specs.{ℕ, _+_, arith, _≡_, refl, sym, _∙_, ap, subst, Option, none, some, List, [], _∷_, _++_, append-nil, append-assoc, T}
+use Rattle.base.specs.{length, length-append}
+use Rattle.model.specs.{Line, linesFrom, holds, fault, Driver, readNetlist}
 use Rattle.model.specs.Graph.{Graph}
-use Rattle.model.specs.Reading.{holds, fault}
-use Rattle.model.specs.Check.{Driver, readNetlist}
 use Rattle.model.specs.declared.Cell.{Cell}
-use Rattle.theory_graph.specs.Accepted.{libraryFits}
-use Rattle.promises.specs.Forms.{Begins}
-use Rattle.theory_refusals.proofs.Results.{Result, held, refused, exactly, result-as}
-use Rattle.theory_refusals.proofs.LineForms.{first-split, lines-none, found-begins, begins-read, none-begins}
-use Rattle.theory_check.specs.CheckForms.{Due, modelDue, nothingDue, NextLine, Reached, noLine, aLine}
-use Rattle.theory_check.specs.CheckRefusals.{EditedIn, Finished, EditedFault, thirtyTwo, Netlists}
+use Rattle.promises.specs.{Begins}
+use Rattle.theory_graph.specs.{libraryFits}
+use Rattle.theory_graph.proofs.{by-option, by-list}
+use Rattle.theory_refusals.proofs.{Result, held, refused, exactly, result-as, first-split, lines-none, found-begins, begins-read}
+use Rattle.theory_refusals.proofs.{none-begins}
+use Rattle.theory_check.specs.{Due, modelDue, nothingDue, NextLine, Reached, noLine, aLine, EditedIn, Finished, EditedFault}
+use Rattle.theory_check.specs.{thirtyTwo, Netlists}
 use Rattle.theory_check.proofs.CheckSteps.{lineStep, reads-step}
 use Rattle.theory_check.proofs.CheckRun.{left, goes-on, stops, ends, finished, finished?, netlist-left}
-use Rattle.theory_graph.proofs.Split.{by-option, by-list}
 
 none-some : {d : Due} → _≡_ {A = Option Due} none (some d) → ⊥
 none-some e = let z : _≡_ {A = ℕ} 0 1 = cc in omega arith

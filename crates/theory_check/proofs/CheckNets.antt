@@ -1,28 +1,19 @@
 -- The nets of an edited netlist are judged exactly as the conditions say: a net driven again, then one that no line drives, then a circle, each at the first such
--- line. Assumes nothing.
-use Prim.Native.Nat.{ℕ}
-use native.Mathlib.Omega.{arith}
-use mathlib.Core.Path.{_≡_, refl, sym, _∙_, ap, ap₂, subst}
-use mathlib.Core.Logic.{_⊎_, inl, inr, _↔_, ⊎-elim}
-use mathlib.Core.Bool.{Bool, true, false, not, cond}
-use mathlib.Core.Option.{Option, none, some}
-use mathlib.Core.List.{List, [], _∷_, _++_, map-append, append-nil, append-assoc, nil≢cons, head-eq-of-cons-eq, tail-eq-of-cons-eq, List·Memᴰ, List·Memᴰ·head, List·Memᴰ·tail, List·Memᴰ·not-nil, List·Memᴰ·append-cases, Memᴰ·append-left, Memᴰ·append-right}
-use lib.Dec.{T, not-T, T-not}
-use mir.Facts.{or-yes}
-use Rattle.model.specs.Base.{any}
-use Rattle.model.specs.Reading.{Read, holds, fault}
-use Rattle.model.specs.Check.{Driver, among, firstLine, drivenTwice, undriven, onCircle, unlessAt, judgeNets}
-use Rattle.theory_graph.proofs.Lists.{is-true, is-false}
-use Rattle.theory_text.proofs.Steps.{fault-never}
-use Rattle.theory_text.proofs.Faults.{in-fault}
-use Rattle.promises.specs.Refusals.{Exactly}
-use Rattle.theory_refusals.proofs.FieldForms.{yes-or}
-use Rattle.theory_refusals.proofs.Results.{on, exactly-holds, exactly-map}
-use Rattle.theory_check.specs.CheckRefusals.{FirstLine, NoLine, Again, Undriven, Feeds, direct, onward, Circling, NetsFault, twice, unfed, circle, NetsHold, Judged}
+-- line.
+use Rattle.base.specs.{ℕ, arith, _≡_, refl, sym, _∙_, ap, ap₂, subst, _⊎_, inl, inr, _↔_, ⊎-elim, Bool, true, false, not, cond, Option}
+use Rattle.base.specs.{none, some, List, [], _∷_, _++_, map-append, append-nil, append-assoc, nil≢cons, head-eq-of-cons-eq}
+use Rattle.base.specs.{tail-eq-of-cons-eq, List·Memᴰ, List·Memᴰ·head, List·Memᴰ·tail, List·Memᴰ·not-nil, List·Memᴰ·append-cases}
+use Rattle.base.specs.{Memᴰ·append-left, Memᴰ·append-right, T, not-T, T-not, or-yes}
+use Rattle.model.specs.{any, Read, holds, fault, Driver, among, firstLine, drivenTwice, undriven, onCircle, unlessAt, judgeNets}
+use Rattle.promises.specs.{Exactly}
+use Rattle.theory_graph.proofs.{is-true, is-false, by-member, by-bool}
+use Rattle.theory_text.proofs.{fault-never, in-fault}
+use Rattle.theory_refusals.proofs.{yes-or, on, exactly-holds, exactly-map}
+use Rattle.theory_check.specs.{FirstLine, NoLine, Again, Undriven, Feeds, direct, onward, Circling, NetsFault, twice, unfed, circle}
+use Rattle.theory_check.specs.{NetsHold, Judged}
 use Rattle.theory_check.proofs.Settling.{FeedsNet, directly, through, among-in, among-out, netsOf}
 use Rattle.theory_check.proofs.Circles.{circle-found, found-circle}
 use Rattle.theory_check.proofs.Judged.{twice-none, one-driver}
-use Rattle.theory_graph.proofs.Split.{by-member, by-bool}
 
 -- ---- the first line that passes a test, by the lines before it
 

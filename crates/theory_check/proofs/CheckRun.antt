@@ -1,29 +1,18 @@
 -- The reading of an edited netlist, line by line: what is left to read where a line is due. A line that may stand there leads on to what is due behind it, any other
--- is refused with 32 at its offset, a missing one at the text's length. Assumes nothing.
-use Prim.Native.Nat.{ℕ, zero, suc}
-use native.Mathlib.Omega.{arith}
-use mathlib.Core.Path.{_≡_, refl, sym, _∙_, ap}
-use mathlib.Core.Bool.{Bool, true, false, cond, _&&_}
-use mathlib.Core.Option.{Option, none, some}
-use mathlib.Core.List.{List, [], _∷_, _++_, append-nil, append-assoc}
-use lib.Dec.{T, not-T}
-use lib.ListN.{length}
-use mir.Facts.{and-yes, yes-and}
-use Rattle.model.specs.Base.{same, andThen, only}
-use Rattle.model.specs.Text.{Line, endedByTen, text, fields, linesFrom}
-use Rattle.model.specs.GraphText.{closed}
+-- is refused with 32 at its offset, a missing one at the text's length.
+use Rattle.base.specs.{ℕ, zero, suc, arith, _≡_, refl, sym, _∙_, ap, Bool, true, false, cond, _&&_, Option, none, some, List, [], _∷_, _++_}
+use Rattle.base.specs.{append-nil, append-assoc, T, not-T, length, and-yes, yes-and}
+use Rattle.model.specs.{same, andThen, only, Line, endedByTen, text, fields, linesFrom, closed, Read, holds, fault, next, unless, from?}
+use Rattle.model.specs.{Driver, gateOfFields, gateDriver, isGate, nameDriver, isLine, pastRow, readNames, readDrivers, pastLines, frameOf}
+use Rattle.model.specs.{readNetlist}
 use Rattle.model.specs.Graph.{Graph}
-use Rattle.model.specs.Reading.{Read, holds, fault, next, unless, from?}
-use Rattle.model.specs.Check.{Driver, gateOfFields, gateDriver, isGate, nameDriver, isLine, pastRow, readNames, readDrivers, pastLines, frameOf, readNetlist}
 use Rattle.model.specs.declared.Cell.{Cell}
-use Rattle.theory_graph.proofs.Lists.{is-true, is-false}
-use Rattle.theory_text.proofs.Steps.{then-out, only-out}
-use Rattle.theory_refusals.proofs.Results.{on, unless-yes, unless-no, next-holds, next-next, next-same}
-use Rattle.theory_check.specs.CheckForms.{Due, modelDue, inputsDue, outputsDue, gateDue, wireDue, coverDue, nothingDue}
-use Rattle.theory_check.specs.CheckRefusals.{Finished}
+use Rattle.theory_graph.proofs.{is-true, is-false, by-bool}
+use Rattle.theory_text.proofs.{then-out, only-out}
+use Rattle.theory_refusals.proofs.{on, unless-yes, unless-no, next-holds, next-next, next-same}
+use Rattle.theory_check.specs.{Due, modelDue, inputsDue, outputsDue, gateDue, wireDue, coverDue, nothingDue, Finished}
 use Rattle.theory_check.proofs.CheckWords.{inputsLine, outputsLine}
 use Rattle.theory_check.proofs.CheckSteps.{isGateLine, isWireLine, wireOf, wireStep, gateStep, stepOf, lineStep}
-use Rattle.theory_graph.proofs.Split.{by-bool}
 
 next-cong : {A B : Type 0} (r : Read A) (f h : A → Read B) → ((a : A) → f a ≡ h a) → next r f ≡ next r h
 unfolding next

@@ -1,30 +1,20 @@
--- What a reader of an edited netlist takes where a line is due, and what is then due: exactly what `CheckForms.Next` says. Assumes nothing.
-use Prim.Native.Nat.{ℕ, zero, suc, _<_}
-use native.Mathlib.Omega.{arith}
-use mathlib.Core.Path.{_≡_, refl, sym, _∙_, ap, ap₂, subst}
-use mathlib.Core.Bool.{Bool, true, false, _&&_}
-use mathlib.Core.Option.{Option, none, some}
-use mathlib.Core.List.{List, [], _∷_, _++_}
-use lib.Dec.{T, eqb, lit<}
-use lib.ListN.{length, getD}
-use mir.Facts.{and-yes, yes-and, eqb-yes}
-use Rattle.model.specs.Base.{all, same, andThen, only}
-use Rattle.model.specs.Text.{Line, text, fields, split, onto}
-use Rattle.model.specs.GraphText.{closed}
+-- What a reader of an edited netlist takes where a line is due, and what is then due: exactly what `CheckForms.Next` says.
+use Rattle.base.specs.{ℕ, zero, suc, _<_, arith, _≡_, refl, sym, _∙_, ap, ap₂, subst, Bool, true, false, _&&_, Option, none, some, List, []}
+use Rattle.base.specs.{_∷_, _++_, T, eqb, lit<, length, getD, and-yes, yes-and, eqb-yes}
+use Rattle.model.specs.{all, same, andThen, only, Line, text, fields, split, onto, closed, nameOf, outName, Driver, isNet, gateOfFields}
 use Rattle.model.specs.Graph.{Graph}
-use Rattle.model.specs.Cells.{nameOf}
-use Rattle.model.specs.Netlist.{outName}
-use Rattle.model.specs.Check.{Driver, isNet, gateOfFields}
 use Rattle.model.specs.declared.Cell.{Cell}
-use Rattle.theory_graph.proofs.Lists.{is-true, same-eq, same-refl}
-use Rattle.theory_graph.specs.Accepted.{libraryFits}
-use Rattle.theory_text.proofs.Steps.{only-out, then-out, only-yes}
-use Rattle.theory_text.proofs.Plain.{Free, above}
-use Rattle.promises.specs.Forms.{Decimal, joined}
-use Rattle.theory_refusals.proofs.FieldForms.{AllFree, fields-joined, joined-free}
-use Rattle.theory_refusals.proofs.LineForms.{Reads, reads-line, free-above}
-use Rattle.theory_check.specs.CheckForms.{NetName, Due, modelDue, inputsDue, outputsDue, gateDue, wireDue, coverDue, nothingDue, wireDriver, Next, model, inputs, outputs, gate, behind, wire, cover, end, NextLine}
-use Rattle.theory_check.proofs.CheckWords.{net-form, net-back, net-free, decimal-word, inputs-free, outputs-free, word-free, inputsLine, outputsLine, inputs-line, inputs-back, outputs-line, outputs-back, out-name, out-decimal, of-fields, gate-form, words-free, gate-fields, gate-back}
+use Rattle.promises.specs.{Decimal, joined}
+use Rattle.theory_graph.proofs.{is-true, same-eq, same-refl}
+use Rattle.theory_graph.specs.{libraryFits}
+use Rattle.theory_text.proofs.{only-out, then-out, only-yes, Free, above}
+use Rattle.theory_refusals.proofs.{AllFree, fields-joined, joined-free, reads-line, free-above}
+use Rattle.theory_refusals.proofs.LineForms.{Reads}
+use Rattle.theory_check.specs.{NetName, Due, modelDue, inputsDue, outputsDue, gateDue, wireDue, coverDue, nothingDue, wireDriver}
+use Rattle.theory_check.specs.{Next, model, inputs, outputs, gate, behind, wire, cover, end, NextLine}
+use Rattle.theory_check.proofs.CheckWords.{net-form, net-back, net-free, decimal-word, inputs-free, outputs-free, word-free}
+use Rattle.theory_check.proofs.CheckWords.{inputsLine, outputsLine, inputs-line, inputs-back, outputs-line, outputs-back, out-name}
+use Rattle.theory_check.proofs.CheckWords.{out-decimal, of-fields, gate-form, words-free, gate-fields, gate-back}
 
 -- the first field is `.gate`
 abbrev pub isGateLine : List ℕ → Bool

@@ -1,14 +1,10 @@
 -- The conditions of a check hold of texts: a netlist refused by each of 10, 31, 32 and 33, at the places worked out by hand. By computing what is read, which is
--- exactly what the conditions say (`CheckCalls.check-exactly`). Assumes nothing.
-use Prim.Native.Nat.{ℕ}
+-- exactly what the conditions say (`CheckCalls.check-exactly`).
 use Prim.Native.String.{String}
-use mathlib.Core.Path.{_≡_, refl}
-use mathlib.Core.List.{List, _++_}
-use Rattle.model.specs.Text.{text}
-use Rattle.model.specs.Reading.{fault}
-use Rattle.model.specs.Check.{readEdited}
-use Rattle.cases.proofs.Said.{library, listing, graphB}
-use Rattle.theory_check.specs.CheckRefusals.{CheckFault}
+use Rattle.base.specs.{ℕ, _≡_, refl, List, _++_}
+use Rattle.model.specs.{text, fault, readEdited}
+use Rattle.cases.proofs.{library, listing, graphB}
+use Rattle.theory_check.specs.{CheckFault}
 use Rattle.theory_check.proofs.CheckCalls.{check-exactly}
 
 refuses : (l g n : List ℕ) (words m k : ℕ) → readEdited l g n words ≡ fault m k → CheckFault l g n words m k

@@ -1,32 +1,20 @@
--- The words and lines of an edited netlist: each test passes exactly where the bytes are so, and gives what they mean. Assumes nothing.
-use Prim.Native.Nat.{ℕ, zero, suc, _+_, _^_, _≤_, _<_}
-use native.Mathlib.Nat.{le-refl}
-use native.Mathlib.Omega.{arith}
-use mathlib.Core.Path.{_≡_, refl, sym, _∙_, ap, ap₂, subst}
-use mathlib.Core.Logic.{_⊎_, inl, inr, ⊎-elim}
-use mathlib.Core.Bool.{Bool, false, not, cond, _&&_, _||_}
-use mathlib.Core.Option.{Option, none, some}
-use mathlib.Core.List.{List, [], _∷_, _++_, map, append-nil, List·Memᴰ, List·Memᴰ·head, List·Memᴰ·tail}
-use lib.Dec.{T, eqb, leb, ltb, lit<}
-use lib.ListN.{length, take, getD}
-use mir.Facts.{and-yes, yes-and, or-yes, eqb-yes, yes-eqb, leb-yes, yes-leb}
-use Rattle.model.specs.Base.{all, same, each, from, below, andThen, only}
-use Rattle.model.specs.Text.{text, decimal, fields, between, isLetter, isName}
-use Rattle.model.specs.Cells.{nameOf}
-use Rattle.model.specs.Graph.{Graph, literal}
-use Rattle.model.specs.Netlist.{netName, outName}
-use Rattle.model.specs.Check.{Driver, isNet, pinNet, boundNets, cellNamed, gateOfFields, inputNets, outputNets}
+-- The words and lines of an edited netlist: each test passes exactly where the bytes are so, and gives what they mean.
+use Rattle.base.specs.{ℕ, zero, suc, _+_, _^_, _≤_, _<_, le-refl, arith, _≡_, refl, sym, _∙_, ap, ap₂, subst, _⊎_, inl, inr, ⊎-elim, Bool}
+use Rattle.base.specs.{false, not, cond, _&&_, _||_, Option, none, some, List, [], _∷_, _++_, map, append-nil, List·Memᴰ, List·Memᴰ·head}
+use Rattle.base.specs.{List·Memᴰ·tail, T, eqb, leb, ltb, lit<, length, take, getD, and-yes, yes-and, or-yes, eqb-yes, yes-eqb, leb-yes}
+use Rattle.base.specs.{yes-leb}
+use Rattle.model.specs.{all, same, each, from, below, andThen, only, text, decimal, fields, between, isLetter, isName, nameOf, literal}
+use Rattle.model.specs.{netName, outName, Driver, isNet, pinNet, boundNets, cellNamed, gateOfFields, inputNets, outputNets}
+use Rattle.model.specs.Graph.{Graph}
 use Rattle.model.specs.declared.Cell.{Cell}
-use Rattle.theory_graph.proofs.Lists.{is-true, is-false, same-eq, same-refl, all-of, all-in}
-use Rattle.theory_graph.proofs.Literals.{lit-var, lit-neg}
-use Rattle.theory_graph.specs.Accepted.{libraryFits, cellFits}
-use Rattle.theory_text.proofs.Steps.{then-out, only-out}
-use Rattle.theory_text.proofs.Plain.{Free, above, decimal-free}
-use Rattle.promises.specs.Forms.{Within, Letter, Decimal, joined}
-use Rattle.theory_refusals.proofs.FieldForms.{within-form, within-back, letter-form, letter-back, yes-or, decimal-only, digits-form, AllFree, joins, fields-joined, name-form, name-free}
-use Rattle.theory_check.specs.CheckForms.{NetName, Bound, bound, Pins, output, pin, InputNames, noInput, oneInput, OutputNames, noOutput, oneOutput, GateWords}
-use Rattle.theory_graph.proofs.Split.{by-bool}
-use Rattle.theory_text.proofs.Names.{library-cell}
+use Rattle.promises.specs.{Within, Letter, Decimal, joined}
+use Rattle.theory_graph.proofs.{is-true, is-false, same-eq, same-refl, all-of, all-in, lit-var, lit-neg, by-bool}
+use Rattle.theory_graph.specs.{libraryFits, cellFits}
+use Rattle.theory_text.proofs.{then-out, only-out, Free, above, decimal-free, library-cell}
+use Rattle.theory_refusals.proofs.{within-form, within-back, letter-form, letter-back, yes-or, decimal-only, digits-form, AllFree, joins}
+use Rattle.theory_refusals.proofs.{fields-joined, name-form, name-free}
+use Rattle.theory_check.specs.{NetName, Bound, bound, Pins, output, pin, InputNames, noInput, oneInput, OutputNames, noOutput}
+use Rattle.theory_check.specs.{oneOutput, GateWords}
 
 -- ---- nets
 

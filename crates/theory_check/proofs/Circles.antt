@@ -1,19 +1,10 @@
--- `onCircle` finds the circles, and nothing else. Assumes nothing.
-use Prim.Native.Nat.{ℕ, zero, suc, _≤_, _<_}
-use native.Mathlib.Nat.{le-refl, le-of-suc-le-suc, lt-of-not-le}
-use native.Mathlib.Decide.{decLe}
-use native.Mathlib.Omega.{arith}
-use mathlib.Core.Path.{_≡_, refl, sym, _∙_, ap, subst}
-use mathlib.Core.Logic.{_⊎_, inl, inr, ⊎-elim}
-use mathlib.Core.Bool.{Bool, true, false, not, cond, true≢false, false≢true}
-use mathlib.Core.List.{List, [], _∷_, List·Memᴰ, List·Memᴰ·head, List·Memᴰ·tail, List·Memᴰ·not-nil, Memᴰ·cast}
-use lib.Dec.{T}
-use lib.ListN.{length}
-use Rattle.model.specs.Base.{each, keep}
-use Rattle.model.specs.Check.{Driver, among, added, feeding, onCircle}
-use Rattle.theory_graph.proofs.Lists.{each-in, each-out, keep-in, keep-out}
+-- `onCircle` finds the circles, and nothing else.
+use Rattle.base.specs.{ℕ, zero, suc, _≤_, _<_, le-refl, le-of-suc-le-suc, lt-of-not-le, decLe, arith, _≡_, refl, sym, _∙_, ap, subst, _⊎_}
+use Rattle.base.specs.{inl, inr, ⊎-elim, Bool, true, false, not, cond, true≢false, false≢true, List, [], _∷_, List·Memᴰ, List·Memᴰ·head}
+use Rattle.base.specs.{List·Memᴰ·tail, List·Memᴰ·not-nil, Memᴰ·cast, T, length}
+use Rattle.model.specs.{each, keep, Driver, among, added, feeding, onCircle}
+use Rattle.theory_graph.proofs.{each-in, each-out, keep-in, keep-out, by-bool}
 use Rattle.theory_check.proofs.Settling.{FeedsNet, directly, through, join-feeds, among-in, among-out}
-use Rattle.theory_graph.proofs.Split.{by-bool}
 
 -- ---- names put to a list
 

@@ -1,28 +1,16 @@
 -- "accepted exactly when every output equals the graph's for each of the 2^I input settings; otherwise the lowest setting that differs is
--- returned, input k as bit k, and that setting's first wrong output". Assumes nothing.
-use Prim.Native.Nat.{ℕ, zero, suc, _+_, _^_, _≤_, _<_}
-use native.Mathlib.Nat.{le-refl, le-of-suc-le-suc, not-suc-le-zero, zero-add, lt-of-not-le, le-antisymm}
-use native.Mathlib.Decide.{decLe}
-use native.Mathlib.Omega.{arith}
-use mathlib.Core.Path.{_≡_, refl, sym, _∙_, ap, ap₂, subst}
-use mathlib.Core.Logic.{_⊎_, inr, _↔_}
-use mathlib.Core.Bool.{Bool, true, false, cond, Bool·beq, true≢false, false≢true}
-use mathlib.Core.Option.{Option, none, some}
-use mathlib.Core.List.{List, [], _∷_, map, List·Memᴰ, Memᴰ·append-left, Memᴰ·cast}
-use lib.ListN.{length, getD}
-use Rattle.model.specs.Base.{each, from, below, flip}
-use Rattle.model.specs.Graph.{And, Graph, varOf, negated, literalValue, valueOf}
-use Rattle.model.specs.Netlist.{outName}
-use Rattle.model.specs.Check.{Driver, netValue, runNets, settled, inputValues, inputNets, outputNets, settingOf, firstWrong, wrongAt, compareFrom}
-use Rattle.model.specs.CheckDemands.{DriverValues, Right, Compared}
+-- returned, input k as bit k, and that setting's first wrong output".
+use Rattle.base.specs.{ℕ, zero, suc, _+_, _^_, _≤_, _<_, le-refl, le-of-suc-le-suc, not-suc-le-zero, zero-add, lt-of-not-le, le-antisymm}
+use Rattle.base.specs.{decLe, arith, _≡_, refl, sym, _∙_, ap, ap₂, subst, _⊎_, inr, _↔_, Bool, true, false, cond, Bool·beq, true≢false}
+use Rattle.base.specs.{false≢true, Option, none, some, List, [], _∷_, map, List·Memᴰ, Memᴰ·append-left, Memᴰ·cast, length, getD}
+use Rattle.model.specs.{each, from, below, flip, And, varOf, negated, literalValue, valueOf, outName, Driver, netValue, runNets, settled}
+use Rattle.model.specs.{inputValues, inputNets, outputNets, settingOf, firstWrong, wrongAt, compareFrom, DriverValues, Right, Compared}
+use Rattle.model.specs.{Distinct}
+use Rattle.model.specs.Graph.{Graph}
 use Rattle.model.specs.declared.Checked.{Checked}
 use Rattle.model.specs.declared.Checked.the-variants.{Accepted as Equal, Differs, Refused}
-use Rattle.model.specs.Demands.{Distinct}
-use Rattle.theory_graph.proofs.Lists.{map-in, map-out, map-same, getD-in}
-use Rattle.theory_graph.proofs.Distinct.{length-map}
+use Rattle.theory_graph.proofs.{map-in, map-out, map-same, getD-in, length-map, defined-placed, values-exist, values-only}
 use Rattle.theory_graph.specs.Accepted.{Accepted}
-use Rattle.theory_graph.proofs.Placing.{defined-placed}
-use Rattle.theory_graph.proofs.GraphValue.{values-exist, values-only}
 use Rattle.theory_check.proofs.Settling.{netsOf, NoCircle, IsOrder, settled-order}
 use Rattle.theory_check.proofs.AllSettings.{setting-numbered, every-setting, right-under-every}
 use Rattle.theory_check.proofs.NetRuns.{nets-stay, runs-follow, runs-only, inputs-set, map-agree}

@@ -1,26 +1,15 @@
--- What 32 and 33 leave is sound: each net driven once, every net used driven, no circle, every output driven. Assumes nothing.
-use Prim.Native.Nat.{ℕ, zero, suc, _+_, _<_}
-use native.Mathlib.Nat.{not-suc-le-zero, le-of-suc-le-suc, zero-add}
-use native.Mathlib.Omega.{arith}
-use mathlib.Core.Path.{_≡_, refl, sym, _∙_, ap, subst}
-use mathlib.Core.Logic.{_⊎_}
-use mathlib.Core.Bool.{Bool, true, false, not, cond, _&&_, true≢false}
-use mathlib.Core.Option.{Option, none, some}
-use mathlib.Core.List.{List, [], _∷_, _++_, List·Memᴰ, List·Memᴰ·head, List·Memᴰ·tail, List·Memᴰ·not-nil, List·Memᴰ·append-cases, Memᴰ·cast}
-use lib.Dec.{T, eqb}
-use lib.ListN.{length, getD}
-use Rattle.model.specs.Base.{any, same}
-use Rattle.model.specs.Text.{Line, endedByTen, text, fields}
-use Rattle.model.specs.Reading.{Read, holds, next, from?}
-use Rattle.model.specs.Netlist.{outName}
-use Rattle.model.specs.Check.{Driver, isNet, among, drivenTwice, undriven, firstLine, onCircle, unlessAt, judgeNets, nameDriver, pastRow, readNames, isGate, gateDriver, readDrivers}
+-- What 32 and 33 leave is sound: each net driven once, every net used driven, no circle, every output driven.
+use Rattle.base.specs.{ℕ, zero, suc, _+_, _<_, not-suc-le-zero, le-of-suc-le-suc, zero-add, arith, _≡_, refl, sym, _∙_, ap, subst, _⊎_}
+use Rattle.base.specs.{Bool, true, false, not, cond, _&&_, true≢false, Option, none, some, List, [], _∷_, _++_, List·Memᴰ, List·Memᴰ·head}
+use Rattle.base.specs.{List·Memᴰ·tail, List·Memᴰ·not-nil, List·Memᴰ·append-cases, Memᴰ·cast, T, eqb, length, getD}
+use Rattle.model.specs.{any, same, Line, endedByTen, text, fields, Read, holds, next, from?, outName, Driver, isNet, among, drivenTwice}
+use Rattle.model.specs.{undriven, firstLine, onCircle, unlessAt, judgeNets, nameDriver, pastRow, readNames, isGate, gateDriver, readDrivers}
+use Rattle.model.specs.{Distinct}
 use Rattle.model.specs.declared.Cell.{Cell}
-use Rattle.model.specs.Demands.{Distinct}
-use Rattle.theory_graph.proofs.Lists.{map-in}
-use Rattle.theory_text.proofs.Steps.{fault-never, next-out, from-out, holds-once, only-out}
+use Rattle.theory_graph.proofs.{map-in, by-bool, by-member}
+use Rattle.theory_text.proofs.{fault-never, next-out, from-out, holds-once, only-out}
 use Rattle.theory_check.proofs.Settling.{netsOf, NoCircle, among-in, among-out}
 use Rattle.theory_check.proofs.Circles.{circle-found}
-use Rattle.theory_graph.proofs.Split.{by-bool, by-member}
 
 isSome : Option ℕ → Bool
 isSome none = false

@@ -1,19 +1,10 @@
--- The values of the nets along an order: they follow the drivers, and any that do are they. Assumes nothing.
-use Prim.Native.Nat.{ℕ, zero, suc}
-use mathlib.Core.Path.{_≡_, refl, sym, _∙_, ap, ap₂}
-use mathlib.Core.Logic.{_⊎_, inl, inr, ⊎-elim}
-use mathlib.Core.Bool.{Bool, cond}
-use mathlib.Core.List.{List, [], _∷_, map, List·Memᴰ, List·Memᴰ·head, List·Memᴰ·tail, List·Memᴰ·not-nil, Memᴰ·cast, head-eq-of-cons-eq, tail-eq-of-cons-eq}
-use lib.Dec.{eqb, eqb→eq}
-use mir.Facts.{yes-eqb}
-use lib.ListN.{length}
-use Rattle.model.specs.Base.{bit, same}
-use Rattle.model.specs.Table.{value, rowOf}
-use Rattle.model.specs.Check.{Driver, netValue, runNets, inputValues, settingOf}
-use Rattle.model.specs.Demands.{Distinct}
-use Rattle.theory_graph.proofs.Lists.{map-same, same-eq, same-refl, is-true}
+-- The values of the nets along an order: they follow the drivers, and any that do are they.
+use Rattle.base.specs.{ℕ, zero, suc, _≡_, refl, sym, _∙_, ap, ap₂, _⊎_, inl, inr, ⊎-elim, Bool, cond, List, [], _∷_, map, List·Memᴰ}
+use Rattle.base.specs.{List·Memᴰ·head, List·Memᴰ·tail, List·Memᴰ·not-nil, Memᴰ·cast, head-eq-of-cons-eq, tail-eq-of-cons-eq, eqb, eqb→eq}
+use Rattle.base.specs.{yes-eqb, length}
+use Rattle.model.specs.{bit, same, value, rowOf, Driver, netValue, runNets, inputValues, settingOf, Distinct}
+use Rattle.theory_graph.proofs.{map-same, same-eq, same-refl, is-true, by-bool}
 use Rattle.theory_check.proofs.Settling.{netsOf, Ordered}
-use Rattle.theory_graph.proofs.Split.{by-bool}
 
 -- ---- a look-up
 

@@ -1,27 +1,15 @@
--- Printed lines as the check reads them: a gate's line drives the gate's net, and the `.names` lines drive the outputs' own names. Assumes nothing.
-use Prim.Native.Nat.{ℕ, suc, _+_, _<_}
-use native.Mathlib.Nat.{add-zero}
-use native.Mathlib.Omega.{arith}
-use mathlib.Core.Path.{_≡_, refl, _∙_, ap, ap₂}
-use mathlib.Core.Bool.{Bool, true, _&&_}
-use mathlib.Core.Option.{Option, some}
-use mathlib.Core.List.{List, [], _∷_, _++_, map, append-assoc, append-nil, List·Memᴰ, List·Memᴰ·head, List·Memᴰ·tail}
-use lib.Dec.{T, eqb, lit<}
-use lib.ListN.{length, getD}
-use lib.Seq.{take-append-seam, getD-append-add}
-use mir.Facts.{yes-eqb}
-use Rattle.model.specs.Base.{each, same, andThen, only, from, below}
-use Rattle.model.specs.Text.{Line, text, linesFrom, fields}
-use Rattle.model.specs.Reading.{holds, next, unless, from?}
-use Rattle.model.specs.Cells.{nameOf}
-use Rattle.model.specs.Netlist.{outName}
-use Rattle.model.specs.Check.{Driver, isNet, pinNet, boundNets, gateOfFields, gateDriver, isGate, nameDriver, isLine, pastRow, readNames, readDrivers}
+-- Printed lines as the check reads them: a gate's line drives the gate's net, and the `.names` lines drive the outputs' own names.
+use Rattle.base.specs.{ℕ, suc, _+_, _<_, add-zero, arith, _≡_, refl, _∙_, ap, ap₂, Bool, true, _&&_, Option, some, List, [], _∷_, _++_, map}
+use Rattle.base.specs.{append-assoc, append-nil, List·Memᴰ, List·Memᴰ·head, List·Memᴰ·tail, T, eqb, lit<, length, getD, take-append-seam}
+use Rattle.base.specs.{getD-append-add, yes-eqb}
+use Rattle.model.specs.{each, same, andThen, only, from, below, Line, text, linesFrom, fields, holds, next, unless, from?, nameOf, outName}
+use Rattle.model.specs.{Driver, isNet, pinNet, boundNets, gateOfFields, gateDriver, isGate, nameDriver, isLine, pastRow, readNames}
+use Rattle.model.specs.{readDrivers}
 use Rattle.model.specs.declared.Cell.{Cell}
-use Rattle.theory_graph.specs.Accepted.{libraryFits}
-use Rattle.theory_graph.proofs.Lists.{is-true, same-refl}
-use Rattle.theory_text.proofs.Plain.{Free, above, free-append, Clear, Clears, spaced-free, name-clear, out-clear}
-use Rattle.theory_text.proofs.LineLaws.{lineOfBytes, line-first, fields-word, fields-last}
-use Rattle.theory_text.proofs.Names.{cell-form, library-cell}
+use Rattle.theory_graph.specs.{libraryFits}
+use Rattle.theory_graph.proofs.{is-true, same-refl}
+use Rattle.theory_text.proofs.{Free, above, free-append, Clear, Clears, spaced-free, name-clear, out-clear, lineOfBytes, line-first}
+use Rattle.theory_text.proofs.{fields-word, fields-last, cell-form, library-cell}
 use Rattle.theory_check.proofs.CheckWords.{named-back}
 
 -- ---- words and lines

@@ -1,44 +1,25 @@
 -- The printed netlist's lines drive each net once, use driven nets only and have no circle; and values that follow them are values of the netlist that reads
--- back. Assumes nothing.
-use Prim.Native.Nat.{ℕ, zero, suc, _+_, _*_, _/_, _%_, _^_, _≤_, _<_}
-use native.Mathlib.Nat.{pow-suc}
-use native.Mathlib.Omega.{arith}
-use mathlib.Core.Path.{_≡_, refl, sym, _∙_, ap, ap₂, subst}
-use mathlib.Core.Logic.{_⊎_, inl, inr, ⊎-elim}
-use mathlib.Core.Bool.{Bool, true, false, not, cond, _&&_, _||_}
-use mathlib.Core.Option.{Option, none, some}
-use mathlib.Core.List.{List, [], _∷_, _++_, map, List·Memᴰ, List·Memᴰ·head, List·Memᴰ·tail, List·Memᴰ·not-nil, List·Memᴰ·append-cases, Memᴰ·append-left, Memᴰ·append-right, Memᴰ·cast}
-use lib.Dec.{T, ltb, ltb→lt, leb, nltb→le, le→leb}
-use lib.ListN.{length}
-use Rattle.model.specs.Base.{bit, one, all, any, from, below}
-use Rattle.model.specs.Text.{digits, decimal, between, isLetter}
-use Rattle.model.specs.Reading.{holds}
-use Rattle.model.specs.Table.{value, rowOf}
-use Rattle.model.specs.Graph.{Graph, varOf, negated}
-use Rattle.model.specs.Choice.{absent, chosen}
-use Rattle.model.specs.Cover.{output, fed}
-use Rattle.model.specs.Netlist.{Net, ofPhase, ofPair, Gate, netName, label, outName}
-use Rattle.model.specs.Blif.{Wire, drives, fedBy, NetValues}
-use Rattle.model.specs.Check.{Driver, isNet, among, drivenTwice, undriven, firstLine, onCircle, unlessAt, judgeNets, inputNets, settingOf}
-use Rattle.model.specs.CheckDemands.{DriverValues}
-use Rattle.model.specs.Demands.{Distinct, drivenNets}
+-- back.
+use Rattle.base.specs.{ℕ, zero, suc, _+_, _*_, _/_, _%_, _^_, _≤_, _<_, pow-suc, arith, _≡_, refl, sym, _∙_, ap, ap₂, subst, _⊎_, inl, inr}
+use Rattle.base.specs.{⊎-elim, Bool, true, false, not, cond, _&&_, _||_, Option, none, some, List, [], _∷_, _++_, map, List·Memᴰ}
+use Rattle.base.specs.{List·Memᴰ·head, List·Memᴰ·tail, List·Memᴰ·not-nil, List·Memᴰ·append-cases, Memᴰ·append-left, Memᴰ·append-right}
+use Rattle.base.specs.{Memᴰ·cast, T, ltb, ltb→lt, leb, nltb→le, le→leb, length, yes-and}
+use Rattle.model.specs.{bit, one, all, any, from, below, digits, decimal, between, isLetter, holds, value, rowOf, varOf, negated, absent}
+use Rattle.model.specs.{chosen, output, fed, Net, ofPhase, ofPair, Gate, netName, label, outName, Wire, drives, fedBy, NetValues, Driver}
+use Rattle.model.specs.{isNet, among, drivenTwice, undriven, firstLine, onCircle, unlessAt, judgeNets, inputNets, settingOf, DriverValues}
+use Rattle.model.specs.{Distinct, drivenNets}
+use Rattle.model.specs.Graph.{Graph}
 use Rattle.model.specs.declared.Cell.{Cell}
 use Rattle.theory_graph.specs.Accepted.{Accepted}
-use Rattle.theory_graph.proofs.Lists.{map-in, map-out, each-in, map-map, map-same}
-use Rattle.theory_graph.proofs.Distinct.{length-map}
-use Rattle.theory_text.proofs.Plain.{label-free, Clear}
-use Rattle.theory_text.proofs.ReadBack.{lineOf, wiresFrom, blifOf}
-use Rattle.theory_text.proofs.Names.{label-once}
-use Rattle.theory_demands.proofs.Numbered.{Fitting}
-use Rattle.theory_demands.proofs.Settled.{inside-apart, OfPhase}
-use Rattle.theory_demands.proofs.Gates.{fedAt, NeedsOf, gatesAt as phaseGates, chosenGates, Gates, by-feeding, bound, gate-out, of-gates, line-bound, gate-listed}
-use Rattle.theory_demands.proofs.Wires.{out-label, wire-targets}
-use Rattle.theory_demands.proofs.Formed.{keyOf, few-key, few-at, needed-driven, well-formed}
+use Rattle.theory_graph.proofs.{map-in, map-out, each-in, map-map, map-same, length-map, by-bool, by-member}
+use Rattle.theory_text.proofs.{label-free, Clear, lineOf, wiresFrom, blifOf, label-once}
+use Rattle.theory_demands.proofs.{Fitting, inside-apart, OfPhase, fedAt, NeedsOf, gatesAt as phaseGates, chosenGates, by-feeding, bound}
+use Rattle.theory_demands.proofs.{gate-out, of-gates, line-bound, gate-listed, out-label, wire-targets, keyOf, few-key, few-at}
+use Rattle.theory_demands.proofs.{needed-driven, well-formed}
+use Rattle.theory_demands.proofs.Gates.{Gates}
 use Rattle.theory_check.proofs.Settling.{netsOf, FeedsNet, directly, through, NoCircle, join-feeds, among-in, among-out}
 use Rattle.theory_check.proofs.Circles.{found-circle}
 use Rattle.theory_check.proofs.PrintedLines.{AreNets, Shown, Fine, driverAt, gatesAt, wireDriver, namesAt}
-use Rattle.theory_graph.proofs.Split.{by-bool, by-member}
-use mir.Facts.{yes-and}
 
 -- ---- a net's name is in its form
 

@@ -1,20 +1,10 @@
--- Drivers without a circle can be put in an order, each behind those that feed it: `settled` leaves none. Assumes nothing.
-use Prim.Native.Nat.{ℕ, zero, suc, _≤_}
-use native.Mathlib.Nat.{not-suc-le-zero}
-use native.Mathlib.Omega.{arith}
-use mathlib.Core.Path.{_≡_, refl, sym, _∙_, ap, subst}
-use mathlib.Core.Logic.{_⊎_, inl, inr, ⊎-elim}
-use mathlib.Core.Bool.{Bool, true, false, cond, _||_, true≢false}
-use mathlib.Core.Option.{Option, none, some}
-use mathlib.Core.List.{List, [], _∷_, map, List·Memᴰ, List·Memᴰ·head, List·Memᴰ·tail, List·Memᴰ·not-nil, Memᴰ·cast}
-use lib.Dec.{T}
-use lib.ListN.{length}
-use Rattle.model.specs.Base.{any, all, same, andThen}
-use Rattle.model.specs.Check.{Driver, among, takeReady, settled}
-use Rattle.model.specs.Demands.{Distinct}
-use Rattle.theory_graph.proofs.Lists.{map-in, map-out, same-eq, same-refl, is-true, all-of}
-use Rattle.theory_graph.proofs.Split.{by-bool, by-member}
-use Rattle.theory_order.proofs.Splits.{no-more}
+-- Drivers without a circle can be put in an order, each behind those that feed it: `settled` leaves none.
+use Rattle.base.specs.{ℕ, zero, suc, _≤_, not-suc-le-zero, arith, _≡_, refl, sym, _∙_, ap, subst, _⊎_, inl, inr, ⊎-elim, Bool, true, false}
+use Rattle.base.specs.{cond, _||_, true≢false, Option, none, some, List, [], _∷_, map, List·Memᴰ, List·Memᴰ·head, List·Memᴰ·tail}
+use Rattle.base.specs.{List·Memᴰ·not-nil, Memᴰ·cast, T, length}
+use Rattle.model.specs.{any, all, same, andThen, Driver, among, takeReady, settled, Distinct}
+use Rattle.theory_graph.proofs.{map-in, map-out, same-eq, same-refl, is-true, all-of, by-bool, by-member}
+use Rattle.theory_order.proofs.{no-more}
 
 -- ---- a list without repetition is no longer than one that has its elements
 

@@ -1,35 +1,22 @@
 -- The drivers that the check reads from a netlist mean what the text means as BLIF: where `readNetlist` holds, `readBlif` reads, and the two have the same
--- values. Assumes nothing.
-use Prim.Native.Nat.{ℕ, zero, suc, _+_, _≤_, _<_}
-use native.Mathlib.Nat.{add-zero}
-use native.Mathlib.Omega.{arith}
-use mathlib.Core.Path.{_≡_, refl, sym, _∙_, ap, ap₂, subst}
-use mathlib.Core.Logic.{inl, inr, ⊎-elim}
-use mathlib.Core.Bool.{Bool, true, false, cond, _&&_, true≢false, false≢true}
-use mathlib.Core.Option.{Option, none, some}
-use mathlib.Core.List.{List, [], _∷_, _++_, map, reverse, reverse-cons, append-assoc, append-nil, List·Memᴰ, List·Memᴰ·head, List·Memᴰ·tail, List·Memᴰ·not-nil, List·Memᴰ·append-cases, Memᴰ·append-left, Memᴰ·append-right}
-use lib.Dec.{T, eqb, eqb→eq, lit<}
-use lib.ListN.{length, take, getD}
-use lib.Seq.{take-append-seam, getD-append-add}
-use mir.Facts.{and-yes, eqb-yes}
-use Rattle.model.specs.Base.{each, same, andThen, only, from, below}
-use Rattle.model.specs.Text.{Line, endedByTen, text, closing, linesFrom, onto, split, parts, fields}
-use Rattle.model.specs.Reading.{holds, next, from?}
-use Rattle.model.specs.Table.{value, rowOf}
-use Rattle.model.specs.Cells.{nameOf}
-use Rattle.model.specs.Graph.{Graph, literal}
-use Rattle.model.specs.Netlist.{netName, outName}
-use Rattle.model.specs.Blif.{Binding, GateLine, Wire, Blif, Body, longer, binding, bindingsOf, afterWord, wordsAfter, gateOf, readGate, wireOf, readWire, readWires, bodyFrom, readBody, readLines, readBlif, named, netAt, pinNames, outputName, drives, fedBy, NetValues}
-use Rattle.model.specs.Check.{Driver, isNet, pinNet, boundNets, cellNamed, gateOfFields, gateDriver, isGate, nameDriver, isLine, pastRow, readNames, readDrivers, pastLines, inputNets, outputNets, frameOf, readNetlist}
-use Rattle.model.specs.CheckDemands.{ValuesUnder, MeansText}
+-- values.
+use Rattle.base.specs.{ℕ, zero, suc, _+_, _≤_, _<_, add-zero, arith, _≡_, refl, sym, _∙_, ap, ap₂, subst, inl, inr, ⊎-elim, Bool, true}
+use Rattle.base.specs.{false, cond, _&&_, true≢false, false≢true, Option, none, some, List, [], _∷_, _++_, map, reverse, reverse-cons}
+use Rattle.base.specs.{append-assoc, append-nil, List·Memᴰ, List·Memᴰ·head, List·Memᴰ·tail, List·Memᴰ·not-nil, List·Memᴰ·append-cases}
+use Rattle.base.specs.{Memᴰ·append-left, Memᴰ·append-right, T, eqb, eqb→eq, lit<, length, take, getD, take-append-seam, getD-append-add}
+use Rattle.base.specs.{and-yes, eqb-yes}
+use Rattle.model.specs.{each, same, andThen, only, from, below, Line, endedByTen, text, closing, linesFrom, onto, split, parts, fields}
+use Rattle.model.specs.{holds, next, from?, value, rowOf, nameOf, literal, netName, outName, Binding, GateLine, Wire, Body, longer, binding}
+use Rattle.model.specs.{bindingsOf, afterWord, wordsAfter, readGate, wireOf, readWire, readWires, bodyFrom, readBody, readLines, readBlif}
+use Rattle.model.specs.{named, netAt, pinNames, outputName, drives, fedBy, NetValues, Driver, isNet, pinNet, boundNets, cellNamed}
+use Rattle.model.specs.{gateOfFields, gateDriver, isGate, nameDriver, isLine, pastRow, readNames, readDrivers, pastLines, inputNets}
+use Rattle.model.specs.{outputNets, frameOf, readNetlist, ValuesUnder, MeansText}
+use Rattle.model.specs.Graph.{Graph}
+use Rattle.model.specs.Blif.{Blif, gateOf}
 use Rattle.model.specs.declared.Cell.{Cell}
-use Rattle.theory_graph.proofs.Lists.{map-map, map-same, same-eq}
-use Rattle.theory_graph.proofs.Distinct.{from-low}
-use Rattle.theory_text.proofs.Plain.{Free, above, decimal-free, net-free, free-reverse}
-use Rattle.theory_text.proofs.LineLaws.{lines-step}
-use Rattle.theory_text.proofs.ReadBack.{parts-line, at-first, at-later, no-gate-end}
-use Rattle.theory_text.proofs.Steps.{fault-never, holds-once, unless-out, from-out, next-out, then-out, only-out}
-use Rattle.theory_graph.proofs.Split.{by-bool, by-list}
+use Rattle.theory_graph.proofs.{map-map, map-same, same-eq, from-low, by-bool, by-list}
+use Rattle.theory_text.proofs.{Free, above, decimal-free, net-free, free-reverse, lines-step, parts-line, at-first, at-later, no-gate-end}
+use Rattle.theory_text.proofs.{fault-never, holds-once, unless-out, from-out, next-out, then-out, only-out}
 use Rattle.theory_check.proofs.CheckSteps.{three}
 use Rattle.theory_check.proofs.PrintedNets.{wire-value}
 

@@ -1,30 +1,13 @@
--- An unrefused netlist: what was read is sound, so the answer is the comparison's. Assumes nothing.
-use Prim.Native.Nat.{ℕ, _+_, _*_, _<_}
-use mathlib.Core.Path.{_≡_, refl, sym, _∙_, ap, subst}
-use mathlib.Core.Bool.{Bool, true, false, _&&_, true≢false}
-use mathlib.Core.Option.{Option, none, some}
-use mathlib.Core.List.{List, [], _∷_, List·Memᴰ}
-use lib.Dec.{leb}
-use lib.ListN.{length}
-use Rattle.model.specs.Base.{lowest, smaller}
-use Rattle.model.specs.Limits.{need}
-use Rattle.model.specs.Text.{linesFrom}
-use Rattle.model.specs.Reading.{holds}
-use Rattle.model.specs.Graph.{Graph, literal, varOf, unplaced, placeF, placingOrder}
-use Rattle.model.specs.LibraryText.{readLibrary}
-use Rattle.model.specs.GraphText.{readHeader, readGraph}
-use Rattle.model.specs.Netlist.{netName, outName}
-use Rattle.model.specs.Check.{Driver, Edited, lineEnds, readNetlist, judgeNets, inputNets, frameOf, pastLines, readDrivers, readEdited, checkRead, checkTexts}
-use Rattle.model.specs.CheckDemands.{ComparedCheck, MeantCheck, EqualCheck}
-use Rattle.model.specs.Demands.{Distinct}
+-- An unrefused netlist: what was read is sound, so the answer is the comparison's.
+use Rattle.base.specs.{ℕ, _+_, _*_, _<_, _≡_, refl, sym, _∙_, ap, subst, Bool, true, false, _&&_, true≢false, Option, none, some, List, []}
+use Rattle.base.specs.{_∷_, List·Memᴰ, leb, length}
+use Rattle.model.specs.{lowest, smaller, need, linesFrom, holds, literal, varOf, unplaced, placeF, placingOrder, readLibrary, readHeader}
+use Rattle.model.specs.{readGraph, netName, outName, Driver, Edited, lineEnds, readNetlist, judgeNets, inputNets, frameOf, pastLines}
+use Rattle.model.specs.{readDrivers, readEdited, checkRead, checkTexts, ComparedCheck, MeantCheck, EqualCheck, Distinct}
+use Rattle.model.specs.Graph.{Graph}
 use Rattle.theory_graph.specs.Accepted.{Accepted}
-use Rattle.theory_graph.proofs.Distinct.{map-distinct, front-distinct}
-use Rattle.theory_graph.proofs.Literals.{lit-var}
-use Rattle.theory_graph.proofs.Placing.{order-once}
-use Rattle.theory_text.proofs.Steps.{holds-once, unless-out, next-out}
-use Rattle.theory_text.proofs.ReadGraph.{graph-accepted}
-use Rattle.theory_text.proofs.ReadLibrary.{library-fits}
-use Rattle.theory_text.proofs.Names.{library-cell, cell-form, net-once}
+use Rattle.theory_graph.proofs.{map-distinct, front-distinct, lit-var, order-once}
+use Rattle.theory_text.proofs.{holds-once, unless-out, next-out, graph-accepted, library-fits, library-cell, cell-form, net-once}
 use Rattle.theory_check.proofs.Settling.{netsOf}
 use Rattle.theory_check.proofs.Comparing.{Sound, compared}
 use Rattle.theory_check.proofs.Judged.{unless-none, nets-judged, drivers-outputs}

@@ -1,17 +1,10 @@
 -- The lines of an edited netlist as relations over bytes, written from the documents' sentences: what nets, gate lines and the other lines are, and which may
--- stand behind which. Each says that bytes are such a thing and what they mean; no reader stands here. Assumes nothing.
-use Prim.Native.Nat.{ℕ, zero, suc, _≤_}
-use mathlib.Core.Path.{_≡_}
-use mathlib.Core.Logic.{_⊎_}
-use mathlib.Core.Bool.{true}
-use mathlib.Core.List.{List, [], _∷_, _++_, List·Memᴰ}
-use lib.ListN.{length}
-use Rattle.model.specs.Text.{text}
-use Rattle.model.specs.Cells.{nameOf}
+-- stand behind which. Each says that bytes are such a thing and what they mean; no reader stands here.
+use Rattle.base.specs.{ℕ, zero, suc, _≤_, _≡_, _⊎_, true, List, [], _∷_, _++_, List·Memᴰ, length}
+use Rattle.model.specs.{text, nameOf, Driver}
 use Rattle.model.specs.Graph.{Graph}
-use Rattle.model.specs.Check.{Driver}
 use Rattle.model.specs.declared.Cell.{Cell}
-use Rattle.promises.specs.Forms.{Within, Letter, Decimal, joined, LineOf}
+use Rattle.promises.specs.{Within, Letter, Decimal, joined, LineOf}
 
 -- ---- words
 

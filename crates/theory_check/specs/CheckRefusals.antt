@@ -1,18 +1,11 @@
 -- The refusals of a check as conditions: 32 of the netlist's bytes, by the forms of `CheckForms`, 33 of the nets that its lines drive and use, and all that are
--- tried, in checking order. No reader's definition is used: a reader is named only where `Exactly` says what it does. Assumes nothing.
-use Prim.Native.Nat.{ℕ, suc, _+_, _*_, _≤_}
-use mathlib.Core.Path.{_≡_}
-use mathlib.Core.Logic.{_⊎_}
-use mathlib.Core.List.{List, _∷_, _++_, map, List·Memᴰ}
-use lib.ListN.{length, drop}
+-- tried, in checking order. No reader's definition is used: a reader is named only where `Exactly` says what it does.
+use Rattle.base.specs.{ℕ, suc, _+_, _*_, _≤_, _≡_, _⊎_, List, _∷_, _++_, map, List·Memᴰ, length, drop}
 use Rattle.model.specs.Graph.{Graph}
-use Rattle.model.specs.Check.{Driver, Edited, lineEnds, readNetlist, judgeNets, readEdited}
+use Rattle.model.specs.{Driver, Edited, lineEnds, readNetlist, judgeNets, readEdited, OrderOfAll}
 use Rattle.model.specs.declared.Cell.{Cell}
 use Rattle.model.specs.declared.Header.{Header}
-use Rattle.model.specs.OrderDemands.{OrderOfAll}
-use Rattle.promises.specs.Forms.{BeginsNone}
-use Rattle.promises.specs.Refusals.{Exactly, LibraryHolds, LibraryFault, HeaderHolds, HeaderFault, GraphIn, GraphFault}
-use Rattle.promises.specs.Outcomes.{LowestUnplaced}
+use Rattle.promises.specs.{BeginsNone, Exactly, LibraryHolds, LibraryFault, HeaderHolds, HeaderFault, GraphIn, GraphFault, LowestUnplaced}
 use Rattle.theory_check.specs.CheckForms.{InputNames, Due, nothingDue, NextLine, Reached}
 
 -- ---- the text: 32

@@ -1,28 +1,19 @@
 -- Of every cover: what feeds a phase without an inverter is placed before it, so a statement can be proved along what feeds; and a cover has
 -- arrivals by the rule, and on the phases that it needs no others. The order of placing has no number twice: that is all that is asked of the
--- graph here. Assumes nothing.
-use Prim.Native.Nat.{ℕ, zero, suc, _+_, _*_, _≤_}
-use native.Mathlib.Nat.{not-suc-le-zero}
-use native.Mathlib.Omega.{arith}
-use mathlib.Core.Path.{_≡_, refl, sym, _∙_, ap, subst}
-use mathlib.Core.List.{List, [], _∷_, _++_, map, append-assoc, List·Memᴰ, List·Memᴰ·head, List·Memᴰ·tail, List·Memᴰ·not-nil, List·Memᴰ·eq-of-singleton, Memᴰ·append-left, Memᴰ·cast}
-use lib.ListN.{length}
-use Rattle.model.specs.Base.{find}
-use Rattle.model.specs.Graph.{Graph, placeF, placingOrder, varOf, negated, opposite}
-use Rattle.model.specs.Cuts.{nodeCuts, cutsOf}
-use Rattle.model.specs.Choice.{feeds, cellOf, latest}
-use Rattle.model.specs.Cover.{IsMatch, IsOwn, Allowed, Needed, fed, directly, through, arrivalBy, Cover}
-use Rattle.model.specs.Demands.{Distinct, Timed}
+-- graph here.
+use Rattle.base.specs.{ℕ, zero, suc, _+_, _*_, _≤_, not-suc-le-zero, arith, _≡_, refl, sym, _∙_, ap, subst, List, [], _∷_, _++_, map}
+use Rattle.base.specs.{append-assoc, List·Memᴰ, List·Memᴰ·head, List·Memᴰ·tail, List·Memᴰ·not-nil, List·Memᴰ·eq-of-singleton}
+use Rattle.base.specs.{Memᴰ·append-left, Memᴰ·cast, length}
+use Rattle.model.specs.{find, placeF, placingOrder, varOf, negated, opposite, nodeCuts, cutsOf, feeds, cellOf, latest, IsMatch, IsOwn}
+use Rattle.model.specs.{Allowed, Needed, fed, directly, through, arrivalBy, Distinct, Timed}
+use Rattle.model.specs.Graph.{Graph}
+use Rattle.model.specs.Cover.{Cover}
 use Rattle.model.specs.declared.Cell.{Cell}
 use Rattle.model.specs.declared.Source.{Source}
 use Rattle.model.specs.declared.Source.the-variants.{Input, Cell as Matched, Inverter as Inverted, Nothing}
-use Rattle.theory_graph.proofs.Lists.{by-eqb, map-same}
-use Rattle.theory_graph.proofs.Literals.{opposite-var, opposite-neg, opposite-back}
-use Rattle.theory_graph.proofs.Runs.{along}
-use Rattle.theory_graph.proofs.Nodes.{node-input}
-use Rattle.theory_graph.proofs.CutFacts.{cutsKnown, cuts-entry, cuts-none, leaves-before}
+use Rattle.theory_graph.proofs.{by-eqb, map-same, opposite-var, opposite-neg, opposite-back, along, node-input, cutsKnown, cuts-entry}
+use Rattle.theory_graph.proofs.{cuts-none, leaves-before, by-bool, by-nat}
 use Rattle.theory_cover.proofs.Matches.{cutFor, cut-listed, matched-leaf}
-use Rattle.theory_graph.proofs.Split.{by-bool, by-nat}
 
 -- a source that is no inverter
 abbrev pub Straight : Source → Type 0

@@ -1,27 +1,16 @@
 -- Demand 3 of an accepted graph: the choice is earliest, gives Nothing exactly where there is no cover, and is itself a cover; refusal 17 names
--- the lowest output without a cover, and else the netlist of the choice is printed. Assumes nothing.
-use Prim.Native.Nat.{ℕ, zero, suc, _+_, _≤_, _<_}
-use native.Mathlib.Nat.{add-zero, add-suc, suc-add, zero-add, not-suc-le-zero, le-of-suc-le-suc, le-antisymm, lt-of-not-le}
-use native.Mathlib.Decide.{decLe}
-use native.Mathlib.Omega.{arith}
-use mathlib.Core.Path.{_≡_, refl, sym, _∙_, ap, subst}
-use mathlib.Core.Logic.{_↔_}
-use mathlib.Core.Bool.{Bool, true, false, cond, true≢false}
-use mathlib.Core.List.{List, [], _∷_, List·Memᴰ, List·Memᴰ·head, List·Memᴰ·eq-of-singleton}
-use lib.Dec.{T}
-use lib.ListN.{length, getD}
-use Rattle.model.specs.Base.{lowest}
+-- the lowest output without a cover, and else the netlist of the choice is printed.
+use Rattle.base.specs.{ℕ, zero, suc, _+_, _≤_, _<_, add-zero, add-suc, suc-add, zero-add, not-suc-le-zero, le-of-suc-le-suc, le-antisymm}
+use Rattle.base.specs.{lt-of-not-le, decLe, arith, _≡_, refl, sym, _∙_, ap, subst, _↔_, Bool, true, false, cond, true≢false, List, [], _∷_}
+use Rattle.base.specs.{List·Memᴰ, List·Memᴰ·head, List·Memᴰ·eq-of-singleton, T, length, getD}
+use Rattle.model.specs.{lowest, crowded, absent, chosen, Needed, output, CoverArrivals, refused, mapped, mapGraph, uncovered, printed}
+use Rattle.model.specs.{mapChosen, mapCut, mapPlaced, Timed, LowestUncovered, ChosenCover, choiceText, choiceFigures}
 use Rattle.model.specs.Graph.{Graph}
-use Rattle.model.specs.Cuts.{crowded}
-use Rattle.model.specs.Choice.{absent, chosen}
-use Rattle.model.specs.Cover.{Needed, output, Cover, CoverArrivals}
-use Rattle.model.specs.Netlist.{refused, mapped, mapGraph, uncovered, printed, mapChosen, mapCut, mapPlaced}
-use Rattle.model.specs.Demands.{Timed, LowestUncovered, ChosenCover, choiceText, choiceFigures}
+use Rattle.model.specs.Cover.{Cover}
 use Rattle.model.specs.declared.Cell.{Cell}
 use Rattle.model.specs.declared.Phase.{Phase}
 use Rattle.theory_graph.specs.Accepted.{Accepted}
-use Rattle.theory_graph.proofs.Lists.{getD-in}
-use Rattle.theory_graph.proofs.Placing.{order-once}
+use Rattle.theory_graph.proofs.{getD-in, order-once}
 use Rattle.theory_cover.proofs.Covers.{covers-timed}
 use Rattle.theory_cover.proofs.Earliest.{earliest}
 use Rattle.theory_cover.proofs.Sound.{chosen-cover, chosen-timed, nothing-iff}

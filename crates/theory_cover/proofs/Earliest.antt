@@ -1,34 +1,23 @@
 -- Demand 3 at the choice: no cover gives a phase that it needs an earlier arrival than the choice does, and the choice gives such a phase a
--- source. The order of placing has no number twice: that is all that is asked of the graph here. Assumes nothing.
-use Prim.Native.Nat.{ℕ, _+_, _≤_}
-use native.Mathlib.Nat.{le-refl, le-trans, le-of-eq, zero-add}
-use native.Mathlib.Omega.{arith}
-use mathlib.Core.Path.{_≡_, refl, sym, _∙_, ap, subst}
-use mathlib.Core.Bool.{Bool, true, not, true≢false}
-use mathlib.Core.List.{List, [], _∷_, _++_, map, List·Memᴰ, List·Memᴰ·head, List·Memᴰ·tail, List·Memᴰ·not-nil, List·Memᴰ·eq-of-singleton, Memᴰ·cast}
-use lib.ListN.{getD}
-use Rattle.model.specs.Base.{find}
-use Rattle.model.specs.Cells.{cellAt, noCell}
-use Rattle.model.specs.Graph.{Graph, Node, constant, input, undefined, both, node, placingOrder, varOf, negated, opposite}
-use Rattle.model.specs.Cuts.{nodeCuts, cutsOf}
-use Rattle.model.specs.Matching.{matchNets}
-use Rattle.model.specs.Choice.{Phases, feeds, cellOf, latest, absent, choose, phaseOf, matchPhase, matchPhases, inverterPhases, direct, chosen}
-use Rattle.model.specs.Cover.{IsMatch, IsOwn, IsInverting, Allowed, Needed, output, fed, arrivalBy, Cover, CoverArrivals}
-use Rattle.model.specs.Demands.{Distinct}
+-- source. The order of placing has no number twice: that is all that is asked of the graph here.
+use Rattle.base.specs.{ℕ, _+_, _≤_, le-refl, le-trans, le-of-eq, zero-add, arith, _≡_, refl, sym, _∙_, ap, subst, Bool, true, not}
+use Rattle.base.specs.{true≢false, List, [], _∷_, _++_, map, List·Memᴰ, List·Memᴰ·head, List·Memᴰ·tail, List·Memᴰ·not-nil}
+use Rattle.base.specs.{List·Memᴰ·eq-of-singleton, Memᴰ·cast, getD}
+use Rattle.model.specs.{find, cellAt, noCell, Node, constant, input, undefined, both, node, placingOrder, varOf, negated, opposite}
+use Rattle.model.specs.{nodeCuts, cutsOf, matchNets, Phases, feeds, cellOf, latest, absent, choose, phaseOf, matchPhase, matchPhases}
+use Rattle.model.specs.{inverterPhases, direct, chosen, IsMatch, IsOwn, IsInverting, Allowed, Needed, output, fed, arrivalBy, CoverArrivals}
+use Rattle.model.specs.{Distinct}
+use Rattle.model.specs.Graph.{Graph}
+use Rattle.model.specs.Cover.{Cover}
 use Rattle.model.specs.declared.Cell.{Cell}
 use Rattle.model.specs.declared.Match.{Match}
 use Rattle.model.specs.declared.Phase.{Phase}
 use Rattle.model.specs.declared.Source.{Source}
 use Rattle.model.specs.declared.Source.the-variants.{Input, Cell as Matched, Inverter as Inverted, Nothing}
-use Rattle.theory_graph.proofs.Lists.{map-map}
-use Rattle.theory_graph.proofs.Literals.{opposite-var, opposite-neg}
-use Rattle.theory_graph.proofs.Runs.{along}
-use Rattle.theory_graph.proofs.Nodes.{node-input}
-use Rattle.theory_graph.proofs.CutFacts.{cutsKnown, cuts-entry, leaves-before}
+use Rattle.theory_graph.proofs.{map-map, opposite-var, opposite-neg, along, node-input, cutsKnown, cuts-entry, leaves-before, by-bool}
 use Rattle.theory_cover.proofs.Turns.{Beats, choose-beats, phasesKnown, chosen-known, own, chosen-entry}
 use Rattle.theory_cover.proofs.Covers.{Straight, fed-straight, unplaced-never, covers-timed}
 use Rattle.theory_cover.proofs.Matches.{cutFor, cut-listed, match-tried, matched-leaf, matchPhase-in, invertedPhase, inverter-in}
-use Rattle.theory_graph.proofs.Split.{by-bool}
 
 -- ---- a cell's arrival
 

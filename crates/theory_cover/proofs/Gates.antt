@@ -1,36 +1,19 @@
 -- A gate computes its phase: a cell matched on a cut has, at the values of its pins' nets, the AIGER value of the phase; so has an inverter.
--- Assumes nothing.
-use Prim.Native.Nat.{ℕ, zero, suc, _+_, _-_, _*_, _/_, _%_, _^_, _≤_, _<_, compare}
-use native.Mathlib.Nat.{le-refl, le-of-suc-le-suc, not-suc-le-zero, add-zero, zero-add, suc-add, add-suc, pow-suc}
-use native.Mathlib.Omega.{arith}
-use mathlib.Core.Path.{_≡_, refl, sym, _∙_, ap, ap₂, subst}
-use mathlib.Core.Logic.{⊎-elim}
-use mathlib.Core.Bool.{Bool, true, false, not, _&&_, Bool·beq}
-use mathlib.Core.List.{List, [], _∷_, map, List·Memᴰ, List·Memᴰ·not-nil, List·Memᴰ·cases-cons, List·Memᴰ·eq-of-singleton}
-use lib.Dec.{T, eqb, eqb→eq, leb, leb→le, ltb, ltb→lt}
-use lib.ListN.{length, take, getD, length-map, List·getD-map}
-use lib.Pow.{pow-pos}
-use mir.Facts.{and-yes, eqb-no}
-use Rattle.model.specs.Base.{all, bit, one, flip, below, each, union, find}
-use Rattle.model.specs.Table.{value, rowOf, orders, pinRow}
-use Rattle.model.specs.Cells.{cellAt, isInverter}
-use Rattle.model.specs.Graph.{Graph, Node, constant, input, undefined, both, node, placingOrder, span, varOf, negated, opposite, literalValue}
-use Rattle.model.specs.Cuts.{tabulate, walk, cutTable, cutsOf, nodeCuts, unions, compareCuts}
-use Rattle.model.specs.Matching.{phaseTable, placesFit, rowsAgree, fedNets, matchNets}
-use Rattle.model.specs.Choice.{feeds}
-use Rattle.model.specs.Cover.{IsMatch}
-use Rattle.model.specs.Demands.{Distinct}
+use Rattle.base.specs.{ℕ, zero, suc, _+_, _-_, _*_, _/_, _%_, _^_, _≤_, _<_, compare, le-refl, le-of-suc-le-suc, not-suc-le-zero, add-zero}
+use Rattle.base.specs.{zero-add, suc-add, add-suc, pow-suc, arith, _≡_, refl, sym, _∙_, ap, ap₂, subst, ⊎-elim, Bool, true, false, not}
+use Rattle.base.specs.{_&&_, Bool·beq, List, [], _∷_, map, List·Memᴰ, List·Memᴰ·not-nil, List·Memᴰ·cases-cons, List·Memᴰ·eq-of-singleton, T}
+use Rattle.base.specs.{eqb, eqb→eq, leb, leb→le, ltb, ltb→lt, length, take, getD, length-map, List·getD-map, pow-pos, and-yes, eqb-no}
+use Rattle.model.specs.{all, bit, one, flip, below, each, union, find, value, rowOf, orders, pinRow, cellAt, isInverter, Node, constant}
+use Rattle.model.specs.{input, undefined, both, node, placingOrder, varOf, negated, opposite, literalValue, tabulate, walk, cutTable}
+use Rattle.model.specs.{cutsOf, nodeCuts, unions, compareCuts, phaseTable, placesFit, rowsAgree, fedNets, matchNets, feeds, IsMatch}
+use Rattle.model.specs.{Distinct}
+use Rattle.model.specs.Graph.{Graph, span}
 use Rattle.model.specs.declared.Cell.{Cell}
 use Rattle.model.specs.declared.Match.{Match}
 use Rattle.model.specs.declared.Source.the-variants.{Cell as Matched}
-use Rattle.theory_graph.proofs.Lists.{all-of, below-in, keep-out}
-use Rattle.theory_graph.proofs.Sets.{union-only}
-use Rattle.theory_graph.proofs.Literals.{lit-var, lit-neg, opposite-var, opposite-neg, bit-low, bit-high, one-le, bit-row}
-use Rattle.theory_graph.proofs.Runs.{along}
-use Rattle.theory_graph.proofs.Walk.{Valuation, Carry}
-use Rattle.theory_graph.proofs.CutFacts.{cutsKnown, cuts-entry, cuts-none, cut-value}
+use Rattle.theory_graph.proofs.{all-of, below-in, keep-out, union-only, lit-var, lit-neg, opposite-var, opposite-neg, bit-low, bit-high}
+use Rattle.theory_graph.proofs.{one-le, bit-row, along, Valuation, Carry, cutsKnown, cuts-entry, cuts-none, cut-value, by-bool}
 use Rattle.theory_cover.proofs.Matches.{fits-places, fits-rows, cutFor, cut-listed}
-use Rattle.theory_graph.proofs.Split.{by-bool}
 
 -- ---- bits
 

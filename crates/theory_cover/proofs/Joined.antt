@@ -1,20 +1,11 @@
 -- A pair is its two gates: at any values of its pins it has the root's value with the inner's at the fed pin, and its arrival is the root's with
--- the inner's arrival there. Assumes nothing.
-use Prim.Native.Nat.{ℕ, zero, suc, _+_, _^_, _≤_, _<_, max}
-use native.Mathlib.Nat.{le-of-suc-le-suc, not-suc-le-zero, le-of-eq, zero-add}
-use native.Mathlib.Omega.{arith}
-use mathlib.Core.Path.{_≡_, refl, _∙_, ap}
-use mathlib.Core.Bool.{Bool, false}
-use mathlib.Core.List.{List, [], _∷_, _++_, map}
-use lib.ListN.{length, take, drop, getD}
-use Rattle.model.specs.Base.{bit, from, below}
-use Rattle.model.specs.Table.{value, rowOf}
-use Rattle.model.specs.Choice.{latest}
-use Rattle.model.specs.Pairs.{splice, pairPins, pairValue, pairTable, joinDelays, pairDelays}
+-- the inner's arrival there.
+use Rattle.base.specs.{ℕ, zero, suc, _+_, _^_, _≤_, _<_, max, le-of-suc-le-suc, not-suc-le-zero, le-of-eq, zero-add, arith, _≡_, refl, _∙_}
+use Rattle.base.specs.{ap, Bool, false, List, [], _∷_, _++_, map, length, take, drop, getD}
+use Rattle.model.specs.{bit, from, below, value, rowOf, latest, splice, pairPins, pairValue, pairTable, joinDelays, pairDelays}
 use Rattle.model.specs.declared.Cell.{Cell}
+use Rattle.theory_graph.proofs.{by-nat, bit-row}
 use Rattle.theory_cover.proofs.Gates.{bit-tabulate, row-lt}
-use Rattle.theory_graph.proofs.Split.{by-nat}
-use Rattle.theory_graph.proofs.Literals.{bit-row}
 
 -- ---- arrivals
 

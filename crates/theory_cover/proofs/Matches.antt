@@ -1,29 +1,18 @@
--- What the choice tries: the listed matches are those of the rules, and so are the listed inverters. Assumes nothing.
-use Prim.Native.Nat.{ℕ, zero, suc, _+_, _/_, _^_, _<_}
-use native.Mathlib.Nat.{le-of-suc-le-suc, not-suc-le-zero, zero-add, add-zero, suc-add, add-suc}
-use native.Mathlib.Omega.{arith}
-use mathlib.Core.Path.{_≡_, refl, sym, _∙_, ap, subst}
-use mathlib.Core.Logic.{⊎-elim}
-use mathlib.Core.Bool.{Bool, true, false, not, cond, _&&_, true≢false}
-use mathlib.Core.List.{List, [], _∷_, map, List·Memᴰ, List·Memᴰ·head, List·Memᴰ·tail, List·Memᴰ·not-nil, List·Memᴰ·append-cases, Memᴰ·append-left, Memᴰ·append-right, Memᴰ·cast}
-use lib.Dec.{T, ltb, ltb→lt}
-use lib.ListN.{length, take, getD}
-use mir.Facts.{and-yes}
-use Rattle.model.specs.Base.{all, any, keep, below, same, bit}
-use Rattle.model.specs.Table.{orders}
-use Rattle.model.specs.Cells.{cellAt, isInverter, noCell}
-use Rattle.model.specs.Graph.{Graph, varOf, negated}
-use Rattle.model.specs.Cuts.{cutsOf, cutAt, cutTable}
-use Rattle.model.specs.Matching.{phaseTable, placesFit, rowsAgree, fits, fedNets, matchNets}
-use Rattle.model.specs.Choice.{Phases, noPhase, latest, absent, phaseOf, matchPhase, cellMatches, cutMatches, cutPhases, matchPhases, inverterPhases}
-use Rattle.model.specs.Cover.{IsMatch}
+-- What the choice tries: the listed matches are those of the rules, and so are the listed inverters.
+use Rattle.base.specs.{ℕ, zero, suc, _+_, _/_, _^_, _<_, le-of-suc-le-suc, not-suc-le-zero, zero-add, add-zero, suc-add, add-suc, arith}
+use Rattle.base.specs.{_≡_, refl, sym, _∙_, ap, subst, ⊎-elim, Bool, true, false, not, cond, _&&_, true≢false, List, [], _∷_, map}
+use Rattle.base.specs.{List·Memᴰ, List·Memᴰ·head, List·Memᴰ·tail, List·Memᴰ·not-nil, List·Memᴰ·append-cases, Memᴰ·append-left}
+use Rattle.base.specs.{Memᴰ·append-right, Memᴰ·cast, T, ltb, ltb→lt, length, take, getD, and-yes}
+use Rattle.model.specs.{all, any, keep, below, same, bit, orders, cellAt, isInverter, noCell, varOf, negated, cutsOf, cutAt, cutTable}
+use Rattle.model.specs.{phaseTable, placesFit, rowsAgree, fits, fedNets, matchNets, Phases, noPhase, latest, absent, phaseOf, matchPhase}
+use Rattle.model.specs.{cellMatches, cutMatches, cutPhases, matchPhases, inverterPhases, IsMatch}
+use Rattle.model.specs.Graph.{Graph}
 use Rattle.model.specs.declared.Cell.{Cell}
 use Rattle.model.specs.declared.Match.{Match}
 use Rattle.model.specs.declared.Phase.{Phase}
 use Rattle.model.specs.declared.Source.the-variants.{Cell as Matched, Inverter as Inverted}
-use Rattle.theory_graph.proofs.Lists.{map-in, map-out, each-in, each-out, keep-in, keep-out, any-none, any-each, below-in, below-out, getD-in, same-eq, same-refl}
-use Rattle.theory_graph.proofs.Literals.{lit-var}
-use Rattle.theory_graph.proofs.Split.{by-bool}
+use Rattle.theory_graph.proofs.{map-in, map-out, each-in, each-out, keep-in, keep-out, any-none, any-each, below-in, below-out, getD-in}
+use Rattle.theory_graph.proofs.{same-eq, same-refl, lit-var, by-bool}
 
 -- ---- one cell
 

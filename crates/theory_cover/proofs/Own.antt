@@ -1,12 +1,9 @@
--- The choice for an input's positive phase: its own net, at the input's arrival. Assumes nothing.
-use Prim.Native.Nat.{ℕ}
-use mathlib.Core.Path.{_≡_, refl, sym, subst}
-use mathlib.Core.Bool.{false}
-use mathlib.Core.List.{List, [], _∷_, List·Memᴰ, List·Memᴰ·head, List·Memᴰ·not-nil, List·Memᴰ·eq-of-singleton}
-use Rattle.model.specs.Graph.{Graph, placingOrder, varOf}
-use Rattle.model.specs.Choice.{feeds, absent, chosen}
-use Rattle.model.specs.Cover.{IsOwn, output, fed, directly, through, Cover}
-use Rattle.model.specs.Demands.{Distinct}
+-- The choice for an input's positive phase: its own net, at the input's arrival.
+use Rattle.base.specs.{ℕ, _≡_, refl, sym, subst, false, List, [], _∷_, List·Memᴰ, List·Memᴰ·head, List·Memᴰ·not-nil}
+use Rattle.base.specs.{List·Memᴰ·eq-of-singleton}
+use Rattle.model.specs.Graph.{Graph}
+use Rattle.model.specs.{placingOrder, varOf, feeds, absent, chosen, IsOwn, output, fed, directly, through, Distinct}
+use Rattle.model.specs.Cover.{Cover}
 use Rattle.model.specs.declared.Cell.{Cell}
 use Rattle.model.specs.declared.Source.the-variants.{Input}
 use Rattle.theory_cover.proofs.Covers.{own-only, covers-timed}

@@ -1,18 +1,9 @@
--- Lists compared left to right, and lists whose elements ascend. Assumes nothing.
-use Prim.Native.Nat.{ℕ, zero, suc, _≤_, _<_, compare, Ordering, Ordering·lt, Ordering·eq, Ordering·gt}
-use native.Mathlib.Nat.{lt-trans}
-use native.Mathlib.Omega.{arith}
-use mathlib.Core.Path.{_≡_, refl, sym, _∙_, subst}
-use mathlib.Core.Logic.{⊎-elim}
-use mathlib.Core.Bool.{Bool, not}
-use mathlib.Core.List.{List, [], _∷_, _++_, map, List·Memᴰ, List·Memᴰ·head, List·Memᴰ·tail, List·Memᴰ·append-cases}
-use lib.Dec.{T, isLe, isEq, eqb-refl, le→leb}
-use mir.Facts.{no-eqb}
-use Rattle.model.specs.Base.{keep, each, from, below}
-use Rattle.model.specs.Cuts.{after, compareLeaves}
-use Rattle.theory_graph.proofs.Lists.{map-out, keep-out, each-out, by-eqb}
-use Rattle.theory_graph.proofs.Split.{by-bool}
-use Rattle.theory_graph.proofs.Distinct.{from-low}
+-- Lists compared left to right, and lists whose elements ascend.
+use Rattle.base.specs.{ℕ, zero, suc, _≤_, _<_, compare, Ordering, Ordering·lt, Ordering·eq, Ordering·gt, lt-trans, arith, _≡_, refl, sym}
+use Rattle.base.specs.{_∙_, subst, ⊎-elim, Bool, not, List, [], _∷_, _++_, map, List·Memᴰ, List·Memᴰ·head, List·Memᴰ·tail}
+use Rattle.base.specs.{List·Memᴰ·append-cases, T, isLe, isEq, eqb-refl, le→leb, no-eqb}
+use Rattle.model.specs.{keep, each, from, below, after, compareLeaves}
+use Rattle.theory_graph.proofs.{map-out, keep-out, each-out, by-eqb, by-bool, from-low}
 
 -- ---- lists compared left to right
 

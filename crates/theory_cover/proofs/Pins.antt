@@ -2,24 +2,13 @@
 --     fits-iff                    a cell fits a function under an order and a mask: places below the leaves, a mask without high bits, and in all 16
 --                                 rows the function's value is the cell's at its pins' values
 --     match-iff                   the same of a cut's function in a phase, by the walk from the root down
--- Assumes nothing.
-use Prim.Native.Nat.{ℕ, zero, suc, _/_, _%_, _^_, _≤_, _<_}
-use native.Mathlib.Nat.{le-of-suc-le-suc, not-suc-le-zero}
-use native.Mathlib.Omega.{arith}
-use mathlib.Core.Path.{_≡_, refl, sym, _∙_, ap, subst}
-use mathlib.Core.Logic.{_↔_}
-use mathlib.Core.Bool.{Bool, true, false, not, cond, _&&_, Bool·beq, true≢false, false≢true}
-use mathlib.Core.List.{List, [], _∷_, map}
-use lib.Dec.{T, ltb, ltb→lt, lt→ltb}
-use lib.ListN.{length, take, getD}
-use mir.Facts.{and-yes, yes-and, eqb-no}
-use Rattle.model.specs.Base.{all, bit, flip, from, below}
-use Rattle.model.specs.Table.{value, rowOf, pinRow}
+use Rattle.base.specs.{ℕ, zero, suc, _/_, _%_, _^_, _≤_, _<_, le-of-suc-le-suc, not-suc-le-zero, arith, _≡_, refl, sym, _∙_, ap, subst, _↔_}
+use Rattle.base.specs.{Bool, true, false, not, cond, _&&_, Bool·beq, true≢false, false≢true, List, [], _∷_, map, T, ltb, ltb→lt, lt→ltb}
+use Rattle.base.specs.{length, take, getD, and-yes, yes-and, eqb-no}
+use Rattle.model.specs.{all, bit, flip, from, below, value, rowOf, pinRow, walk, cutTable, phaseTable, placesFit, rowsAgree, fits}
 use Rattle.model.specs.Graph.{Graph, span}
-use Rattle.model.specs.Cuts.{walk, cutTable}
-use Rattle.model.specs.Matching.{phaseTable, placesFit, rowsAgree, fits}
 use Rattle.model.specs.declared.Cell.{Cell}
-use Rattle.theory_graph.proofs.Lists.{all-of, all-in, below-in, below-out}
+use Rattle.theory_graph.proofs.{all-of, all-in, below-in, below-out}
 use Rattle.theory_cover.proofs.Gates.{bit-tabulate, two-pow, tabulate-lt, phase-bit, beq-eq}
 
 -- "pin j fed from its place, complemented where mask bit j is 1"

@@ -1,39 +1,28 @@
 -- The choice by 01's order of preference: the chosen source of a placed phase is allowed and timed by the rule, and no allowed source whose
--- pins have sources comes before it. Assumes nothing.
-use Prim.Native.Nat.{ℕ, suc, _+_, _^_, _≤_, _<_}
-use native.Mathlib.Nat.{le-refl, zero-add}
-use native.Mathlib.Omega.{arith}
-use mathlib.Core.Path.{_≡_, refl, sym, _∙_, ap, subst}
-use mathlib.Core.Bool.{Bool, true, false, not, cond, _&&_}
-use mathlib.Core.List.{List, [], _∷_, _++_, map, List·Memᴰ, List·Memᴰ·head, List·Memᴰ·tail}
-use lib.Dec.{T, ltb, ltb→lt, nltb→le}
-use lib.ListN.{length, getD}
-use Rattle.model.specs.Base.{keep, below, same}
-use Rattle.model.specs.Table.{orders}
-use Rattle.model.specs.Cells.{cellAt, isInverter, noCell}
-use Rattle.model.specs.Graph.{Graph, placingOrder, varOf, negated, opposite}
-use Rattle.model.specs.Cuts.{cutsOf, cutTable}
-use Rattle.model.specs.Matching.{phaseTable, fits}
-use Rattle.model.specs.Choice.{Phases, feeds, latest, absent, earlier, choose, matchPhase, cellMatches, cutMatches, cutPhases, matchPhases, inverterPhases, direct, chosen, rank, preference}
-use Rattle.model.specs.Cover.{IsMatch, IsOwn, IsInverting, Allowed, arrivalBy}
-use Rattle.model.specs.Demands.{Distinct, Preferred}
+-- pins have sources comes before it.
+use Rattle.base.specs.{ℕ, suc, _+_, _^_, _≤_, _<_, le-refl, zero-add, arith, _≡_, refl, sym, _∙_, ap, subst, Bool, true, false, not, cond}
+use Rattle.base.specs.{_&&_, List, [], _∷_, _++_, map, List·Memᴰ, List·Memᴰ·head, List·Memᴰ·tail, T, ltb, ltb→lt, nltb→le, length, getD}
+use Rattle.model.specs.{keep, below, same, orders, cellAt, isInverter, noCell, placingOrder, varOf, negated, opposite, cutsOf, cutTable}
+use Rattle.model.specs.{phaseTable, fits, Phases, feeds, latest, absent, earlier, choose, matchPhase, cellMatches, cutMatches, cutPhases}
+use Rattle.model.specs.{matchPhases, inverterPhases, direct, chosen, rank, preference, IsMatch, IsOwn, IsInverting, Allowed, arrivalBy}
+use Rattle.model.specs.{Distinct, Preferred}
+use Rattle.model.specs.Graph.{Graph}
 use Rattle.model.specs.declared.Cell.{Cell}
 use Rattle.model.specs.declared.Match.{Match}
 use Rattle.model.specs.declared.Phase.{Phase}
 use Rattle.model.specs.declared.Source.{Source}
 use Rattle.model.specs.declared.Source.the-variants.{Input, Cell as Matched, Inverter as Inverted, Nothing}
 use Rattle.theory_graph.specs.Accepted.{Accepted}
-use Rattle.theory_graph.proofs.Lists.{map-out}
-use Rattle.theory_graph.proofs.Nodes.{node-input}
-use Rattle.theory_graph.proofs.Placing.{order-once}
-use Rattle.theory_graph.proofs.Runs.{along}
-use Rattle.theory_cover.proofs.Pairs.{UpTo, short, less, even, up-refl, up-trans, up-head, up-cons, up-not-after, Pairwise, pairwise-append, pairwise-keep, pairwise-map, pairwise-each, below-ascends}
-use Rattle.theory_cover.proofs.Matches.{cellMatches-out, cutMatches-out, cutPhases-out, matchPhases-out, cutFor, match-tried, matchPhase-in, matchPhase-out, invertedPhase, inverter-in, inverter-out}
+use Rattle.theory_graph.proofs.{map-out, node-input, order-once, along, by-bool}
+use Rattle.theory_cover.proofs.Pairs.{UpTo, short, less, even, up-refl, up-trans, up-head, up-cons, up-not-after, Pairwise}
+use Rattle.theory_cover.proofs.Pairs.{pairwise-append, pairwise-keep, pairwise-map, pairwise-each, below-ascends}
+use Rattle.theory_cover.proofs.Matches.{cellMatches-out, cutMatches-out, cutPhases-out, matchPhases-out, cutFor, match-tried}
+use Rattle.theory_cover.proofs.Matches.{matchPhase-in, matchPhase-out, invertedPhase, inverter-in, inverter-out}
 use Rattle.theory_cover.proofs.Covers.{Straight}
 use Rattle.theory_cover.proofs.Earliest.{latest-one, arrival-matched, arrival-inverted, match-direct}
-use Rattle.theory_cover.proofs.Sound.{Between, the-first, the-second, earlier-between, choose-in, match-known, match-times, own-fine, chosen-fine}
+use Rattle.theory_cover.proofs.Sound.{Between, the-first, the-second, earlier-between, choose-in, match-known, match-times, own-fine}
+use Rattle.theory_cover.proofs.Sound.{chosen-fine}
 use Rattle.theory_cover.proofs.Turns.{phasesKnown, own, chosen-entry, opposite-entry}
-use Rattle.theory_graph.proofs.Split.{by-bool}
 
 -- ---- the first of the earliest is the least, in a list that ascends in rank
 

@@ -1,25 +1,15 @@
 -- The chosen phases timed under other pin delays: what `retimed` computes follows the rule at every phase that is chosen a source, and
--- smaller delays give no later arrivals. Assumes nothing.
-use Prim.Native.Nat.{ℕ, suc, _≤_}
-use native.Mathlib.Nat.{le-refl, le-trans, le-of-eq}
-use native.Mathlib.Omega.{arith}
-use mathlib.Core.Path.{_≡_, refl, sym, _∙_, ap, ap₂, subst}
-use mathlib.Core.Bool.{Bool, true, false, not, cond, true≢false}
-use mathlib.Core.List.{List, [], _∷_, _++_, map, List·Memᴰ, List·Memᴰ·head, List·Memᴰ·tail, List·Memᴰ·eq-of-singleton, Memᴰ·cast}
-use lib.ListN.{getD}
-use Rattle.model.specs.Base.{find, run}
-use Rattle.model.specs.Graph.{Graph, placingOrder, varOf, negated, literal, opposite}
-use Rattle.model.specs.Cuts.{cutsOf}
-use Rattle.model.specs.Choice.{feeds, cellOf, latest, chosen}
-use Rattle.model.specs.Cover.{Allowed, arrivalBy}
-use Rattle.model.specs.Timing.{Times, noTimes, timeOf, ownTime, turnedTime, timesAt, retimes, retimed}
-use Rattle.model.specs.Demands.{Distinct}
+-- smaller delays give no later arrivals.
+use Rattle.base.specs.{ℕ, suc, _≤_, le-refl, le-trans, le-of-eq, arith, _≡_, refl, sym, _∙_, ap, ap₂, subst, Bool, true, false, not, cond}
+use Rattle.base.specs.{true≢false, List, [], _∷_, _++_, map, List·Memᴰ, List·Memᴰ·head, List·Memᴰ·tail, List·Memᴰ·eq-of-singleton}
+use Rattle.base.specs.{Memᴰ·cast, getD}
+use Rattle.model.specs.{find, run, placingOrder, varOf, negated, literal, opposite, cutsOf, feeds, cellOf, latest, chosen, Allowed}
+use Rattle.model.specs.{arrivalBy, Times, noTimes, timeOf, ownTime, turnedTime, timesAt, retimes, retimed, Distinct}
+use Rattle.model.specs.Graph.{Graph}
 use Rattle.model.specs.declared.Cell.{Cell}
 use Rattle.model.specs.declared.Source.{Source}
 use Rattle.model.specs.declared.Source.the-variants.{Input, Cell as Matched, Inverter as Inverted, Nothing}
-use Rattle.theory_graph.proofs.Lists.{map-same}
-use Rattle.theory_graph.proofs.Literals.{opposite-var, lit-whole}
-use Rattle.theory_graph.proofs.Runs.{along, no-twice-behind, run-stays, run-entry, run-split}
+use Rattle.theory_graph.proofs.{map-same, opposite-var, lit-whole, along, no-twice-behind, run-stays, run-entry, run-split}
 use Rattle.theory_cover.proofs.Turns.{chosen-none}
 use Rattle.theory_cover.proofs.Covers.{Straight}
 use Rattle.theory_cover.proofs.Sound.{Present, chosen-fine, straight-before}

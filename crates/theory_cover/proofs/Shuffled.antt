@@ -1,32 +1,19 @@
 -- Covers do not know the order of the cell lines: a cover over one library is a cover over any other that holds its cells, with the same
--- needed phases and the same arrivals. So the earliest arrivals agree. Assumes nothing.
-use Prim.Native.Nat.{ℕ, zero, suc, _≤_, _<_}
-use native.Mathlib.Nat.{le-refl, le-antisymm, lt-of-not-le}
-use native.Mathlib.Decide.{decLe}
-use native.Mathlib.Omega.{arith}
-use mathlib.Core.Path.{_≡_, refl, sym, _∙_, ap, subst}
-use mathlib.Core.Logic.{_↔_}
-use mathlib.Core.Bool.{false, true≢false}
-use mathlib.Core.List.{List, [], _∷_, List·Memᴰ, List·Memᴰ·head, List·Memᴰ·tail, List·Memᴰ·eq-of-singleton}
-use lib.ListN.{length, getD}
-use Rattle.model.specs.Cells.{cellAt, noCell}
-use Rattle.model.specs.Graph.{Graph, varOf}
-use Rattle.model.specs.Cuts.{cutsOf, cutAt}
-use Rattle.model.specs.Table.{orders}
-use Rattle.model.specs.Matching.{fedNets, matchNets}
-use Rattle.model.specs.Choice.{feeds, cellOf, absent, chosen}
-use Rattle.model.specs.Cover.{Allowed, Needed, output, fed, Feeds, directly, through, arrivalBy, Cover, CoverArrivals}
-use Rattle.model.specs.ShuffleDemands.{EarliestAt, SameCells}
+-- needed phases and the same arrivals. So the earliest arrivals agree.
+use Rattle.base.specs.{ℕ, zero, suc, _≤_, _<_, le-refl, le-antisymm, lt-of-not-le, decLe, arith, _≡_, refl, sym, _∙_, ap, subst, _↔_, false}
+use Rattle.base.specs.{true≢false, List, [], _∷_, List·Memᴰ, List·Memᴰ·head, List·Memᴰ·tail, List·Memᴰ·eq-of-singleton, length, getD}
+use Rattle.model.specs.{cellAt, noCell, varOf, cutsOf, cutAt, orders, fedNets, matchNets, feeds, cellOf, absent, chosen, Allowed, Needed}
+use Rattle.model.specs.{output, fed, Feeds, directly, through, arrivalBy, CoverArrivals, EarliestAt, SameCells}
+use Rattle.model.specs.Graph.{Graph}
+use Rattle.model.specs.Cover.{Cover}
 use Rattle.model.specs.declared.Cell.{Cell}
 use Rattle.model.specs.declared.Match.{Match}
 use Rattle.model.specs.declared.Source.{Source}
 use Rattle.model.specs.declared.Source.the-variants.{Input, Cell as Matched, Inverter as Inverted, Nothing}
 use Rattle.theory_graph.specs.Accepted.{Accepted}
-use Rattle.theory_graph.proofs.Lists.{getD-in}
+use Rattle.theory_graph.proofs.{getD-in, order-once, by-bool}
 use Rattle.theory_cover.proofs.Demand3.{choice-earliest, covered-present, present-covered}
 use Rattle.theory_cover.proofs.Sound.{chosen-cover, chosen-timed}
-use Rattle.theory_graph.proofs.Placing.{order-once}
-use Rattle.theory_graph.proofs.Split.{by-bool}
 
 -- the line of a cell
 pub record LineOf (c : Cell) (cells : List Cell) : Type 0 where

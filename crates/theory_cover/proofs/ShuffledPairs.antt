@@ -1,17 +1,9 @@
--- Libraries of the same cells form the same pairs: "Where pairs are formed, both libraries form theirs." Assumes nothing.
-use Prim.Native.Nat.{ℕ, _<_}
-use mathlib.Core.Path.{_≡_, sym, _∙_, ap, ap₂}
-use mathlib.Core.Logic.{⊎-elim}
-use mathlib.Core.Bool.{Bool, true, false}
-use mathlib.Core.List.{List, map, List·Memᴰ, List·Memᴰ·append-cases, Memᴰ·append-left, Memᴰ·append-right}
-use lib.Dec.{T}
-use lib.ListN.{length, getD}
-use Rattle.model.specs.Base.{keep, below}
-use Rattle.model.specs.Cells.{cellAt, noCell}
-use Rattle.model.specs.Pairs.{pairOf, joins, pairsOf, cellOfPair, withPairs, cellsFor}
-use Rattle.model.specs.ShuffleDemands.{SameCells}
+-- Libraries of the same cells form the same pairs: "Where pairs are formed, both libraries form theirs."
+use Rattle.base.specs.{ℕ, _<_, _≡_, sym, _∙_, ap, ap₂, ⊎-elim, Bool, true, false, List, map, List·Memᴰ, List·Memᴰ·append-cases}
+use Rattle.base.specs.{Memᴰ·append-left, Memᴰ·append-right, T, length, getD}
+use Rattle.model.specs.{keep, below, cellAt, noCell, pairOf, joins, pairsOf, cellOfPair, withPairs, cellsFor, SameCells}
 use Rattle.model.specs.declared.Cell.{Cell}
-use Rattle.theory_graph.proofs.Lists.{map-in, map-out, each-in, each-out, keep-in, keep-out, below-in, below-out, getD-in}
+use Rattle.theory_graph.proofs.{map-in, map-out, each-in, each-out, keep-in, keep-out, below-in, below-out, getD-in}
 use Rattle.theory_cover.proofs.Shuffled.{line-of, swapped}
 
 -- what a pair is, with no word of lines

@@ -1,36 +1,24 @@
--- The other half of demand 3 at the choice: where a phase is chosen a source, the chosen sources are a cover of it. Assumes nothing.
-use Prim.Native.Nat.{ℕ, _+_, _≤_, _<_}
-use native.Mathlib.Nat.{zero-add}
-use native.Mathlib.Omega.{arith}
-use mathlib.Core.Path.{_≡_, refl, sym, _∙_, ap, ap₂, subst}
-use mathlib.Core.Logic.{_⊎_, inl, inr, _↔_, ⊎-elim}
-use mathlib.Core.Bool.{Bool, true, false, not, cond, true≢false, false≢true}
-use mathlib.Core.List.{List, [], _∷_, _++_, map, List·Memᴰ, List·Memᴰ·head, List·Memᴰ·tail, List·Memᴰ·not-nil, List·Memᴰ·eq-of-singleton, Memᴰ·cast}
-use lib.Dec.{T, ltb, ltb→lt}
-use lib.ListN.{getD}
-use mir.Facts.{no-ltb}
-use Rattle.model.specs.Cells.{cellAt, noCell}
-use Rattle.model.specs.Graph.{Graph, Node, constant, input, undefined, both, node, placingOrder, varOf, negated, opposite}
-use Rattle.model.specs.Cuts.{cutsOf}
-use Rattle.model.specs.Matching.{matchNets}
-use Rattle.model.specs.Choice.{Phases, noPhase, feeds, latest, absent, earlier, choose, phaseOf, matchPhase, matchPhases, inverterPhases, direct, chosen}
-use Rattle.model.specs.Cover.{IsMatch, Allowed, Needed, output, fed, Feeds, directly, through, arrivalBy, Cover, CoverArrivals}
-use Rattle.model.specs.Demands.{Distinct}
+-- The other half of demand 3 at the choice: where a phase is chosen a source, the chosen sources are a cover of it.
+use Rattle.base.specs.{ℕ, _+_, _≤_, _<_, zero-add, arith, _≡_, refl, sym, _∙_, ap, ap₂, subst, _⊎_, inl, inr, _↔_, ⊎-elim, Bool, true}
+use Rattle.base.specs.{false, not, cond, true≢false, false≢true, List, [], _∷_, _++_, map, List·Memᴰ, List·Memᴰ·head, List·Memᴰ·tail}
+use Rattle.base.specs.{List·Memᴰ·not-nil, List·Memᴰ·eq-of-singleton, Memᴰ·cast, T, ltb, ltb→lt, getD, no-ltb}
+use Rattle.model.specs.{cellAt, noCell, Node, constant, input, undefined, both, node, placingOrder, varOf, negated, opposite, cutsOf}
+use Rattle.model.specs.{matchNets, Phases, noPhase, feeds, latest, absent, earlier, choose, phaseOf, matchPhase, matchPhases}
+use Rattle.model.specs.{inverterPhases, direct, chosen, IsMatch, Allowed, Needed, output, fed, Feeds, directly, through, arrivalBy}
+use Rattle.model.specs.{CoverArrivals, Distinct}
+use Rattle.model.specs.Graph.{Graph}
+use Rattle.model.specs.Cover.{Cover}
 use Rattle.model.specs.declared.Cell.{Cell}
 use Rattle.model.specs.declared.Match.{Match}
 use Rattle.model.specs.declared.Phase.{Phase}
 use Rattle.model.specs.declared.Source.{Source}
 use Rattle.model.specs.declared.Source.the-variants.{Input, Cell as Matched, Inverter as Inverted, Nothing}
-use Rattle.theory_graph.proofs.Lists.{is-true, map-map, map-same}
-use Rattle.theory_graph.proofs.Literals.{opposite-var, opposite-neg}
-use Rattle.theory_graph.proofs.Runs.{along}
-use Rattle.theory_graph.proofs.Nodes.{input-out}
-use Rattle.theory_graph.proofs.CutFacts.{leaves-before, leaves-closed}
+use Rattle.theory_graph.proofs.{is-true, map-map, map-same, opposite-var, opposite-neg, along, input-out, leaves-before, leaves-closed}
+use Rattle.theory_graph.proofs.{by-bool}
 use Rattle.theory_cover.proofs.Turns.{phasesKnown, chosen-known, own, chosen-entry, opposite-entry, chosen-none}
 use Rattle.theory_cover.proofs.Matches.{cutFor, cut-listed, match-out, matched-leaf, matchPhase-out, InverterPhase, inverter-out}
 use Rattle.theory_cover.proofs.Covers.{Straight}
 use Rattle.theory_cover.proofs.Earliest.{latest-one, arrival-matched, arrival-inverted, nothing-uncovered}
-use Rattle.theory_graph.proofs.Split.{by-bool}
 
 -- ---- what is chosen is one of those tried
 

@@ -1,21 +1,12 @@
--- The choice of the earliest, and what is known when a variable's turn comes. Assumes nothing.
-use Prim.Native.Nat.{ℕ, _≤_, _<_}
-use native.Mathlib.Nat.{le-trans}
-use native.Mathlib.Omega.{arith}
-use mathlib.Core.Path.{_≡_, refl, _∙_, ap, subst}
-use mathlib.Core.Bool.{Bool, true, false, not, cond, Bool·not-not}
-use mathlib.Core.List.{List, [], _∷_, _++_, List·Memᴰ, List·Memᴰ·head, List·Memᴰ·tail}
-use lib.Dec.{ltb, ltb→lt, nltb→le}
-use Rattle.model.specs.Base.{find, run}
-use Rattle.model.specs.Graph.{Graph, node, placingOrder, varOf, negated, opposite}
-use Rattle.model.specs.Cuts.{cutsOf}
-use Rattle.model.specs.Choice.{Phases, noPhases, noPhase, absent, earlier, choose, phaseOf, inverterPhases, direct, joined, choices, chosen}
-use Rattle.model.specs.Demands.{Distinct}
+-- The choice of the earliest, and what is known when a variable's turn comes.
+use Rattle.base.specs.{ℕ, _≤_, _<_, le-trans, arith, _≡_, refl, _∙_, ap, subst, Bool, true, false, not, cond, Bool·not-not, List, [], _∷_}
+use Rattle.base.specs.{_++_, List·Memᴰ, List·Memᴰ·head, List·Memᴰ·tail, ltb, ltb→lt, nltb→le}
+use Rattle.model.specs.{find, run, node, placingOrder, varOf, negated, opposite, cutsOf, Phases, noPhases, noPhase, absent, earlier, choose}
+use Rattle.model.specs.{phaseOf, inverterPhases, direct, joined, choices, chosen, Distinct}
+use Rattle.model.specs.Graph.{Graph}
 use Rattle.model.specs.declared.Cell.{Cell}
 use Rattle.model.specs.declared.Phase.{Phase}
-use Rattle.theory_graph.proofs.Literals.{opposite-var, opposite-neg}
-use Rattle.theory_graph.proofs.Runs.{no-twice-behind, run-stays, run-entry, run-split}
-use Rattle.theory_graph.proofs.Split.{by-bool}
+use Rattle.theory_graph.proofs.{opposite-var, opposite-neg, no-twice-behind, run-stays, run-entry, run-split, by-bool}
 
 -- ---- the choice of the earliest
 

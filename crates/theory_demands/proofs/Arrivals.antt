@@ -1,39 +1,23 @@
 -- The arrivals of the printed nets under any choice of pin delays: they exist, and any are those of the phases. With the `d` delays these are the chosen
--- ones, with any others what `retimed` computes. Assumes nothing.
-use Prim.Native.Nat.{ℕ, zero, suc, _+_, _-_, _≤_, _<_, max}
-use native.Mathlib.Omega.{arith}
-use mathlib.Core.Path.{_≡_, refl, sym, _∙_, ap, ap₂, subst}
-use mathlib.Core.Bool.{Bool, false, cond, true≢false}
-use mathlib.Core.List.{List, [], _∷_, map, List·Memᴰ, List·Memᴰ·head, List·Memᴰ·tail, head-eq-of-cons-eq, tail-eq-of-cons-eq}
-use lib.Dec.{ltb}
-use lib.ListN.{length, take, drop, getD, length-take, length-drop}
-use mir.Facts.{yes-ltb, no-ltb}
-use Rattle.model.specs.Cells.{cellAt}
-use Rattle.model.specs.Pairs.{splice, pairPins, pairDelays, pairOf, cellOfPair}
-use Rattle.model.specs.Graph.{Graph, varOf, literal}
-use Rattle.model.specs.Cuts.{cutsOf}
-use Rattle.model.specs.Choice.{feeds, cellOf, latest, absent, chosen}
-use Rattle.model.specs.Cover.{IsOwn, arrivalBy}
-use Rattle.model.specs.Netlist.{Gate, isOwn, netName}
-use Rattle.model.specs.Timing.{retimed}
-use Rattle.model.specs.Blif.{GateLine, named, Delays, NetTimes, NetArrivals}
+-- ones, with any others what `retimed` computes.
+use Rattle.base.specs.{ℕ, zero, suc, _+_, _-_, _≤_, _<_, max, arith, _≡_, refl, sym, _∙_, ap, ap₂, subst, Bool, false, cond, true≢false}
+use Rattle.base.specs.{List, [], _∷_, map, List·Memᴰ, List·Memᴰ·head, List·Memᴰ·tail, head-eq-of-cons-eq, tail-eq-of-cons-eq, ltb, length}
+use Rattle.base.specs.{take, drop, getD, length-take, length-drop, yes-ltb, no-ltb}
+use Rattle.model.specs.{cellAt, splice, pairPins, pairDelays, pairOf, cellOfPair, varOf, literal, cutsOf, feeds, cellOf, latest, absent}
+use Rattle.model.specs.{chosen, IsOwn, arrivalBy, Gate, isOwn, netName, retimed, GateLine, named, Delays, NetTimes, NetArrivals}
+use Rattle.model.specs.Graph.{Graph}
 use Rattle.model.specs.declared.Cell.{Cell}
 use Rattle.model.specs.declared.Source.{Source}
 use Rattle.model.specs.declared.Source.the-variants.{Input, Cell as Matched, Inverter as Inverted, Nothing}
-use Rattle.theory_graph.proofs.Lists.{map-map, map-same, is-true, is-false}
-use Rattle.theory_graph.proofs.Literals.{lit-var}
-use Rattle.theory_graph.proofs.Distinct.{length-map}
+use Rattle.theory_graph.proofs.{map-map, map-same, is-true, is-false, lit-var, length-map, order-once}
 use Rattle.theory_graph.specs.Accepted.{Accepted}
-use Rattle.theory_graph.proofs.Placing.{order-once}
-use Rattle.theory_cover.proofs.Sound.{chosen-fine}
-use Rattle.theory_cover.proofs.Own.{own-chosen, own-arrival}
-use Rattle.theory_cover.proofs.Retime.{timeBy, retimed-rule}
-use Rattle.theory_cover.proofs.Joined.{pair-latest}
-use Rattle.theory_text.proofs.ReadBack.{lineOf, blifOf}
-use Rattle.theory_text.proofs.Names.{cell-form, library-cell}
+use Rattle.theory_cover.proofs.{chosen-fine, own-chosen, own-arrival, timeBy, retimed-rule, pair-latest}
+use Rattle.theory_text.proofs.{lineOf, blifOf, cell-form, library-cell}
 use Rattle.theory_demands.proofs.Numbered.{Numbered, single, double, Fitting}
-use Rattle.theory_demands.proofs.Settled.{splice-length, rootCell, innerCell, fedPin, cellGate, innerGate, rootGate, whole-single, whole-double, single-bound, inner-bound, root-bound}
-use Rattle.theory_demands.proofs.Gates.{sourceOf, numberAt, fedAt, NeedsOf, Gates, OfCell, of-cell, number-of, chosenGates, present, input-bound, own-value, own-source, own-net}
+use Rattle.theory_demands.proofs.Settled.{splice-length, rootCell, innerCell, fedPin, cellGate, innerGate, rootGate, whole-single}
+use Rattle.theory_demands.proofs.Settled.{whole-double, single-bound, inner-bound, root-bound}
+use Rattle.theory_demands.proofs.Gates.{sourceOf, numberAt, fedAt, NeedsOf, Gates, OfCell, of-cell, number-of, chosenGates, present}
+use Rattle.theory_demands.proofs.Gates.{input-bound, own-value, own-source, own-net}
 use Rattle.theory_demands.proofs.Nets.{made, nets-are, the, the-phase, the-lines, the-wires}
 
 -- ---- the delays of a phase's gates together

@@ -1,44 +1,28 @@
 -- Two channels: what the channels' needs say of the calls alone, that words beyond the need change no outcome, that neither channel's outcome depends on the
--- other's texts, and the demands for each. Assumes nothing.
-use Prim.Native.Nat.{ℕ, _+_, _≤_, _<_}
-use native.Mathlib.Nat.{le-refl, lt-of-not-le}
-use native.Mathlib.Decide.{decLe}
-use native.Mathlib.Omega.{arith}
-use mathlib.Core.Path.{_≡_, refl, sym, _∙_, ap, ap₂, subst}
-use mathlib.Core.Bool.{Bool, true, false, not, false≢true, cond}
-use mathlib.Core.List.{List}
-use mathlib.Core.Logic.{_⊎_, inl, inr, ⊎-elim, _↔_}
-use lib.Dec.{T, leb, le→leb, leb→le}
-use lib.ListN.{length, replicate}
-use mir.Facts.{leb-yes, leb-no}
-use Rattle.model.specs.Limits.{need}
-use Rattle.model.specs.Reading.{Read, holds, fault, next, unless}
-use Rattle.model.specs.GraphText.{readHeader, readGraph}
-use Rattle.model.specs.ArrivalsText.{readArrivals, timedBy}
+-- other's texts, and the demands for each.
+use Rattle.base.specs.{ℕ, _+_, _≤_, _<_, le-refl, lt-of-not-le, decLe, arith, _≡_, refl, sym, _∙_, ap, ap₂, subst, Bool, true, false, not}
+use Rattle.base.specs.{false≢true, cond, List, _⊎_, inl, inr, ⊎-elim, _↔_, T, leb, le→leb, leb→le, length, replicate, leb-yes, leb-no}
+use Rattle.model.specs.{need, Read, holds, fault, next, unless, readHeader, readGraph, readArrivals, timedBy, Outcome, refused, mapped}
+use Rattle.model.specs.{mapGraph, followed, Call, Design, designOf, short, readListed, readTexts, within, mapDesign, mapTexts, answerOf}
+use Rattle.model.specs.{returnedBy, triedEarly, workAfter, Channel, TwoCall, alone, needOf, Needs, needsOf, Outcomes, mapNeeds, mapTwo}
+use Rattle.model.specs.{answersOf, twoWorkAfter, AlikeTexts}
 use Rattle.model.specs.Graph.{Graph}
-use Rattle.model.specs.Netlist.{Outcome, refused, mapped, mapGraph}
-use Rattle.model.specs.Timing.{followed}
-use Rattle.model.specs.Mapper.{Call, Design, designOf, short, readListed, readTexts, within, mapDesign, mapTexts, answerOf, returnedBy, triedEarly, workAfter}
-use Rattle.model.specs.Channels.{Channel, TwoCall, alone, needOf, Needs, needsOf, Outcomes, mapNeeds, mapTwo, answersOf, twoWorkAfter}
-use Rattle.model.specs.Demands.{Means, AlikeTexts}
-use Rattle.promises.specs.Promised.{Fits, Promised}
-use Rattle.promises.specs.TwoDemands.{Alone, TogetherRefused, Neither, Independent, Each, onText, TwinChannels, AlikeChannels, EitherEndTwo, TwoPromised}
+use Rattle.model.specs.Demands.{Means}
 use Rattle.model.specs.declared.Cell.{Cell}
 use Rattle.model.specs.declared.Header.{Header}
 use Rattle.model.specs.declared.Figures.{Figures}
-use Rattle.theory_graph.proofs.Lists.{is-true}
-use Rattle.theory_text.proofs.Steps.{holds-once, fault-never, unless-out, next-out}
-use Rattle.theory_text.proofs.Faults.{Faults, in-holds, in-unless, in-next, listed-faults, header-faults, graph-faults, arrivals-faults}
-use Rattle.theory_text.proofs.Arrivals.{texts-listed}
-use Rattle.theory_text.proofs.Ends.{demand-ends}
-use Rattle.theory_text.proofs.Former.{demand-former}
-use Rattle.theory_refusals.proofs.OutcomeForms.{demand-refusals}
-use Rattle.theory_text.proofs.Outcomes.{refused-never}
+use Rattle.promises.specs.{Fits, Alone, TogetherRefused, Neither, Independent, Each, onText, TwinChannels, AlikeChannels, EitherEndTwo}
+use Rattle.promises.specs.{TwoPromised}
+use Rattle.promises.specs.Promised.{Promised}
+use Rattle.theory_graph.proofs.{is-true, by-bool, by-read}
+use Rattle.theory_text.proofs.{holds-once, fault-never, unless-out, next-out, in-holds, in-unless, in-next, listed-faults, header-faults}
+use Rattle.theory_text.proofs.{graph-faults, arrivals-faults, texts-listed, demand-ends, demand-former, refused-never}
+use Rattle.theory_text.proofs.Faults.{Faults}
+use Rattle.theory_refusals.proofs.{demand-refusals}
 use Rattle.theory_demands.proofs.Refusals.{Refusal, within-refusal, followed-refusal, map-refusal}
 use Rattle.theory_demands.proofs.Sequence.{demand-sequenced}
 use Rattle.theory_demands.proofs.Demanded.{demand-values, demand-earliest, demand-untimed, demand-twins, decided}
 use Rattle.theory_demands.proofs.Shuffles.{demand-shuffles}
-use Rattle.theory_graph.proofs.Split.{by-bool, by-read}
 
 -- a refusal, whatever was to be read
 other : {A B : Type 0} → Read A → Read B

@@ -1,54 +1,34 @@
 -- The demands hold, for every library text, graph text and lent lengths: each type of `model`'s Demands page by a named theorem.
--- Assumes nothing.
-use Prim.Native.Nat.{ℕ, _≤_, _<_}
-use native.Mathlib.Nat.{le-trans, le-of-eq}
-use native.Mathlib.Omega.{arith}
-use mathlib.Core.Path.{_≡_, refl, sym, _∙_, ap, subst}
-use mathlib.Core.Logic.{_⊎_, inl, inr, _↔_}
-use mathlib.Core.Bool.{Bool, true, false, cond}
-use mathlib.Core.Option.{Option, some}
-use mathlib.Core.List.{List, [], _∷_, _++_, map, append-nil, List·Memᴰ, List·Memᴰ·append-cases, Memᴰ·append-left}
-use lib.Dec.{T, leb, leb→le, le→leb}
-use lib.ListN.{length, getD}
-use Rattle.model.specs.Reading.{holds}
-use Rattle.model.specs.Cells.{nameOf}
-use Rattle.model.specs.Base.{each, flip, below}
-use Rattle.model.specs.Graph.{And, Graph, literal, varOf, negated, literalValue, valueOf}
-use Rattle.model.specs.Choice.{absent, chosen}
-use Rattle.model.specs.Cover.{Cover, output}
-use Rattle.model.specs.Netlist.{Gate, Outcome, refused, mapped, mapGraph, gates, figuresOf, netName, outName, sum, largest}
-use Rattle.model.specs.LibraryText.{noLower}
-use Rattle.model.specs.Timing.{lowOf, timingLines, followed}
-use Rattle.model.specs.Blif.{GateLine, Wire, Blif, readBlif, readFigures, readTimings, named, drives, NetArrivals}
-use Rattle.model.specs.Mapper.{Call, Design, readTexts, mapTexts, mapDesign, within}
-use Rattle.model.specs.Demands.{drivenNets, OfPrinted, Readable, Formed, Gated, SameValues, SameFigures, NoEarlier, OutputsNoEarlier, OfMappable, CoversTimed, Decided, Chosen, choiceText, choiceFigures, printedText, WithinRanges, Ranges, Values, Earliest, Twins, Untimed}
+use Rattle.base.specs.{ℕ, _≤_, _<_, le-trans, le-of-eq, arith, _≡_, refl, sym, _∙_, ap, subst, _⊎_, inl, inr, _↔_, Bool, true, false, cond}
+use Rattle.base.specs.{Option, some, List, [], _∷_, _++_, map, append-nil, List·Memᴰ, List·Memᴰ·append-cases, Memᴰ·append-left, T, leb}
+use Rattle.base.specs.{leb→le, le→leb, length, getD}
+use Rattle.model.specs.{holds, nameOf, each, flip, below, And, literal, varOf, negated, literalValue, valueOf, absent, chosen, output, Gate}
+use Rattle.model.specs.{Outcome, refused, mapped, mapGraph, gates, figuresOf, netName, outName, sum, largest, noLower, lowOf, timingLines}
+use Rattle.model.specs.{followed, GateLine, Wire, readBlif, readFigures, readTimings, named, drives, NetArrivals, Call, Design, readTexts}
+use Rattle.model.specs.{mapTexts, mapDesign, within, drivenNets, OfPrinted, Readable, Formed, Gated, SameValues, SameFigures, NoEarlier}
+use Rattle.model.specs.{OutputsNoEarlier, OfMappable, CoversTimed, Decided, Chosen, choiceText, choiceFigures, printedText, WithinRanges}
+use Rattle.model.specs.{Ranges, Values, Earliest, Twins, Untimed}
+use Rattle.model.specs.Graph.{Graph}
+use Rattle.model.specs.Cover.{Cover}
+use Rattle.model.specs.Blif.{Blif}
 use Rattle.model.specs.declared.Cell.{Cell}
 use Rattle.model.specs.declared.Figures.{Figures}
-use Rattle.theory_graph.proofs.Lists.{map-out, map-map, map-same, is-true, getD-in}
-use Rattle.theory_graph.proofs.Distinct.{length-map}
+use Rattle.theory_graph.proofs.{map-out, map-map, map-same, is-true, getD-in, length-map, order-once, defined-placed, values-exist}
+use Rattle.theory_graph.proofs.{values-only, by-bool, by-read}
 use Rattle.theory_graph.specs.Accepted.{Accepted}
-use Rattle.theory_graph.proofs.Placing.{order-once, defined-placed}
-use Rattle.theory_graph.proofs.GraphValue.{values-exist, values-only}
-use Rattle.theory_cover.proofs.Demand3.{choice-earliest, cover-timed, choice-cover, seventeen-iff, choice-printed}
-use Rattle.theory_cover.proofs.Own.{own-chosen}
-use Rattle.theory_cover.proofs.Preference.{choice-preferred}
-use Rattle.theory_text.proofs.ReadBack.{lineOf, inputNames, wiresFrom, blifOf}
-use Rattle.theory_order.proofs.PairOrder.{pairs-kept}
-use Rattle.theory_text.proofs.ReadTexts.{texts-read, design-library, design-written, design-ranged, design-accepted}
-use Rattle.theory_text.proofs.Names.{net-once}
-use Rattle.theory_text.proofs.Twins.{ascii-means, means-outcome}
-use Rattle.theory_text.proofs.Arrivals.{reads-untimed, untimed-zero}
-use Rattle.theory_text.proofs.ReadTimings.{timingsFrom}
+use Rattle.theory_order.proofs.{pairs-kept}
+use Rattle.theory_cover.proofs.{choice-earliest, cover-timed, choice-cover, seventeen-iff, choice-printed, own-chosen, choice-preferred}
+use Rattle.theory_text.proofs.{lineOf, inputNames, wiresFrom, blifOf, texts-read, design-library, design-written, design-ranged}
+use Rattle.theory_text.proofs.{design-accepted, net-once, ascii-means, means-outcome, reads-untimed, untimed-zero, timingsFrom, FromChoice}
+use Rattle.theory_text.proofs.{outcome-is, printed-choice, refused-never}
 use Rattle.theory_demands.proofs.Numbered.{Fitting, fitting}
 use Rattle.theory_demands.proofs.Gates.{present, own-net, line-bound, back, figures-said, timings-said, none-said}
 use Rattle.theory_demands.proofs.Wires.{out-net, wire-targets, at-output, at-outputs}
 use Rattle.theory_demands.proofs.Values.{net-value, theValue, the-holds}
 use Rattle.theory_demands.proofs.Arrivals.{theTime, input-time, times-hold, input-at, net-time}
-use Rattle.theory_text.proofs.Outcomes.{FromChoice, outcome-is, printed-choice, refused-never}
 use Rattle.theory_demands.proofs.Formed.{gate-count, gate-count-listed, driven-phase, well-formed}
 use Rattle.theory_demands.proofs.Gated.{gates-gated}
 use Rattle.theory_demands.proofs.Ranges.{within-ranges}
-use Rattle.theory_graph.proofs.Split.{by-bool, by-read}
 
 -- ---- what is printed
 

@@ -1,38 +1,25 @@
 -- The form of the printed netlist: names in the file's order, listed cells with their pins bound, every net driven once and every used net
--- driven. Assumes nothing.
-use Prim.Native.Nat.{ℕ, suc, _*_, _≤_, _<_}
-use native.Mathlib.Nat.{le-trans, le-of-eq, lt-of-not-le}
-use native.Mathlib.Decide.{decLe}
-use native.Mathlib.Omega.{arith}
-use mathlib.Core.Path.{_≡_, refl, sym, _∙_, ap, ap₂, subst}
-use mathlib.Core.Logic.{_⊎_, inl, inr}
-use mathlib.Core.Bool.{Bool, true, false, true≢false}
-use mathlib.Core.List.{List, [], _∷_, _++_, map, List·Memᴰ, List·Memᴰ·head, List·Memᴰ·tail, map-append, List·Memᴰ·append-cases, List·Memᴰ·eq-of-singleton, List·Memᴰ·not-nil, Memᴰ·append-left, Memᴰ·append-right, Memᴰ·cast}
-use lib.ListN.{length, length-append}
-use Rattle.model.specs.Base.{below, each}
-use Rattle.model.specs.Cells.{nameOf}
-use Rattle.model.specs.Graph.{And, Graph, varOf, literal}
-use Rattle.model.specs.Choice.{absent, chosen}
-use Rattle.model.specs.Cover.{output, fed}
-use Rattle.model.specs.Netlist.{Net, ofPhase, ofPair, Gate, isOwn, gatesBy, netName, label, outName}
-use Rattle.model.specs.Blif.{GateLine, Binding, Wire, drives, fedBy, pinNames, outputName}
-use Rattle.model.specs.Demands.{Distinct, drivenNets, Formed}
+-- driven.
+use Rattle.base.specs.{ℕ, suc, _*_, _≤_, _<_, le-trans, le-of-eq, lt-of-not-le, decLe, arith, _≡_, refl, sym, _∙_, ap, ap₂, subst, _⊎_, inl}
+use Rattle.base.specs.{inr, Bool, true, false, true≢false, List, [], _∷_, _++_, map, List·Memᴰ, List·Memᴰ·head, List·Memᴰ·tail, map-append}
+use Rattle.base.specs.{List·Memᴰ·append-cases, List·Memᴰ·eq-of-singleton, List·Memᴰ·not-nil, Memᴰ·append-left, Memᴰ·append-right, Memᴰ·cast}
+use Rattle.base.specs.{length, length-append}
+use Rattle.model.specs.{below, each, nameOf, And, varOf, literal, absent, chosen, output, fed, Net, ofPhase, ofPair, Gate, isOwn, gatesBy}
+use Rattle.model.specs.{netName, label, outName, GateLine, Binding, Wire, drives, fedBy, pinNames, outputName, Distinct, drivenNets, Formed}
+use Rattle.model.specs.Graph.{Graph}
 use Rattle.model.specs.declared.Cell.{Cell}
 use Rattle.model.specs.declared.Source.the-variants.{Input}
 use Rattle.model.specs.declared.Figures.{Figures}
-use Rattle.theory_graph.proofs.Lists.{map-in, map-out, each-out, map-map, map-same}
-use Rattle.theory_graph.proofs.Literals.{lit-var}
+use Rattle.theory_graph.proofs.{map-in, map-out, each-out, map-map, map-same, lit-var, order-once, distinct-once, map-distinct}
+use Rattle.theory_graph.proofs.{keep-distinct, below-distinct, append-distinct, length-keep, length-from, by-bool}
 use Rattle.theory_graph.specs.Accepted.{Accepted}
-use Rattle.theory_graph.proofs.Placing.{order-once, distinct-once}
-use Rattle.theory_text.proofs.ReadBack.{lineOf, inputNames, outputNames, wiresFrom, blifOf}
-use Rattle.theory_text.proofs.Names.{net-once, label-once}
-use Rattle.theory_cover.proofs.Own.{own-chosen}
-use Rattle.theory_graph.proofs.Distinct.{map-distinct, keep-distinct, below-distinct, append-distinct, length-keep, length-from}
+use Rattle.theory_cover.proofs.{own-chosen}
+use Rattle.theory_text.proofs.{lineOf, inputNames, outputNames, wiresFrom, blifOf, net-once, label-once}
 use Rattle.theory_demands.proofs.Numbered.{Fitting}
 use Rattle.theory_demands.proofs.Settled.{cellGate, innerGate, rootGate, gates-single, gates-double}
-use Rattle.theory_demands.proofs.Gates.{sourceOf, numberAt, fedAt, NeedsOf, gatesAt, chosenGates, gateNets, gates-are, Gates, net-out, gate-in, gate-out, of-cell, of-gates, line-bound, own-value, own-source, own-net}
+use Rattle.theory_demands.proofs.Gates.{sourceOf, numberAt, fedAt, NeedsOf, gatesAt, chosenGates, gateNets, gates-are, Gates}
+use Rattle.theory_demands.proofs.Gates.{net-out, gate-in, gate-out, of-cell, of-gates, line-bound, own-value, own-source, own-net}
 use Rattle.theory_demands.proofs.Wires.{out-once, out-label, wire-targets, wire-sources}
-use Rattle.theory_graph.proofs.Split.{by-bool}
 
 -- ---- the nets of a phase's gates
 

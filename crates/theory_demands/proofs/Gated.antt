@@ -1,34 +1,23 @@
--- The gate lines of the printed netlist are the needed phases, inputs' own nets apart, in their order. Assumes nothing.
-use Prim.Native.Nat.{ℕ, zero, suc, _+_, _*_, _/_, _%_, _≤_, _<_}
-use native.Mathlib.Omega.{arith}
-use mathlib.Core.Path.{_≡_, refl, sym, _∙_, ap, ap₂, subst}
-use mathlib.Core.Logic.{inl, inr}
-use mathlib.Core.Bool.{Bool, true, false, not, cond, true≢false}
-use mathlib.Core.List.{List, [], _∷_, _++_, map, map-append, List·Memᴰ, List·Memᴰ·head, List·Memᴰ·tail}
-use lib.Dec.{eqb}
-use lib.ListN.{length, take, drop}
-use Rattle.model.specs.Base.{elem, keep, each, from, below}
-use Rattle.model.specs.Cells.{cellAt}
-use Rattle.model.specs.Pairs.{cellOfPair, pairAt}
-use Rattle.model.specs.Graph.{Graph, varOf, negated}
-use Rattle.model.specs.Choice.{absent, chosen}
-use Rattle.model.specs.Cover.{IsOwn}
-use Rattle.model.specs.Netlist.{Net, ofPhase, ofPair, Gate, isOwn, needed, netName, label}
-use Rattle.model.specs.Blif.{drives}
-use Rattle.model.specs.Demands.{Before, InOrder, OneLine, TwoLines, LinesOf, none, one, two, Gated}
+-- The gate lines of the printed netlist are the needed phases, inputs' own nets apart, in their order.
+use Rattle.base.specs.{ℕ, zero, suc, _+_, _*_, _/_, _%_, _≤_, _<_, arith, _≡_, refl, sym, _∙_, ap, ap₂, subst, inl, inr, Bool, true, false}
+use Rattle.base.specs.{not, cond, true≢false, List, [], _∷_, _++_, map, map-append, List·Memᴰ, List·Memᴰ·head, List·Memᴰ·tail, eqb, length}
+use Rattle.base.specs.{take, drop}
+use Rattle.model.specs.{elem, keep, each, from, below, cellAt, cellOfPair, pairAt, varOf, negated, absent, chosen, IsOwn, Net, ofPhase}
+use Rattle.model.specs.{ofPair, Gate, isOwn, needed, netName, label, drives, InOrder, OneLine, TwoLines, LinesOf, none, two, Gated}
+use Rattle.model.specs.Graph.{Graph}
+use Rattle.model.specs.Demands.{Before, one}
 use Rattle.model.specs.declared.Cell.{Cell}
 use Rattle.model.specs.declared.Figures.{Figures}
-use Rattle.theory_graph.proofs.Lists.{keep-out, by-eqb, map-map}
-use Rattle.theory_graph.proofs.Distinct.{from-low}
+use Rattle.theory_graph.proofs.{keep-out, by-eqb, map-map, from-low, order-once, by-bool}
 use Rattle.theory_graph.specs.Accepted.{Accepted}
-use Rattle.theory_graph.proofs.Placing.{order-once}
-use Rattle.theory_text.proofs.ReadBack.{lineOf, blifOf}
-use Rattle.theory_cover.proofs.Own.{own-chosen}
+use Rattle.theory_cover.proofs.{own-chosen}
+use Rattle.theory_text.proofs.{lineOf, blifOf}
 use Rattle.theory_demands.proofs.Numbered.{OfPair, single, double, Fitting}
-use Rattle.theory_demands.proofs.Settled.{map-take, map-drop, map-run, splice-parts, innerCell, fedPin, cellGate, innerGate, rootGate, gates-single, gates-double, single-bound, double-long, inner-bound, root-bound}
-use Rattle.theory_demands.proofs.Gates.{sourceOf, numberAt, fedAt, NeedsOf, gatesAt, chosenGates, gateNets, gates-are, Gates, net-out, of-cell, number-of, own-source}
+use Rattle.theory_demands.proofs.Settled.{map-take, map-drop, map-run, splice-parts, innerCell, fedPin, cellGate, innerGate}
+use Rattle.theory_demands.proofs.Settled.{rootGate, gates-single, gates-double, single-bound, double-long, inner-bound, root-bound}
+use Rattle.theory_demands.proofs.Gates.{sourceOf, numberAt, fedAt, NeedsOf, gatesAt, chosenGates, gateNets, gates-are, Gates}
+use Rattle.theory_demands.proofs.Gates.{net-out, of-cell, number-of, own-source}
 use Rattle.theory_demands.proofs.Formed.{phase-driven, driven-phase}
-use Rattle.theory_graph.proofs.Split.{by-bool}
 
 -- ---- the order
 

@@ -1,50 +1,28 @@
 -- The gates of the chosen cover: each is of a listed cell with as many nets as the cell has pins, and the netlist's text reads back as they. Of all
 -- cells that fit, pairs among them or not.
--- Assumes nothing.
-use Prim.Native.Nat.{ℕ, zero, suc, _*_, _/_, _≤_, _<_}
-use native.Mathlib.Nat.{not-suc-le-zero}
-use native.Mathlib.Omega.{arith}
-use mathlib.Core.Path.{_≡_, refl, sym, _∙_, ap, subst}
-use mathlib.Core.Bool.{Bool, true, false, not, cond, true≢false, false≢true}
-use mathlib.Core.Option.{some}
-use mathlib.Core.List.{List, [], _∷_, _++_, List·Memᴰ, List·Memᴰ·tail, Memᴰ·append-left, Memᴰ·cast}
-use lib.Dec.{T, eqb, eqb→eq}
-use lib.ListN.{length, getD}
-use Rattle.model.specs.Base.{all, same, elem, keep, below, each, flip}
-use Rattle.model.specs.Table.{orders}
-use Rattle.model.specs.Cells.{noCell, cellAt}
-use Rattle.model.specs.Pairs.{pairPins, pairOf, cellOfPair}
-use Rattle.model.specs.Graph.{Graph, placeF, placingOrder, varOf, negated, literal, literalValue, valueOf, nodeValue}
-use Rattle.model.specs.Cuts.{cutsOf, cutAt}
-use Rattle.model.specs.Matching.{fedNets, matchNets}
-use Rattle.model.specs.Choice.{feeds, cellOf, absent, chosen}
-use Rattle.model.specs.Cover.{IsOwn, Allowed, Needed}
-use Rattle.model.specs.Netlist.{Net, Gate, isOwn, needed, gatesBy, numberOf, gates, netlistText, label}
-use Rattle.model.specs.Timing.{timingLines}
-use Rattle.model.specs.Blif.{readBlif, readFigures, readTimings}
+use Rattle.base.specs.{ℕ, zero, suc, _*_, _/_, _≤_, _<_, not-suc-le-zero, arith, _≡_, refl, sym, _∙_, ap, subst, Bool, true, false, not}
+use Rattle.base.specs.{cond, true≢false, false≢true, some, List, [], _∷_, _++_, List·Memᴰ, List·Memᴰ·tail, Memᴰ·append-left, Memᴰ·cast, T}
+use Rattle.base.specs.{eqb, eqb→eq, length, getD}
+use Rattle.model.specs.{all, same, elem, keep, below, each, flip, orders, noCell, cellAt, pairPins, pairOf, cellOfPair, placeF}
+use Rattle.model.specs.{placingOrder, varOf, negated, literal, literalValue, valueOf, nodeValue, cutsOf, cutAt, fedNets, matchNets, feeds}
+use Rattle.model.specs.{cellOf, absent, chosen, IsOwn, Allowed, Needed, Net, Gate, isOwn, needed, gatesBy, numberOf, gates, netlistText}
+use Rattle.model.specs.{label, timingLines, readBlif, readFigures, readTimings}
+use Rattle.model.specs.Graph.{Graph}
 use Rattle.model.specs.declared.Cell.{Cell}
 use Rattle.model.specs.declared.Match.{Match}
 use Rattle.model.specs.declared.Source.{Source}
 use Rattle.model.specs.declared.Source.the-variants.{Input, Cell as Matched, Inverter as Inverted, Nothing}
 use Rattle.model.specs.declared.Figures.{Figures}
-use Rattle.theory_graph.proofs.Lists.{each-in, each-out, keep-in, keep-out, below-in, getD-in, elem-in, elem-out, same-eq, same-refl, all-of, is-true}
-use Rattle.theory_graph.proofs.Literals.{lit-var, lit-neg, lit-whole}
+use Rattle.theory_graph.proofs.{each-in, each-out, keep-in, keep-out, below-in, getD-in, elem-in, elem-out, same-eq, same-refl, all-of}
+use Rattle.theory_graph.proofs.{is-true, lit-var, lit-neg, lit-whole, order-once, order-small, node-input, valueOf-valuation, by-bool}
+use Rattle.theory_graph.proofs.{by-member}
 use Rattle.theory_graph.specs.Accepted.{Accepted}
-use Rattle.theory_graph.proofs.Placing.{order-once, order-small}
-use Rattle.theory_graph.proofs.Nodes.{node-input}
-use Rattle.theory_graph.proofs.Values.{valueOf-valuation}
-use Rattle.theory_cover.proofs.Turns.{chosen-none}
-use Rattle.theory_cover.proofs.Covers.{by-feeding as feeding-first}
-use Rattle.theory_cover.proofs.Sound.{chosen-fine, needed-present, chosen-cover}
-use Rattle.theory_text.proofs.ReadBack.{blifOf, read-back}
-use Rattle.theory_text.proofs.ReadFigures.{figures-back}
-use Rattle.theory_text.proofs.ReadTimings.{timingsFrom, timings-back, timings-none}
-use Rattle.theory_text.proofs.Names.{Bound, library-cell, cell-form, label-once}
-use Rattle.theory_cover.proofs.Gates.{inverter-pins}
+use Rattle.theory_cover.proofs.{chosen-none, by-feeding as feeding-first, chosen-fine, needed-present, chosen-cover, inverter-pins}
+use Rattle.theory_text.proofs.{blifOf, read-back, figures-back, timingsFrom, timings-back, timings-none, Bound, library-cell, cell-form}
+use Rattle.theory_text.proofs.{label-once}
 use Rattle.theory_demands.proofs.Needs.{listed-needed, needed-listed}
 use Rattle.theory_demands.proofs.Numbered.{Numbered, single, double, Fitting}
 use Rattle.theory_demands.proofs.Settled.{OfPhase, of-phase}
-use Rattle.theory_graph.proofs.Split.{by-bool, by-member}
 
 -- ---- the nets that feed a source are as many as its cell has pins
 

@@ -1,27 +1,17 @@
--- The listed phases are the needed ones. Assumes nothing.
-use Prim.Native.Nat.{ℕ}
-use mathlib.Core.Path.{_≡_, refl, sym, _∙_, ap, ap₂, subst}
-use mathlib.Core.Logic.{_⊎_, inl, inr, ⊎-elim}
-use mathlib.Core.Bool.{Bool, true, false, not, cond, true≢false, false≢true}
-use mathlib.Core.List.{List, [], _∷_, _++_, reverse, reverse-cons, reverse-reverse, append-assoc, append-nil, List·Memᴰ, List·Memᴰ·head, List·Memᴰ·tail, List·Memᴰ·not-nil, List·Memᴰ·cases-cons, List·Memᴰ·eq-of-singleton, List·Memᴰ·append-cases, Memᴰ·append-left, Memᴰ·append-right, Memᴰ·cast}
-use Rattle.model.specs.Base.{each, elem}
-use Rattle.model.specs.Graph.{Graph, placingOrder, varOf, negated, literal, opposite}
-use Rattle.model.specs.Cuts.{cutsOf}
-use Rattle.model.specs.Choice.{feeds, absent, chosen}
-use Rattle.model.specs.Cover.{Needed, output, fed}
-use Rattle.model.specs.Netlist.{isInverted, backwards, spread, needed}
-use Rattle.model.specs.Demands.{Distinct}
+-- The listed phases are the needed ones.
+use Rattle.base.specs.{ℕ, _≡_, refl, sym, _∙_, ap, ap₂, subst, _⊎_, inl, inr, ⊎-elim, Bool, true, false, not, cond, true≢false, false≢true}
+use Rattle.base.specs.{List, [], _∷_, _++_, reverse, reverse-cons, reverse-reverse, append-assoc, append-nil, List·Memᴰ, List·Memᴰ·head}
+use Rattle.base.specs.{List·Memᴰ·tail, List·Memᴰ·not-nil, List·Memᴰ·cases-cons, List·Memᴰ·eq-of-singleton, List·Memᴰ·append-cases}
+use Rattle.base.specs.{Memᴰ·append-left, Memᴰ·append-right, Memᴰ·cast}
+use Rattle.model.specs.{each, elem, placingOrder, varOf, negated, literal, opposite, cutsOf, feeds, absent, chosen, Needed, output, fed}
+use Rattle.model.specs.{isInverted, backwards, spread, needed, Distinct}
+use Rattle.model.specs.Graph.{Graph}
 use Rattle.model.specs.declared.Cell.{Cell}
 use Rattle.model.specs.declared.Source.{Source}
 use Rattle.model.specs.declared.Source.the-variants.{Input, Cell as Matched, Inverter as Inverted, Nothing}
 use Rattle.model.specs.declared.Phase.{Phase}
-use Rattle.theory_graph.proofs.Lists.{each-in, each-out, elem-in, elem-out}
-use Rattle.theory_graph.proofs.Runs.{twice-apart}
-use Rattle.theory_graph.proofs.Literals.{lit-var, lit-neg, lit-whole}
-use Rattle.theory_cover.proofs.Turns.{chosen-none}
-use Rattle.theory_cover.proofs.Covers.{Straight}
-use Rattle.theory_cover.proofs.Sound.{src, closed, straight-before, chosen-fine, not-opposite}
-use Rattle.theory_graph.proofs.Split.{by-bool}
+use Rattle.theory_graph.proofs.{each-in, each-out, elem-in, elem-out, twice-apart, lit-var, lit-neg, lit-whole, by-bool}
+use Rattle.theory_cover.proofs.{chosen-none, Straight, src, closed, straight-before, chosen-fine, not-opposite}
 
 module _ (cells : List Cell) (g : Graph) (phase : ℕ → Phase) where
   abbrev fedOf : ℕ → List ℕ

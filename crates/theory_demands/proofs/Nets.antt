@@ -1,24 +1,18 @@
 -- What the nets of the printed netlist have by a rule of its gate lines, of values and of arrivals alike: anything by the rule is made of what the inputs
--- have, phase by phase; and what is so made of the phases gives the nets something by the rule. Assumes nothing.
-use Prim.Native.Nat.{ℕ, suc, _*_, _<_}
-use mathlib.Core.Path.{_≡_, sym, _∙_, ap}
-use mathlib.Core.Bool.{true, false}
-use mathlib.Core.List.{List, _++_, map, List·Memᴰ, Memᴰ·append-left, Memᴰ·append-right}
-use Rattle.model.specs.Base.{below}
+-- have, phase by phase; and what is so made of the phases gives the nets something by the rule.
+use Rattle.base.specs.{ℕ, suc, _*_, _<_, _≡_, sym, _∙_, ap, true, false, List, _++_, map, List·Memᴰ, Memᴰ·append-left, Memᴰ·append-right}
+use Rattle.model.specs.{below, absent, chosen, output, fed, Net, ofPhase, ofPair, Gate, isOwn, netName, label, GateLine, Wire, drives}
+use Rattle.model.specs.{fedBy}
 use Rattle.model.specs.Graph.{Graph}
-use Rattle.model.specs.Choice.{absent, chosen}
-use Rattle.model.specs.Cover.{output, fed}
-use Rattle.model.specs.Netlist.{Net, ofPhase, ofPair, Gate, isOwn, netName, label}
-use Rattle.model.specs.Blif.{GateLine, Wire, drives, fedBy}
 use Rattle.model.specs.declared.Cell.{Cell}
-use Rattle.theory_graph.proofs.Lists.{map-in, map-out, below-in, map-map, map-same}
+use Rattle.theory_graph.proofs.{map-in, map-out, below-in, map-map, map-same, by-bool}
 use Rattle.theory_graph.specs.Accepted.{Accepted}
-use Rattle.theory_text.proofs.ReadBack.{lineOf, wiresFrom}
+use Rattle.theory_text.proofs.{lineOf, wiresFrom}
 use Rattle.theory_demands.proofs.Numbered.{Fitting}
 use Rattle.theory_demands.proofs.Settled.{whole, inside, Ruled, to-phase, from-phase}
-use Rattle.theory_demands.proofs.Gates.{sourceOf, numberAt, fedAt, gatesAt, NeedsOf, Gates, chosenGates, by-feeding, bound, gate-in, gate-out, line-bound}
+use Rattle.theory_demands.proofs.Gates.{sourceOf, numberAt, fedAt, gatesAt, NeedsOf, Gates, chosenGates, by-feeding, bound, gate-in}
+use Rattle.theory_demands.proofs.Gates.{gate-out, line-bound}
 use Rattle.theory_demands.proofs.Wires.{byLabel, by-net, by-wire}
-use Rattle.theory_graph.proofs.Split.{by-bool}
 
 module _ (listed cells : List Cell) (fit : Fitting listed cells) (g : Graph) (ok : Accepted g)
     (present-outputs : (l : ℕ) → List·Memᴰ l (g .outputs) → absent (chosen cells g l .source) ≡ false)

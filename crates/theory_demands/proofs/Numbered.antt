@@ -1,22 +1,12 @@
 -- What stands under a cell's number: a listed cell, or a pair of listed cells. The rest of this theory asks no more of the cells to map with than
--- `Fitting`, so that it holds with pairs and without. Assumes nothing.
-use Prim.Native.Nat.{ℕ, zero, suc, _+_, _-_, _≤_, _<_}
-use native.Mathlib.Nat.{le-of-suc-le-suc, not-suc-le-zero, lt-of-not-le}
-use native.Mathlib.Decide.{decLe}
-use native.Mathlib.Omega.{arith}
-use mathlib.Core.Path.{_≡_, refl, sym, _∙_, ap, subst}
-use mathlib.Core.Bool.{Bool, true, false}
-use mathlib.Core.List.{List, [], _∷_, _++_, map, List·Memᴰ}
-use lib.Dec.{T, leb}
-use lib.ListN.{length, getD, List·getD-append, length-append}
-use mir.Facts.{and-yes, leb-yes}
-use Rattle.model.specs.Base.{keep, below}
-use Rattle.model.specs.Cells.{cellAt, noCell}
-use Rattle.model.specs.Pairs.{Pair, noPair, joins, pairsOf, cellOfPair, withPairs, pairAt, cellsFor}
+-- `Fitting`, so that it holds with pairs and without.
+use Rattle.base.specs.{ℕ, zero, suc, _+_, _-_, _≤_, _<_, le-of-suc-le-suc, not-suc-le-zero, lt-of-not-le, decLe, arith, _≡_, refl, sym, _∙_}
+use Rattle.base.specs.{ap, subst, Bool, true, false, List, [], _∷_, _++_, map, List·Memᴰ, T, leb, length, getD, List·getD-append}
+use Rattle.base.specs.{length-append, and-yes, leb-yes}
+use Rattle.model.specs.{keep, below, cellAt, noCell, Pair, noPair, joins, pairsOf, cellOfPair, withPairs, pairAt, cellsFor}
 use Rattle.model.specs.declared.Cell.{Cell}
-use Rattle.theory_graph.specs.Accepted.{libraryFits}
-use Rattle.theory_graph.proofs.Lists.{map-out, each-out, keep-out, below-out, getD-in}
-use Rattle.theory_graph.proofs.Distinct.{length-map}
+use Rattle.theory_graph.specs.{libraryFits}
+use Rattle.theory_graph.proofs.{map-out, each-out, keep-out, below-out, getD-in, length-map}
 
 -- a pair of listed cells
 pub record OfPair (listed : List Cell) (p : Pair) : Type 0 where

@@ -1,39 +1,25 @@
 -- "Every choice of pin delays, each within its range and fixed separately per gate, puts the output within these two, and each end is reached by some
--- choice", of the arrivals that the timing lines say. Assumes nothing.
-use Prim.Native.Nat.{ℕ, zero, suc, _+_, _≤_, _<_}
-use native.Mathlib.Nat.{le-refl, le-trans, le-of-eq, lt-of-not-le}
-use native.Mathlib.Decide.{decLe}
-use native.Mathlib.Omega.{arith}
-use mathlib.Core.Path.{_≡_, refl, sym, _∙_, ap, subst}
-use mathlib.Core.Bool.{Bool, true, false, cond}
-use mathlib.Core.List.{List, [], _∷_, _++_, map, List·Memᴰ, List·Memᴰ·head, List·Memᴰ·tail, Memᴰ·cast, head-eq-of-cons-eq, tail-eq-of-cons-eq}
-use lib.Dec.{T, leb}
-use lib.ListN.{length, take, getD}
-use mir.Facts.{and-yes, leb-yes}
-use Rattle.model.specs.Base.{from, below, same}
-use Rattle.model.specs.Pairs.{joinDelays, pairDelays, pairOf}
-use Rattle.model.specs.Graph.{Graph, varOf}
-use Rattle.model.specs.Choice.{cellOf, absent, chosen}
-use Rattle.model.specs.Cover.{output}
-use Rattle.model.specs.Netlist.{Gate, gatesBy, isOwn, netName, outName}
-use Rattle.model.specs.LibraryText.{noLower}
-use Rattle.model.specs.Timing.{retimed, lowOf}
-use Rattle.model.specs.Blif.{GateLine, TimingLine, named, drives, Delays, NetTimes}
-use Rattle.model.specs.Demands.{Distinct, WithinRanges}
+-- choice", of the arrivals that the timing lines say.
+use Rattle.base.specs.{ℕ, zero, suc, _+_, _≤_, _<_, le-refl, le-trans, le-of-eq, lt-of-not-le, decLe, arith, _≡_, refl, sym, _∙_, ap, subst}
+use Rattle.base.specs.{Bool, true, false, cond, List, [], _∷_, _++_, map, List·Memᴰ, List·Memᴰ·head, List·Memᴰ·tail, Memᴰ·cast}
+use Rattle.base.specs.{head-eq-of-cons-eq, tail-eq-of-cons-eq, T, leb, length, take, getD, and-yes, leb-yes}
+use Rattle.model.specs.{from, below, same, joinDelays, pairDelays, pairOf, varOf, cellOf, absent, chosen, output, Gate, gatesBy, isOwn}
+use Rattle.model.specs.{netName, outName, noLower, retimed, lowOf, GateLine, TimingLine, named, drives, Delays, NetTimes, Distinct}
+use Rattle.model.specs.{WithinRanges}
+use Rattle.model.specs.Graph.{Graph}
 use Rattle.model.specs.declared.Cell.{Cell}
-use Rattle.theory_graph.proofs.Lists.{map-in, map-out, map-map, map-same, is-true, same-eq, same-refl}
-use Rattle.theory_graph.proofs.Distinct.{length-map}
+use Rattle.theory_graph.proofs.{map-in, map-out, map-map, map-same, is-true, same-eq, same-refl, length-map, by-bool}
 use Rattle.theory_graph.specs.Accepted.{Accepted}
-use Rattle.theory_cover.proofs.Retime.{latest-below}
-use Rattle.theory_text.proofs.ReadBack.{lineOf, outputNames, blifOf}
-use Rattle.theory_text.proofs.ReadTimings.{timingsFrom}
+use Rattle.theory_cover.proofs.{latest-below}
+use Rattle.theory_text.proofs.{lineOf, outputNames, blifOf, timingsFrom}
 use Rattle.theory_demands.proofs.Numbered.{Fitting}
 use Rattle.theory_demands.proofs.Settled.{innerCell, fedPin, cellGate, innerGate, rootGate, gates-single, gates-double}
-use Rattle.theory_demands.proofs.Gates.{sourceOf, numberAt, fedAt, NeedsOf, Gates, chosenGates, by-feeding, gate-in, gate-out, of-gates, own-source, own-value}
+use Rattle.theory_demands.proofs.Gates.{sourceOf, numberAt, fedAt, NeedsOf, Gates, chosenGates, by-feeding, gate-in, gate-out}
+use Rattle.theory_demands.proofs.Gates.{of-gates, own-source, own-value}
 use Rattle.theory_demands.proofs.Wires.{at-outputs}
 use Rattle.theory_demands.proofs.Formed.{gates-once}
-use Rattle.theory_demands.proofs.Arrivals.{padded, phaseDelays, delays-single, delays-double, phase-delays, Follows, timeOn, times-on, net-on, chosen-follows, retimed-follows}
-use Rattle.theory_graph.proofs.Split.{by-bool}
+use Rattle.theory_demands.proofs.Arrivals.{padded, phaseDelays, delays-single, delays-double, phase-delays, Follows, timeOn}
+use Rattle.theory_demands.proofs.Arrivals.{times-on, net-on, chosen-follows, retimed-follows}
 
 -- no lowest delay is over its delay, place by place
 pub no-lower : (ls ds : List ℕ) → T (noLower ls ds) → (j : ℕ) → getD ls j 0 ≤ getD ds j 0

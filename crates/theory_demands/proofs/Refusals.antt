@@ -1,20 +1,10 @@
--- Which numbers and places the refusal of an outcome has. Assumes nothing.
-use Prim.Native.Nat.{ℕ}
-use mathlib.Core.Path.{_≡_}
-use mathlib.Core.Bool.{Bool, true, false}
-use mathlib.Core.Option.{some}
-use mathlib.Core.List.{List, [], _∷_}
-use lib.Dec.{leb}
-use lib.ListN.{length}
-use Rattle.model.specs.Base.{lowest}
-use Rattle.model.specs.Graph.{Graph, unplaced}
-use Rattle.model.specs.Cuts.{crowded}
-use Rattle.model.specs.Choice.{chosen}
-use Rattle.model.specs.Netlist.{Outcome, refused, mapped, uncovered, printed, mapChosen, mapCut, mapPlaced, mapGraph}
-use Rattle.model.specs.Timing.{followed}
-use Rattle.model.specs.Mapper.{within}
+-- Which numbers and places the refusal of an outcome has.
+use Rattle.base.specs.{ℕ, _≡_, Bool, true, false, some, List, [], _∷_, leb, length}
+use Rattle.model.specs.{lowest, unplaced, crowded, chosen, Outcome, refused, mapped, uncovered, printed, mapChosen, mapCut, mapPlaced}
+use Rattle.model.specs.{mapGraph, followed, within}
+use Rattle.model.specs.Graph.{Graph}
 use Rattle.model.specs.declared.Cell.{Cell}
-use Rattle.theory_graph.proofs.Split.{by-bool, by-option, by-list}
+use Rattle.theory_graph.proofs.{by-bool, by-option, by-list}
 
 -- the number and the place of a refusal, if the outcome is one
 abbrev pub Refusal : (ℕ → ℕ → Type 0) → Outcome → Type 0

@@ -1,32 +1,17 @@
--- 13, 14 and 15 refuse no text in the binary form. Assumes nothing.
-use Prim.Native.Nat.{ℕ, _*_, _<_}
-use native.Mathlib.Omega.{arith}
-use mathlib.Core.Path.{_≡_, refl, sym, _∙_, ap, subst}
-use mathlib.Core.Bool.{true, _||_}
-use mathlib.Core.List.{List, [], _∷_, _++_, List·Memᴰ, List·Memᴰ·head, List·Memᴰ·tail, List·Memᴰ·not-nil, Memᴰ·append-right}
-use lib.Dec.{T, leb, ltb}
-use Rattle.model.specs.Base.{lowest}
-use Rattle.model.specs.Limits.{need}
-use Rattle.model.specs.Reading.{Read, holds, next, unless}
-use Rattle.model.specs.Graph.{And, Graph, varOf, unplaced, andVars}
-use Rattle.model.specs.GraphText.{readHeader, readGraph}
-use Rattle.model.specs.Netlist.{mapGraph}
-use Rattle.model.specs.ArrivalsText.{Late, readArrivals, timedBy}
-use Rattle.model.specs.Timing.{followed}
-use Rattle.model.specs.Mapper.{Call, Design, designOf, short, readListed, readTexts, mapDesign, mapTexts}
-use Rattle.model.specs.Demands.{Sequenced}
+-- 13, 14 and 15 refuse no text in the binary form.
+use Rattle.base.specs.{ℕ, _*_, _<_, arith, _≡_, refl, sym, _∙_, ap, subst, true, _||_, List, [], _∷_, _++_, List·Memᴰ, List·Memᴰ·head}
+use Rattle.base.specs.{List·Memᴰ·tail, List·Memᴰ·not-nil, Memᴰ·append-right, T, leb, ltb}
+use Rattle.model.specs.{lowest, need, Read, holds, next, unless, And, varOf, unplaced, andVars, readHeader, readGraph, mapGraph, Late}
+use Rattle.model.specs.{readArrivals, timedBy, followed, Call, Design, designOf, short, readListed, readTexts, mapDesign, mapTexts}
+use Rattle.model.specs.{Sequenced}
+use Rattle.model.specs.Graph.{Graph}
 use Rattle.model.specs.declared.Cell.{Cell}
 use Rattle.model.specs.declared.Header.{Header}
-use Rattle.theory_graph.proofs.Lists.{each-in, lowest-in}
-use Rattle.theory_graph.proofs.Timed.{timed-unplaced}
-use Rattle.theory_order.proofs.Sequence.{Lower, rising-placed}
-use Rattle.theory_text.proofs.Steps.{holds-once}
-use Rattle.theory_text.proofs.Faults.{in-holds, in-unless, in-next, listed-faults, header-faults, arrivals-faults}
-use Rattle.theory_text.proofs.ReadGraph.{graph-known}
-use Rattle.theory_text.proofs.ReadTexts.{texts-read}
-use Rattle.theory_text.proofs.Sequence.{binary-faults, binary-falls}
+use Rattle.theory_graph.proofs.{each-in, lowest-in, timed-unplaced, by-read}
+use Rattle.theory_order.proofs.{Lower, rising-placed}
+use Rattle.theory_text.proofs.{holds-once, in-holds, in-unless, in-next, listed-faults, header-faults, arrivals-faults, graph-known}
+use Rattle.theory_text.proofs.{texts-read, binary-faults, binary-falls}
 use Rattle.theory_demands.proofs.Refusals.{Refusal, within-refusal, followed-refusal, map-refusal}
-use Rattle.theory_graph.proofs.Split.{by-read}
 
 -- none of 13, 14 and 15, at any place
 abbrev Other : ℕ → ℕ → Type 0

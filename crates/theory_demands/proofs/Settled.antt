@@ -1,25 +1,15 @@
 -- The gates of a phase, one or two, taken as one: what each of them makes of its pins' nets makes the phase out of the phases that feed it, and the other
--- way round. Of values and of arrivals alike: `out` is what a gate makes of what stands at its pins. Assumes nothing.
-use Prim.Native.Nat.{ℕ, zero, suc, _+_, _-_, _≤_, _<_}
-use native.Mathlib.Nat.{not-suc-le-zero, le-of-suc-le-suc, lt-of-not-le}
-use native.Mathlib.Decide.{decLe}
-use native.Mathlib.Omega.{arith}
-use mathlib.Core.Path.{_≡_, refl, sym, _∙_, ap, ap₂, subst}
-use mathlib.Core.Logic.{_⊎_, inl, inr, ⊎-elim}
-use mathlib.Core.Bool.{Bool, true, false, cond, true≢false}
-use mathlib.Core.List.{List, [], _∷_, _++_, map, List·Memᴰ, List·Memᴰ·head, List·Memᴰ·tail, List·Memᴰ·not-nil, List·Memᴰ·cases-cons}
-use lib.Dec.{ltb}
-use lib.ListN.{length, take, drop, length-take, length-drop}
-use mir.Facts.{yes-ltb, no-ltb}
-use Rattle.model.specs.Cells.{cellAt, noCell}
-use Rattle.model.specs.Pairs.{splice, pairPins, pairOf, cellOfPair, pairAt}
-use Rattle.model.specs.Netlist.{Net, ofPhase, ofPair, Gate, oneGate, twoGates, gatesBy}
+-- way round. Of values and of arrivals alike: `out` is what a gate makes of what stands at its pins.
+use Rattle.base.specs.{ℕ, zero, suc, _+_, _-_, _≤_, _<_, not-suc-le-zero, le-of-suc-le-suc, lt-of-not-le, decLe, arith, _≡_, refl, sym, _∙_}
+use Rattle.base.specs.{ap, ap₂, subst, _⊎_, inl, inr, ⊎-elim, Bool, true, false, cond, true≢false, List, [], _∷_, _++_, map, List·Memᴰ}
+use Rattle.base.specs.{List·Memᴰ·head, List·Memᴰ·tail, List·Memᴰ·not-nil, List·Memᴰ·cases-cons, ltb, length, take, drop, length-take}
+use Rattle.base.specs.{length-drop, yes-ltb, no-ltb}
+use Rattle.model.specs.{cellAt, noCell, splice, pairPins, pairOf, cellOfPair, pairAt, Net, ofPhase, ofPair, Gate, oneGate, twoGates}
+use Rattle.model.specs.{gatesBy}
 use Rattle.model.specs.declared.Cell.{Cell}
-use Rattle.theory_graph.proofs.Lists.{map-map, getD-in, is-true, is-false}
-use Rattle.theory_graph.proofs.Distinct.{length-map}
-use Rattle.theory_text.proofs.Names.{Bound, gate-bound}
+use Rattle.theory_graph.proofs.{map-map, getD-in, is-true, is-false, length-map, by-member}
+use Rattle.theory_text.proofs.{Bound, gate-bound}
 use Rattle.theory_demands.proofs.Numbered.{OfPair, Numbered, single, double, Fitting}
-use Rattle.theory_graph.proofs.Split.{by-member}
 
 -- ---- a run of elements as one
 

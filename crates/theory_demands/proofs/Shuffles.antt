@@ -1,37 +1,20 @@
 -- Two accepted libraries of the same cell lines, in any orders, agree on every earliest arrival, on 16 and 17, and on what they print of
--- arrivals. Assumes nothing.
-use Prim.Native.Nat.{ℕ, suc}
-use native.Mathlib.Omega.{arith}
-use mathlib.Core.Path.{_≡_, refl, sym, _∙_, ap, ap₂, subst}
-use mathlib.Core.Logic.{_⊎_, inl, inr, _↔_}
-use mathlib.Core.Bool.{Bool, true, false, cond}
-use mathlib.Core.List.{List, [], _∷_, _++_, map}
-use lib.Dec.{leb}
-use lib.ListN.{length}
-use Rattle.model.specs.Base.{lowest}
-use Rattle.model.specs.Graph.{Graph, unplaced}
-use Rattle.model.specs.Cuts.{crowded}
-use Rattle.model.specs.Choice.{absent, chosen}
-use Rattle.model.specs.Netlist.{Outcome, refused, mapped, mapGraph, mapPlaced, mapCut, mapChosen, printed, uncovered, figuresOf, largest}
-use Rattle.model.specs.ArrivalsText.{timedBy}
-use Rattle.model.specs.Timing.{lowOf, timingLines, followed}
-use Rattle.model.specs.Mapper.{Call, Design, mapTexts, within}
-use Rattle.model.specs.Demands.{choiceText, choiceFigures}
-use Rattle.model.specs.ShuffleDemands.{EarliestAt, SameCells, onLibrary, Shuffled, Agree, Shuffles}
+-- arrivals.
+use Rattle.base.specs.{ℕ, suc, arith, _≡_, refl, sym, _∙_, ap, ap₂, subst, _⊎_, inl, inr, _↔_, Bool, true, false, cond, List, [], _∷_, _++_}
+use Rattle.base.specs.{map, leb, length}
+use Rattle.model.specs.{lowest, unplaced, crowded, absent, chosen, Outcome, refused, mapped, mapGraph, mapPlaced, mapCut, mapChosen}
+use Rattle.model.specs.{printed, uncovered, figuresOf, largest, timedBy, lowOf, timingLines, followed, Call, Design, mapTexts, within}
+use Rattle.model.specs.{choiceText, choiceFigures, EarliestAt, SameCells, onLibrary, Shuffled, Agree, Shuffles}
+use Rattle.model.specs.Graph.{Graph}
 use Rattle.model.specs.declared.Cell.{Cell}
 use Rattle.model.specs.declared.Phase.{Phase}
 use Rattle.model.specs.declared.Figures.{Figures}
 use Rattle.theory_graph.specs.Accepted.{Accepted}
-use Rattle.theory_graph.proofs.Lists.{map-same}
-use Rattle.theory_cover.proofs.Demand3.{choice-earliest, cover-timed}
-use Rattle.theory_cover.proofs.Shuffled.{earliest-same, chosen-earliest, earliest-one, absent-same, arrival-same}
-use Rattle.theory_cover.proofs.ShuffledPairs.{pairs-same}
-use Rattle.theory_text.proofs.Steps.{holds-once}
-use Rattle.theory_text.proofs.ReadTexts.{texts-read, design-accepted}
-use Rattle.theory_text.proofs.CellLines.{lines-cells}
-use Rattle.theory_text.proofs.Outcomes.{outcome-is, printed-choice, refused-never}
+use Rattle.theory_graph.proofs.{map-same, by-bool, by-list}
+use Rattle.theory_cover.proofs.{choice-earliest, cover-timed, earliest-same, chosen-earliest, earliest-one, absent-same, arrival-same}
+use Rattle.theory_cover.proofs.{pairs-same}
+use Rattle.theory_text.proofs.{holds-once, texts-read, design-accepted, lines-cells, outcome-is, printed-choice, refused-never}
 use Rattle.theory_demands.proofs.Demanded.{nets-chosen}
-use Rattle.theory_graph.proofs.Split.{by-bool, by-list}
 
 -- ---- the outcome, by what the choice leaves uncovered
 

@@ -1,33 +1,21 @@
--- The values of the printed nets: they exist, and any are the graph's. Assumes nothing.
-use Prim.Native.Nat.{ℕ}
-use mathlib.Core.Path.{_≡_, refl, sym, _∙_, ap, ap₂, subst}
-use mathlib.Core.Bool.{Bool, false, true≢false}
-use mathlib.Core.List.{List, [], _∷_, map, head-eq-of-cons-eq, tail-eq-of-cons-eq, List·Memᴰ, List·Memᴰ·head, List·Memᴰ·tail}
-use lib.ListN.{length}
-use Rattle.model.specs.Table.{value, rowOf}
-use Rattle.model.specs.Cells.{cellAt}
-use Rattle.model.specs.Pairs.{splice, pairValue, pairOf, cellOfPair}
-use Rattle.model.specs.Graph.{Graph, varOf, literal, literalValue, valueOf}
-use Rattle.model.specs.Cuts.{cutsOf}
-use Rattle.model.specs.Choice.{feeds, cellOf, absent, chosen}
-use Rattle.model.specs.Cover.{Allowed}
-use Rattle.model.specs.Netlist.{Gate, isOwn, netName}
-use Rattle.model.specs.Blif.{GateLine, named, NetValues}
+-- The values of the printed nets: they exist, and any are the graph's.
+use Rattle.base.specs.{ℕ, _≡_, refl, sym, _∙_, ap, ap₂, subst, Bool, false, true≢false, List, [], _∷_, map, head-eq-of-cons-eq}
+use Rattle.base.specs.{tail-eq-of-cons-eq, List·Memᴰ, List·Memᴰ·head, List·Memᴰ·tail, length}
+use Rattle.model.specs.{value, rowOf, cellAt, splice, pairValue, pairOf, cellOfPair, varOf, literal, literalValue, valueOf, cutsOf, feeds}
+use Rattle.model.specs.{cellOf, absent, chosen, Allowed, Gate, isOwn, netName, GateLine, named, NetValues}
+use Rattle.model.specs.Graph.{Graph}
 use Rattle.model.specs.declared.Cell.{Cell}
 use Rattle.model.specs.declared.Source.{Source}
 use Rattle.model.specs.declared.Source.the-variants.{Input, Cell as Matched, Inverter as Inverted, Nothing}
-use Rattle.theory_graph.proofs.Literals.{lit-var}
-use Rattle.theory_graph.proofs.Distinct.{length-map}
+use Rattle.theory_graph.proofs.{lit-var, length-map, order-once, valueOf-valuation}
 use Rattle.theory_graph.specs.Accepted.{Accepted}
-use Rattle.theory_graph.proofs.Placing.{order-once}
-use Rattle.theory_graph.proofs.Values.{valueOf-valuation}
-use Rattle.theory_cover.proofs.Sound.{chosen-fine}
-use Rattle.theory_cover.proofs.Gates.{gate-value, inverter-value}
-use Rattle.theory_cover.proofs.Joined.{pair-value}
-use Rattle.theory_text.proofs.ReadBack.{lineOf, blifOf}
+use Rattle.theory_cover.proofs.{chosen-fine, gate-value, inverter-value, pair-value}
+use Rattle.theory_text.proofs.{lineOf, blifOf}
 use Rattle.theory_demands.proofs.Numbered.{Numbered, single, double, Fitting}
-use Rattle.theory_demands.proofs.Settled.{rootCell, innerCell, fedPin, whole-single, whole-double, single-bound, inner-bound, root-bound}
-use Rattle.theory_demands.proofs.Gates.{sourceOf, numberAt, fedAt, NeedsOf, Gates, OfCell, of-cell, number-of, chosenGates, present, input-bound, own-value, own-source, own-net}
+use Rattle.theory_demands.proofs.Settled.{rootCell, innerCell, fedPin, whole-single, whole-double, single-bound, inner-bound}
+use Rattle.theory_demands.proofs.Settled.{root-bound}
+use Rattle.theory_demands.proofs.Gates.{sourceOf, numberAt, fedAt, NeedsOf, Gates, OfCell, of-cell, number-of, chosenGates, present}
+use Rattle.theory_demands.proofs.Gates.{input-bound, own-value, own-source, own-net}
 use Rattle.theory_demands.proofs.Nets.{made, nets-are, the, the-phase, the-lines, the-wires}
 
 module _ (listed cells : List Cell) (fit : Fitting listed cells) (g : Graph) (ok : Accepted g)

@@ -1,22 +1,11 @@
--- The outputs' own names, and the wires that lead to them from the outputs' nets. Assumes nothing.
-use Prim.Native.Nat.{ℕ, zero, suc, _+_, _<_}
-use native.Mathlib.Nat.{le-of-suc-le-suc, not-suc-le-zero, zero-add, add-zero, add-suc, suc-add}
-use native.Mathlib.Omega.{arith}
-use mathlib.Core.Path.{_≡_, refl, sym, _∙_, ap}
-use mathlib.Core.Bool.{Bool, true, false, cond}
-use mathlib.Core.List.{List, [], _∷_, map, head-eq-of-cons-eq, tail-eq-of-cons-eq, List·Memᴰ, List·Memᴰ·head, List·Memᴰ·tail}
-use lib.Dec.{eqb}
-use lib.ListN.{length, getD}
-use Rattle.model.specs.Base.{from, below}
-use Rattle.model.specs.Text.{asDigits, decimal}
-use Rattle.model.specs.Graph.{negated, varOf}
-use Rattle.model.specs.Netlist.{Net, ofPhase, ofPair, netName, label, outName}
-use Rattle.model.specs.Blif.{Wire}
-use Rattle.theory_graph.proofs.Lists.{map-map, map-same, getD-in}
-use Rattle.theory_text.proofs.ReadBack.{wiresFrom}
-use Rattle.theory_text.proofs.Names.{decimal-value}
+-- The outputs' own names, and the wires that lead to them from the outputs' nets.
+use Rattle.base.specs.{ℕ, zero, suc, _+_, _<_, le-of-suc-le-suc, not-suc-le-zero, zero-add, add-zero, add-suc, suc-add, arith, _≡_, refl}
+use Rattle.base.specs.{sym, _∙_, ap, Bool, true, false, cond, List, [], _∷_, map, head-eq-of-cons-eq, tail-eq-of-cons-eq, List·Memᴰ}
+use Rattle.base.specs.{List·Memᴰ·head, List·Memᴰ·tail, eqb, length, getD}
+use Rattle.model.specs.{from, below, asDigits, decimal, negated, varOf, Net, ofPhase, ofPair, netName, label, outName, Wire}
+use Rattle.theory_graph.proofs.{map-map, map-same, getD-in, by-bool}
+use Rattle.theory_text.proofs.{wiresFrom, decimal-value}
 use Rattle.theory_demands.proofs.Gates.{byName, by-name}
-use Rattle.theory_graph.proofs.Split.{by-bool}
 
 -- ---- names
 

@@ -1,28 +1,17 @@
 -- Blocks of bytes and groups of lines: a text that is not empty begins with a block, and the block's lines are its first group, in form exactly where the block
--- is; the other groups are those of the text behind it. Assumes nothing.
-use Prim.Native.Nat.{ℕ, zero, suc, _+_, _≤_, _<_}
-use native.Mathlib.Nat.{le-refl}
-use native.Mathlib.Omega.{arith}
-use mathlib.Core.Path.{_≡_, refl, sym, _∙_, ap, subst}
-use mathlib.Core.Logic.{_⊎_, inl, inr, _↔_}
-use mathlib.Core.Bool.{not}
-use mathlib.Core.List.{List, [], _∷_, _++_, append-assoc, cons≢nil, head-eq-of-cons-eq}
-use lib.Dec.{T, lit<, T-not, not-T}
-use lib.ListN.{length, length-append}
-use mir.Facts.{and-yes, yes-and}
-use Rattle.model.specs.Base.{all}
-use Rattle.model.specs.Text.{Line, ended, linesFrom}
-use Rattle.model.specs.Genlib.{Group, startsGate, grouped, groups}
-use Rattle.theory_graph.proofs.Lists.{is-true, is-false}
-use Rattle.theory_refusals.proofs.Results.{on}
-use Rattle.theory_foundry.specs.GateForms.{GateSays, PinSays}
-use Rattle.theory_foundry.specs.GateRefusals.{PinLines, noLine, aLine, Formed, Opens, ALine, full, last, Below, atEnd, atGate, further, Block}
+-- is; the other groups are those of the text behind it.
+use Rattle.base.specs.{ℕ, zero, suc, _+_, _≤_, _<_, le-refl, arith, _≡_, refl, sym, _∙_, ap, subst, _⊎_, inl, inr, _↔_, not, List, [], _∷_}
+use Rattle.base.specs.{_++_, append-assoc, cons≢nil, head-eq-of-cons-eq, T, lit<, T-not, not-T, length, length-append, and-yes, yes-and}
+use Rattle.model.specs.{all, Line, ended, linesFrom, Group, startsGate, grouped, groups}
+use Rattle.theory_graph.proofs.{is-true, is-false, by-list}
+use Rattle.theory_refusals.proofs.{on}
+use Rattle.theory_foundry.specs.{GateSays, PinSays, PinLines, noLine, aLine, Formed, Opens, ALine, full, last, Below, atEnd, atGate}
+use Rattle.theory_foundry.specs.{further, Block}
 use Rattle.theory_foundry.proofs.PinForms.{Says, noMore, oneMore}
 use Rattle.theory_foundry.proofs.GroupForms.{FormedLines}
 use Rattle.theory_foundry.proofs.OpenForms.{opens-exactly}
 use Rattle.theory_foundry.proofs.EndForms.{gate-free, pin-free, gate-opens, pin-shuts}
 use Rattle.theory_foundry.proofs.RowForms.{first-line, Row, line-row, opens-line, opens-text, row-line, line-kept}
-use Rattle.theory_graph.proofs.Split.{by-list}
 
 -- ---- groups, line by line
 

@@ -1,22 +1,15 @@
 -- The call: "1 is tried first, on the genlib text, 18 last for this memory". `genlib-exactly` goes by the groups of the text's lines; `call-from` takes the
--- statement of a call from that of the reading, over the bytes. Assumes nothing.
-use Prim.Native.Nat.{ℕ, _≤_, _<_}
-use native.Mathlib.Omega.{arith}
-use mathlib.Core.Path.{_≡_, refl, sym, subst}
-use mathlib.Core.Logic.{_⊎_, inl, inr, ⊎-elim}
-use mathlib.Core.List.{List, []}
-use lib.Dec.{T, leb, T-not}
-use lib.ListN.{length}
-use mir.Facts.{leb-yes, leb-no, yes-leb}
-use Rattle.model.specs.Text.{linesFrom}
-use Rattle.model.specs.Reading.{Read, holds, fault, next, unless}
-use Rattle.model.specs.Genlib.{Gate, groups, readGenlib, cellsText, genlibText}
-use Rattle.theory_text.proofs.Steps.{fault-never}
-use Rattle.theory_text.proofs.Faults.{in-fault}
-use Rattle.theory_genlib.proofs.Demanded.{group-short}
-use Rattle.promises.specs.Refusals.{Exactly}
-use Rattle.theory_refusals.proofs.Results.{exactly-next, exactly-unless, exactly-holds, exactly-map, on, unless-yes, unless-no}
-use Rattle.theory_foundry.specs.GateRefusals.{GatesIn, GenlibFault, Gates, CallFault, one, ofGates, eighteen, CallHolds, GenlibRefusals}
+-- statement of a call from that of the reading, over the bytes.
+use Rattle.base.specs.{ℕ, _≤_, _<_, arith, _≡_, refl, sym, subst, _⊎_, inl, inr, ⊎-elim, List, [], T, leb, T-not, length, leb-yes, leb-no}
+use Rattle.base.specs.{yes-leb}
+use Rattle.model.specs.{linesFrom, Read, holds, fault, next, unless, groups, readGenlib, cellsText, genlibText}
+use Rattle.model.specs.Genlib.{Gate}
+use Rattle.promises.specs.{Exactly}
+use Rattle.theory_text.proofs.{fault-never, in-fault}
+use Rattle.theory_genlib.proofs.{group-short}
+use Rattle.theory_refusals.proofs.{exactly-next, exactly-unless, exactly-holds, exactly-map, on, unless-yes, unless-no}
+use Rattle.theory_foundry.specs.{GatesIn, GenlibFault, Gates, CallFault, ofGates, eighteen, CallHolds, GenlibRefusals}
+use Rattle.theory_foundry.specs.GateRefusals.{one}
 use Rattle.theory_foundry.proofs.GroupsExactly.{GroupsHold, GroupsFault, groups-exactly}
 
 pub genlib-exactly : (t : List ℕ) → length t ≤ 65536 → Exactly (GroupsHold (groups (linesFrom 0 [] t))) (GroupsFault (groups (linesFrom 0 [] t))) (readGenlib t)

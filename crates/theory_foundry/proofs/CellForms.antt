@@ -1,29 +1,20 @@
--- The cell of a gate that passes 22 and 23: `gateOf` gives the one that the forms say, and none exactly where there is none, which 24 refuses. Assumes nothing.
-use Prim.Native.Nat.{ℕ, zero, suc, _+_, _/_, _%_, _^_, _≤_, _<_}
-use native.Mathlib.Omega.{arith}
-use mathlib.Core.Path.{_≡_, refl, sym, _∙_, ap, subst}
-use mathlib.Core.Bool.{Bool, true, false, not, cond}
-use mathlib.Core.Option.{Option, some}
-use mathlib.Core.List.{List, [], _∷_, map, List·Memᴰ, List·Memᴰ·head, List·Memᴰ·tail, List·Memᴰ·not-nil, Memᴰ·append-left, Memᴰ·append-right}
-use lib.Dec.{T, eqb, ltb, T-not, not-T, ltb→lt, nltb→le, lit<}
-use lib.ListN.{length, getD, drop}
-use mir.Facts.{eqb-yes, yes-eqb, yes-ltb, no-ltb}
-use Rattle.model.specs.Base.{bit, same, andThen}
-use Rattle.model.specs.Text.{text}
-use Rattle.model.specs.Demands.{Distinct}
-use Rattle.model.specs.GenlibWords.{tokens, thousandths}
-use Rattle.model.specs.GenlibFormula.{pinsOf, shallow, nameValue, indexOf, const0, const1, valueOf}
-use Rattle.model.specs.GenlibDemands.{Part, sum, factor, HasValue}
-use Rattle.model.specs.Genlib.{Gate, Group, pinLine, delayOf, pinDelay, delaysOf, tableOf, lineTokens, formulaOf, gateFrom, gateOf}
-use Rattle.model.proofs.GenlibTables.{table-value, table-above}
-use Rattle.theory_graph.proofs.Lists.{same-eq, same-refl, is-true, is-false, getD-in}
-use Rattle.theory_text.proofs.Steps.{then-out}
-use Rattle.theory_genlib.proofs.Forms.{some-once}
-use Rattle.theory_genlib.proofs.Once.{value-once}
-use Rattle.theory_genlib.proofs.Demanded.{group-value}
-use Rattle.theory_refusals.proofs.Results.{on}
-use Rattle.theory_foundry.specs.GateForms.{Named, Worth, named, bracketed, turned, primed, one, times, alone, plus, PinName, RowValue, zeroValue, oneValue, pinValue, GateSays, PinSays, Delay}
-use Rattle.theory_foundry.specs.GateRefusals.{Small, IsGate}
+-- The cell of a gate that passes 22 and 23: `gateOf` gives the one that the forms say, and none exactly where there is none, which 24 refuses.
+use Rattle.base.specs.{ℕ, zero, suc, _+_, _/_, _%_, _^_, _≤_, _<_, arith, _≡_, refl, sym, _∙_, ap, subst, Bool, true, false, not, cond}
+use Rattle.base.specs.{Option, some, List, [], _∷_, map, List·Memᴰ, List·Memᴰ·head, List·Memᴰ·tail, List·Memᴰ·not-nil, Memᴰ·append-left}
+use Rattle.base.specs.{Memᴰ·append-right, T, eqb, ltb, T-not, not-T, ltb→lt, nltb→le, lit<, length, getD, drop, eqb-yes, yes-eqb, yes-ltb}
+use Rattle.base.specs.{no-ltb}
+use Rattle.model.specs.{bit, same, andThen, text, Distinct, tokens, thousandths, pinsOf, shallow, nameValue, indexOf, const0, const1, Part}
+use Rattle.model.specs.{factor, HasValue, Group, pinLine, delayOf, pinDelay, delaysOf, tableOf, lineTokens, formulaOf, gateFrom}
+use Rattle.model.specs.GenlibFormula.{valueOf}
+use Rattle.model.specs.GenlibDemands.{sum}
+use Rattle.model.specs.Genlib.{Gate, gateOf}
+use Rattle.model.proofs.{table-value, table-above}
+use Rattle.theory_graph.proofs.{same-eq, same-refl, is-true, is-false, getD-in}
+use Rattle.theory_text.proofs.{then-out}
+use Rattle.theory_genlib.proofs.{some-once, value-once, group-value}
+use Rattle.theory_refusals.proofs.{on}
+use Rattle.theory_foundry.specs.{Named, Worth, named, bracketed, turned, primed, one, times, alone, plus, PinName, RowValue}
+use Rattle.theory_foundry.specs.{zeroValue, oneValue, pinValue, GateSays, PinSays, Delay, Small, IsGate}
 use Rattle.theory_foundry.proofs.PinOrder.{pins-order, order-once}
 use Rattle.theory_foundry.proofs.FigureForms.{thousandths-form, thousandths-back}
 use Rattle.theory_foundry.proofs.PinForms.{delay-form, delay-back}

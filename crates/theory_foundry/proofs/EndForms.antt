@@ -1,24 +1,15 @@
 -- What stands in a line in form: neither byte 10 nor byte 13, so that its end is where its contents end; and GATE is its first word exactly in a GATE line.
--- Assumes nothing.
-use Prim.Native.Nat.{ℕ, _+_, _<_}
-use native.Mathlib.Omega.{arith}
-use mathlib.Core.Path.{_≡_, refl, sym, _∙_, ap, subst}
-use mathlib.Core.Logic.{_⊎_, inl, inr}
-use mathlib.Core.Bool.{Bool, false, not}
-use mathlib.Core.List.{List, [], _∷_, _++_, nil≢cons, head-eq-of-cons-eq, tail-eq-of-cons-eq, List·Memᴰ, List·Memᴰ·head, List·Memᴰ·tail, List·Memᴰ·not-nil}
-use lib.Dec.{eqb}
-use lib.ListN.{length}
-use mir.Facts.{and-yes}
-use Rattle.model.specs.Base.{all}
-use Rattle.model.specs.Text.{text, isNameByte}
-use Rattle.model.specs.GenlibWords.{isWord, isEmpty}
-use Rattle.model.specs.GenlibDemands.{Part}
-use Rattle.theory_text.proofs.Plain.{Free, above, free-append, bytes-free}
-use Rattle.promises.specs.Forms.{NameByte}
-use Rattle.theory_foundry.specs.GateForms.{Blank, space, tab, WordByte, Stops, Spelled, none, blank, sign, word, Named, Digits, digit, more, Figure, whole, pointed, Worth, named, bracketed, turned, primed, one, times, alone, plus, GateSays, GateContents, PinSays, PinContents}
-use Rattle.theory_foundry.specs.GateRefusals.{Opens}
+use Rattle.base.specs.{ℕ, _+_, _<_, arith, _≡_, refl, sym, _∙_, ap, subst, _⊎_, inl, inr, Bool, false, not, List, [], _∷_, _++_, nil≢cons}
+use Rattle.base.specs.{head-eq-of-cons-eq, tail-eq-of-cons-eq, List·Memᴰ, List·Memᴰ·head, List·Memᴰ·tail, List·Memᴰ·not-nil, eqb, length}
+use Rattle.base.specs.{and-yes}
+use Rattle.model.specs.{all, text, isNameByte, isWord, isEmpty, Part}
+use Rattle.promises.specs.{NameByte}
+use Rattle.theory_graph.proofs.{by-member}
+use Rattle.theory_text.proofs.{Free, above, free-append, bytes-free}
+use Rattle.theory_foundry.specs.{Blank, space, tab, WordByte, Stops, Spelled, none, blank, sign, word, Named, Digits, digit, more}
+use Rattle.theory_foundry.specs.{Figure, whole, pointed, Worth, named, bracketed, turned, primed, one, times, alone, plus, GateSays}
+use Rattle.theory_foundry.specs.{GateContents, PinSays, PinContents, Opens}
 use Rattle.theory_foundry.proofs.WordForms.{word-name}
-use Rattle.theory_graph.proofs.Split.{by-member}
 
 -- ---- a byte below the space, the tab apart, is in no line in form
 module _ (s : ℕ) (low : s < 32) (noTab : eqb 9 s ≡ false) where

@@ -1,24 +1,13 @@
 -- Figures: `isFigure` passes exactly figures, and `thousandths` gives a figure's thousandths exactly where it has at most three decimals and is at most 65.535.
--- Assumes nothing.
-use Prim.Native.Nat.{ℕ, suc, _+_, _-_, _*_, _^_, _≤_}
-use native.Mathlib.Omega.{arith}
-use mathlib.Core.Path.{_≡_, refl, sym, _∙_, ap, ap₂, subst}
-use mathlib.Core.Logic.{_↔_}
-use mathlib.Core.Bool.{true, not, _&&_}
-use mathlib.Core.Option.{some}
-use mathlib.Core.List.{List, [], _∷_, _++_, append-assoc, append-nil}
-use lib.Dec.{T, eqb, leb}
-use lib.ListN.{length, take, drop, replicate}
-use mir.Facts.{and-yes, yes-and, eqb-yes, leb-yes, yes-leb}
-use Rattle.model.specs.Base.{all}
-use Rattle.model.specs.Text.{asDigits, between}
-use Rattle.model.specs.GenlibWords.{isEmpty, isDigit, isDigits, span, isFraction, wholes, decimals, isFigure, inThousandths, thousandths}
-use Rattle.theory_graph.proofs.Lists.{is-true}
-use Rattle.theory_text.proofs.Steps.{only-out, only-yes}
-use Rattle.theory_refusals.proofs.FieldForms.{within-form, within-back}
-use Rattle.theory_foundry.specs.GateForms.{Digits, digit, more, Figure, whole, pointed, Thousandths, wholly, partly, Usable}
-use lib.Seq.{drop-append-seam}
-use Rattle.theory_graph.proofs.Split.{by-bool}
+use Rattle.base.specs.{ℕ, suc, _+_, _-_, _*_, _^_, _≤_, arith, _≡_, refl, sym, _∙_, ap, ap₂, subst, _↔_, true, not, _&&_, some, List, []}
+use Rattle.base.specs.{_∷_, _++_, append-assoc, append-nil, T, eqb, leb, length, take, drop, replicate, and-yes, yes-and, eqb-yes, leb-yes}
+use Rattle.base.specs.{yes-leb, drop-append-seam}
+use Rattle.model.specs.{all, asDigits, between, isEmpty, isDigit, isDigits, span, isFraction, wholes, decimals, isFigure, inThousandths}
+use Rattle.model.specs.{thousandths}
+use Rattle.theory_graph.proofs.{is-true, by-bool}
+use Rattle.theory_text.proofs.{only-out, only-yes}
+use Rattle.theory_refusals.proofs.{within-form, within-back}
+use Rattle.theory_foundry.specs.{Digits, digit, more, Figure, whole, pointed, Thousandths, wholly, partly, Usable}
 
 -- ---- digits
 

@@ -1,23 +1,13 @@
--- Expressions: the form at any depth, brackets at most 16 deep, and the pins before the `;`. Assumes nothing.
-use Prim.Native.Nat.{ℕ, zero, suc, _+_, _-_, _≤_}
-use native.Mathlib.Omega.{arith}
-use mathlib.Core.Path.{_≡_, refl, sym, _∙_, ap, subst}
-use mathlib.Core.Logic.{_↔_}
-use mathlib.Core.Bool.{Bool, true, false, not, _&&_, _||_}
-use mathlib.Core.List.{List, [], _∷_, _++_, append-assoc, List·Memᴰ, List·Memᴰ·head, List·Memᴰ·tail, Memᴰ·append-left, Memᴰ·append-right}
-use lib.Dec.{T, leb}
-use lib.ListN.{length, drop, length-append}
-use mir.Facts.{and-yes, yes-and, leb-yes, yes-leb}
-use Rattle.model.specs.Text.{isNameByte}
-use Rattle.model.specs.GenlibWords.{tokens, isWordByte, isSign, lead, isWord}
-use Rattle.model.specs.GenlibFormula.{formed, shallow, opened, pinsOf}
-use Rattle.model.specs.GenlibDemands.{Part, sum, product, factor, Means, named as m-named, bracketed as m-bracketed, turned as m-turned, primed as m-primed, one as m-one, times as m-times, alone as m-alone, plus as m-plus}
-use Rattle.theory_graph.proofs.Lists.{is-true}
-use Rattle.theory_genlib.proofs.Forms.{word-sign}
-use Rattle.theory_genlib.proofs.Tokens.{sign-alone, drop-in}
-use Rattle.theory_genlib.proofs.Once.{value-formed}
-use Rattle.theory_genlib.proofs.Demanded.{formed-value}
-use Rattle.theory_foundry.specs.GateForms.{Named, Worth, named, bracketed, turned, primed, one, times, alone, plus, Deep}
+-- Expressions: the form at any depth, brackets at most 16 deep, and the pins before the `;`.
+use Rattle.base.specs.{ℕ, zero, suc, _+_, _-_, _≤_, arith, _≡_, refl, sym, _∙_, ap, subst, _↔_, Bool, true, false, not, _&&_, _||_, List}
+use Rattle.base.specs.{[], _∷_, _++_, append-assoc, List·Memᴰ, List·Memᴰ·head, List·Memᴰ·tail, Memᴰ·append-left, Memᴰ·append-right, T, leb}
+use Rattle.base.specs.{length, drop, length-append, and-yes, yes-and, leb-yes, yes-leb}
+use Rattle.model.specs.{isNameByte, tokens, isWordByte, isSign, lead, isWord, formed, shallow, opened, pinsOf, Part, product, factor, Means}
+use Rattle.model.specs.{bracketed as m-bracketed, turned as m-turned, primed as m-primed, plus as m-plus}
+use Rattle.model.specs.GenlibDemands.{sum, named as m-named, one as m-one, times as m-times, alone as m-alone}
+use Rattle.theory_graph.proofs.{is-true}
+use Rattle.theory_genlib.proofs.{word-sign, sign-alone, drop-in, value-formed, formed-value}
+use Rattle.theory_foundry.specs.{Named, Worth, named, bracketed, turned, primed, one, times, alone, plus, Deep}
 use Rattle.theory_foundry.proofs.WordForms.{name-word, word-name}
 use Rattle.theory_foundry.proofs.PinOrder.{pins-order, order-once, kept}
 

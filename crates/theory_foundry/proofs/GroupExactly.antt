@@ -1,19 +1,14 @@
--- A group is read exactly as the conditions say: 22, then 23, then 24, at its first line's offset. Assumes nothing.
-use Prim.Native.Nat.{ℕ, _≤_}
-use mathlib.Core.Path.{_≡_, refl, sym, _∙_, subst}
-use mathlib.Core.List.{List}
-use lib.Dec.{T, T-not, not-T}
-use lib.ListN.{length}
-use Rattle.model.specs.Reading.{holds, fault, unless, from?}
-use Rattle.model.specs.Genlib.{Gate, Group, groupFormed, groupSmall, gateOf, readGroup}
-use Rattle.theory_genlib.proofs.Forms.{none-some}
-use Rattle.promises.specs.Refusals.{Exactly}
-use Rattle.theory_refusals.proofs.Results.{Result, held, refused, exactly, on, unless-yes, unless-no}
-use Rattle.theory_foundry.specs.GateForms.{GateSays, PinSays}
-use Rattle.theory_foundry.specs.GateRefusals.{Small, IsGate}
+-- A group is read exactly as the conditions say: 22, then 23, then 24, at its first line's offset.
+use Rattle.base.specs.{ℕ, _≤_, _≡_, refl, sym, _∙_, subst, List, T, T-not, not-T, length}
+use Rattle.model.specs.{holds, fault, unless, from?, Group, groupFormed, groupSmall, readGroup}
+use Rattle.model.specs.Genlib.{Gate, gateOf}
+use Rattle.promises.specs.{Exactly}
+use Rattle.theory_graph.proofs.{by-option}
+use Rattle.theory_genlib.proofs.{none-some}
+use Rattle.theory_refusals.proofs.{Result, held, refused, exactly, on, unless-yes, unless-no}
+use Rattle.theory_foundry.specs.{GateSays, PinSays, Small, IsGate}
 use Rattle.theory_foundry.proofs.GroupForms.{FormedLines, formed-exactly, small-exactly}
 use Rattle.theory_foundry.proofs.CellForms.{cell-form, cell-back}
-use Rattle.theory_graph.proofs.Split.{by-option}
 
 -- the cell of a group that none of 22 to 24 refuses
 pub record GroupHolds (g : Group) (c : Gate) : Type 0 where

@@ -1,22 +1,12 @@
 -- A group of lines: 22 accepts it exactly where its lines have the form and every pin a line that fits; 23 exactly where it has at most four pins and brackets
--- at most 16 deep. Assumes nothing.
-use Prim.Native.Nat.{ℕ, _≤_}
-use mathlib.Core.Path.{_≡_, refl, sym, _∙_, ap, subst}
-use mathlib.Core.Logic.{_↔_}
-use mathlib.Core.Bool.{Bool, true, false, cond, _&&_}
-use mathlib.Core.Option.{Option, none, some}
-use mathlib.Core.List.{List, [], _∷_, _++_, map, List·Memᴰ, List·Memᴰ·head, List·Memᴰ·tail, List·Memᴰ·not-nil, Memᴰ·append-left, Memᴰ·append-right}
-use lib.Dec.{T, leb}
-use lib.ListN.{length, drop}
-use mir.Facts.{and-yes, yes-and, leb-yes, yes-leb}
-use Rattle.model.specs.Base.{all, keep}
-use Rattle.model.specs.Text.{Line, ended}
-use Rattle.model.specs.GenlibWords.{tokens}
-use Rattle.model.specs.GenlibFormula.{isPin, pinsOf, shallow}
-use Rattle.model.specs.Genlib.{Group, lineIs, isGateLine, isPinLine, hasLine, isThere, pinLine, lineTokens, formulaOf, groupFormed, groupSmall}
-use Rattle.theory_graph.proofs.Lists.{keep-in, keep-out, all-of, all-in}
-use Rattle.theory_foundry.specs.GateForms.{GateSays, PinSays, GateContents, Fits}
-use Rattle.theory_foundry.specs.GateRefusals.{AllListed, Small}
+-- at most 16 deep.
+use Rattle.base.specs.{ℕ, _≤_, _≡_, refl, sym, _∙_, ap, subst, _↔_, Bool, true, false, cond, _&&_, Option, none, some, List, [], _∷_, _++_}
+use Rattle.base.specs.{map, List·Memᴰ, List·Memᴰ·head, List·Memᴰ·tail, List·Memᴰ·not-nil, Memᴰ·append-left, Memᴰ·append-right, T, leb}
+use Rattle.base.specs.{length, drop, and-yes, yes-and, leb-yes, yes-leb}
+use Rattle.model.specs.{all, keep, Line, ended, tokens, isPin, pinsOf, shallow, Group, lineIs, isGateLine, isPinLine, hasLine, isThere}
+use Rattle.model.specs.{pinLine, lineTokens, formulaOf, groupFormed, groupSmall}
+use Rattle.theory_graph.proofs.{keep-in, keep-out, all-of, all-in}
+use Rattle.theory_foundry.specs.{GateSays, PinSays, GateContents, Fits, AllListed, Small}
 use Rattle.theory_foundry.proofs.WordForms.{pin-form as pin-name, pin-back as name-pin}
 use Rattle.theory_foundry.proofs.PinOrder.{pins-order, order-once}
 use Rattle.theory_foundry.proofs.PinForms.{Says, noMore, oneMore, pinSays, pin-form, pin-back, counts-form}

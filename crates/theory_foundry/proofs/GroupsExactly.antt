@@ -1,13 +1,10 @@
--- Groups one after the other: "gate by gate", the first that is refused refuses the text. Assumes nothing.
-use Prim.Native.Nat.{ℕ, _≤_}
-use mathlib.Core.Path.{_≡_, refl, subst}
-use mathlib.Core.Logic.{_⊎_, inl, inr, ⊎-elim}
-use mathlib.Core.List.{List, [], _∷_, cons≢nil, List·Memᴰ, List·Memᴰ·head, List·Memᴰ·tail}
-use lib.ListN.{length}
-use Rattle.model.specs.Reading.{holds, next}
-use Rattle.model.specs.Genlib.{Gate, Group, readGroup, readGroups}
-use Rattle.promises.specs.Refusals.{Exactly}
-use Rattle.theory_refusals.proofs.Results.{exactly-next, exactly-holds, exactly-map}
+-- Groups one after the other: "gate by gate", the first that is refused refuses the text.
+use Rattle.base.specs.{ℕ, _≤_, _≡_, refl, subst, _⊎_, inl, inr, ⊎-elim, List, [], _∷_, cons≢nil, List·Memᴰ, List·Memᴰ·head, List·Memᴰ·tail}
+use Rattle.base.specs.{length}
+use Rattle.model.specs.{holds, next, Group, readGroup, readGroups}
+use Rattle.model.specs.Genlib.{Gate}
+use Rattle.promises.specs.{Exactly}
+use Rattle.theory_refusals.proofs.{exactly-next, exactly-holds, exactly-map}
 use Rattle.theory_foundry.proofs.GroupExactly.{GroupHolds, GroupFault, group-exactly}
 
 -- a cell for each group, in order

@@ -1,19 +1,10 @@
--- GATE lines: their contents are accepted exactly where they have the form. Assumes nothing.
-use Prim.Native.Nat.{ℕ}
-use mathlib.Core.Path.{_≡_, refl, sym, _∙_, ap, subst}
-use mathlib.Core.Bool.{true, _&&_}
-use mathlib.Core.List.{List, [], _∷_, _++_, List·Memᴰ, List·Memᴰ·head, List·Memᴰ·tail}
-use lib.Dec.{T}
-use lib.ListN.{length, getD, drop}
-use mir.Facts.{and-yes, yes-and}
-use Rattle.model.specs.Base.{same}
-use Rattle.model.specs.Text.{text}
-use Rattle.model.specs.GenlibWords.{tokens, isWordByte, isSign, lead, isWord, isFigure}
-use Rattle.model.specs.GenlibFormula.{formed}
-use Rattle.model.specs.Genlib.{gateHead, isGateLine}
-use Rattle.theory_graph.proofs.Lists.{same-eq, same-refl, is-true}
-use Rattle.theory_genlib.proofs.Tokens.{sign-alone}
-use Rattle.theory_foundry.specs.GateForms.{Spelled, GateSays, GateContents}
+-- GATE lines: their contents are accepted exactly where they have the form.
+use Rattle.base.specs.{ℕ, _≡_, refl, sym, _∙_, ap, subst, true, _&&_, List, [], _∷_, _++_, List·Memᴰ, List·Memᴰ·head, List·Memᴰ·tail, T}
+use Rattle.base.specs.{length, getD, drop, and-yes, yes-and}
+use Rattle.model.specs.{same, text, tokens, isWordByte, isSign, lead, isWord, isFigure, formed, gateHead, isGateLine}
+use Rattle.theory_graph.proofs.{same-eq, same-refl, is-true}
+use Rattle.theory_genlib.proofs.{sign-alone}
+use Rattle.theory_foundry.specs.{Spelled, GateSays, GateContents}
 use Rattle.theory_foundry.proofs.WordForms.{name-word, word-name}
 use Rattle.theory_foundry.proofs.TokenForms.{spells, spelled-back}
 use Rattle.theory_foundry.proofs.FigureForms.{figure-form, figure-back}

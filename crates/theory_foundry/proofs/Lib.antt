@@ -16,3 +16,4 @@ pub mod RowForms
 pub mod BlockForms
 pub mod TextExactly
 pub mod TextCases
+pub use TextExactly.{demand-genlib-refusals}

@@ -1,24 +1,12 @@
--- A line begins a group exactly where its first word is GATE, behind blanks. Assumes nothing.
-use Prim.Native.Nat.{ℕ}
-use mathlib.Core.Path.{_≡_, refl, sym, _∙_, ap, subst}
-use mathlib.Core.Logic.{_↔_}
-use mathlib.Core.Bool.{Bool, not, cond}
-use mathlib.Core.List.{List, [], _∷_, _++_}
-use lib.Dec.{T, T-not, not-T}
-use lib.ListN.{length, drop}
-use mir.Facts.{and-yes, yes-and}
-use Rattle.model.specs.Base.{all, same}
-use Rattle.model.specs.Text.{Line, text, isNameByte}
-use Rattle.model.specs.GenlibWords.{isBlank, span}
-use Rattle.model.specs.Genlib.{firstName, startsGate}
-use Rattle.theory_graph.proofs.Lists.{same-eq, same-refl, is-true, is-false, all-of, all-in}
-use Rattle.promises.specs.Forms.{NameByte}
-use Rattle.theory_refusals.proofs.FieldForms.{byte-form, byte-back}
-use Rattle.theory_foundry.specs.GateForms.{Stops}
-use Rattle.theory_foundry.specs.GateRefusals.{Opens}
+-- A line begins a group exactly where its first word is GATE, behind blanks.
+use Rattle.base.specs.{ℕ, _≡_, refl, sym, _∙_, ap, subst, _↔_, Bool, not, cond, List, [], _∷_, _++_, T, T-not, not-T, length, drop, and-yes}
+use Rattle.base.specs.{yes-and, drop-append-seam}
+use Rattle.model.specs.{all, same, Line, text, isNameByte, isBlank, span, firstName, startsGate}
+use Rattle.promises.specs.{NameByte}
+use Rattle.theory_graph.proofs.{same-eq, same-refl, is-true, is-false, all-of, all-in, by-bool}
+use Rattle.theory_refusals.proofs.{byte-form, byte-back}
+use Rattle.theory_foundry.specs.{Stops, Opens}
 use Rattle.theory_foundry.proofs.WordForms.{blank-form, blank-back}
-use lib.Seq.{drop-append-seam}
-use Rattle.theory_graph.proofs.Split.{by-bool}
 
 module _ (p : ℕ → Bool) where
   -- the bytes do not begin with one that passes

@@ -1,31 +1,19 @@
 -- PIN lines: their contents are accepted exactly where they have the form; a line fits a pin, counts for it and gives its delay exactly where the forms say so.
--- Assumes nothing.
-use Prim.Native.Nat.{ℕ, max}
-use native.Mathlib.Omega.{arith}
-use mathlib.Core.Path.{_≡_, refl, sym, _∙_, ap, subst}
-use mathlib.Core.Logic.{_⊎_, inl, inr, _↔_, ⊎-elim}
-use mathlib.Core.Bool.{Bool, true, false, not, cond, false≢true, _&&_, _||_}
-use mathlib.Core.Option.{Option, some}
-use mathlib.Core.List.{List, [], _∷_, _++_, map, nil≢cons, List·Memᴰ, List·Memᴰ·head, List·Memᴰ·tail, List·Memᴰ·not-nil}
-use lib.Dec.{T, eqb, T-not}
-use lib.ListN.{length, getD}
-use mir.Facts.{and-yes, yes-and, or-yes, eqb-yes}
-use Rattle.model.specs.Base.{all, same, andThen}
-use Rattle.model.specs.Text.{Line, text, isNameByte}
-use Rattle.model.specs.GenlibWords.{tokens, isWordByte, isSign, lead, isWord, isFigure, thousandths}
-use Rattle.model.specs.Genlib.{pinHead, isPinLine, fits, pinLine, delayOf, lineTokens}
-use Rattle.theory_graph.proofs.Lists.{same-eq, same-refl, is-true, is-false}
-use Rattle.theory_order.proofs.Splits.{cons-head, cons-tail}
-use Rattle.theory_text.proofs.Steps.{then-out}
-use Rattle.theory_genlib.proofs.Forms.{none-some, some-once, word-sign}
-use Rattle.theory_genlib.proofs.Tokens.{sign-alone}
-use Rattle.theory_refusals.proofs.Results.{on}
-use Rattle.theory_refusals.proofs.FieldForms.{yes-or}
-use Rattle.theory_foundry.specs.GateForms.{Named, Spelled, Figure, PinSays, PinContents, Fits, Counts, Delay}
+use Rattle.base.specs.{ℕ, max, arith, _≡_, refl, sym, _∙_, ap, subst, _⊎_, inl, inr, _↔_, ⊎-elim, Bool, true, false, not, cond, false≢true}
+use Rattle.base.specs.{_&&_, _||_, Option, some, List, [], _∷_, _++_, map, nil≢cons, List·Memᴰ, List·Memᴰ·head, List·Memᴰ·tail}
+use Rattle.base.specs.{List·Memᴰ·not-nil, T, eqb, T-not, length, getD, and-yes, yes-and, or-yes, eqb-yes}
+use Rattle.model.specs.{all, same, andThen, Line, text, isNameByte, tokens, isWordByte, isSign, lead, isWord, isFigure, thousandths}
+use Rattle.model.specs.{pinHead, isPinLine, pinLine, delayOf, lineTokens}
+use Rattle.model.specs.Genlib.{fits}
+use Rattle.theory_graph.proofs.{same-eq, same-refl, is-true, is-false, by-list}
+use Rattle.theory_order.proofs.{cons-head, cons-tail}
+use Rattle.theory_text.proofs.{then-out}
+use Rattle.theory_genlib.proofs.{none-some, some-once, word-sign, sign-alone}
+use Rattle.theory_refusals.proofs.{on, yes-or}
+use Rattle.theory_foundry.specs.{Named, Spelled, Figure, PinSays, PinContents, Fits, Counts, Delay}
 use Rattle.theory_foundry.proofs.WordForms.{name-word, word-name}
 use Rattle.theory_foundry.proofs.TokenForms.{spells, spelled-back}
 use Rattle.theory_foundry.proofs.FigureForms.{figure-form, figure-back, thousandths-form, thousandths-back}
-use Rattle.theory_graph.proofs.Split.{by-list}
 
 -- ---- the contents
 

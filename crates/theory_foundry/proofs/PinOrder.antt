@@ -1,25 +1,14 @@
 -- "Pins take their order of first appearance": the list of pins is the one whose names are the expression's, each once, and of two the first stands earlier;
--- no other list is so. Assumes nothing.
-use Prim.Native.Nat.{ℕ, zero, suc, _+_, _<_}
-use native.Mathlib.Omega.{arith}
-use mathlib.Core.Path.{_≡_, refl, sym, _∙_, ap, ap₂, subst}
-use mathlib.Core.Logic.{_⊎_, inl, inr, _↔_, ⊎-elim}
-use mathlib.Core.Bool.{Bool, cond}
-use mathlib.Core.List.{List, [], _∷_, _++_, append-assoc, append-nil, List·Memᴰ, List·Memᴰ·head, List·Memᴰ·tail, List·Memᴰ·not-nil, List·Memᴰ·append-cases, Memᴰ·append-left, Memᴰ·append-right}
-use lib.Dec.{T, T-not}
-use lib.ListN.{length, length-append}
-use mir.Facts.{or-yes}
-use Rattle.model.specs.Base.{any, same}
-use Rattle.model.specs.Demands.{Distinct}
-use Rattle.model.specs.GenlibFormula.{isPin, withName, addPins, pinsOf}
-use Rattle.theory_graph.proofs.Lists.{same-eq, same-refl, is-true, is-false}
-use Rattle.theory_graph.proofs.Distinct.{append-distinct}
-use Rattle.theory_order.proofs.Splits.{split-at, nil-split, cons-head, cons-tail}
-use Rattle.theory_refusals.proofs.Results.{on}
-use Rattle.theory_refusals.proofs.FieldForms.{yes-or}
-use Rattle.theory_foundry.specs.GateForms.{PinName, Earlier, Ascending, InOrder}
+-- no other list is so.
+use Rattle.base.specs.{ℕ, zero, suc, _+_, _<_, arith, _≡_, refl, sym, _∙_, ap, ap₂, subst, _⊎_, inl, inr, _↔_, ⊎-elim, Bool, cond, List, []}
+use Rattle.base.specs.{_∷_, _++_, append-assoc, append-nil, List·Memᴰ, List·Memᴰ·head, List·Memᴰ·tail, List·Memᴰ·not-nil}
+use Rattle.base.specs.{List·Memᴰ·append-cases, Memᴰ·append-left, Memᴰ·append-right, T, T-not, length, length-append, or-yes}
+use Rattle.model.specs.{any, same, Distinct, isPin, withName, addPins, pinsOf}
+use Rattle.theory_graph.proofs.{same-eq, same-refl, is-true, is-false, append-distinct, by-member}
+use Rattle.theory_order.proofs.{split-at, nil-split, cons-head, cons-tail}
+use Rattle.theory_refusals.proofs.{on, yes-or}
+use Rattle.theory_foundry.specs.{PinName, Earlier, Ascending, InOrder}
 use Rattle.theory_foundry.proofs.WordForms.{pin-form, pin-back}
-use Rattle.theory_graph.proofs.Split.{by-member}
 
 -- ---- the test of a name in a list
 

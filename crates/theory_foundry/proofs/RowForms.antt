@@ -1,24 +1,15 @@
 -- The lines of a genlib text over its bytes: a text that is not empty begins with one, `linesFrom` finds it, and GATE is the first word of its contents exactly
--- where it is that of its bytes, and of the text from there on. Assumes nothing.
-use Prim.Native.Nat.{ℕ, suc, _+_}
-use native.Mathlib.Omega.{arith}
-use mathlib.Core.Path.{_≡_, refl, sym, _∙_, ap, ap₂, subst}
-use mathlib.Core.Logic.{_⊎_, inl, inr, _↔_, ⊎-elim}
-use mathlib.Core.Bool.{Bool, true, false, cond}
-use mathlib.Core.List.{List, [], _∷_, _++_, reverse, reverse-cons, append-assoc, append-nil, cons≢nil, nil≢cons, head-eq-of-cons-eq, tail-eq-of-cons-eq, List·Memᴰ, List·Memᴰ·head, List·Memᴰ·tail, List·Memᴰ·not-nil, List·Memᴰ·append-cases}
-use lib.Dec.{T, eqb, T-not, not-T}
-use lib.ListN.{length, length-append}
-use mir.Facts.{eqb-yes, yes-eqb}
-use Rattle.model.specs.Text.{Line, text, ended, closing, linesFrom, isNameByte}
-use Rattle.theory_graph.proofs.Lists.{is-false}
-use Rattle.theory_text.proofs.Plain.{Free}
-use Rattle.theory_text.proofs.LineLaws.{lines-step, held-back, held-length, heldWith}
-use Rattle.promises.specs.Forms.{NameByte, End, ten, both, LineOf}
-use Rattle.theory_refusals.proofs.FieldForms.{byte-back}
-use Rattle.theory_refusals.proofs.Results.{on}
-use Rattle.theory_refusals.proofs.LineForms.{held-lines, first-split, ended-lines}
-use Rattle.theory_foundry.specs.GateForms.{Blank, space, tab, Stops}
-use Rattle.theory_foundry.specs.GateRefusals.{Plain, Opens, ALine, full, last}
+-- where it is that of its bytes, and of the text from there on.
+use Rattle.base.specs.{ℕ, suc, _+_, arith, _≡_, refl, sym, _∙_, ap, ap₂, subst, _⊎_, inl, inr, _↔_, ⊎-elim, Bool, true, false, cond, List}
+use Rattle.base.specs.{[], _∷_, _++_, reverse, reverse-cons, append-assoc, append-nil, cons≢nil, nil≢cons, head-eq-of-cons-eq}
+use Rattle.base.specs.{tail-eq-of-cons-eq, List·Memᴰ, List·Memᴰ·head, List·Memᴰ·tail, List·Memᴰ·not-nil, List·Memᴰ·append-cases, T, eqb}
+use Rattle.base.specs.{T-not, not-T, length, length-append, eqb-yes, yes-eqb}
+use Rattle.model.specs.{Line, text, ended, closing, linesFrom, isNameByte}
+use Rattle.promises.specs.{NameByte, End, ten, both, LineOf}
+use Rattle.theory_graph.proofs.{is-false}
+use Rattle.theory_text.proofs.{Free, lines-step, held-back, held-length, heldWith}
+use Rattle.theory_refusals.proofs.{byte-back, on, held-lines, first-split, ended-lines}
+use Rattle.theory_foundry.specs.{Blank, space, tab, Stops, Plain, Opens, ALine, full, last}
 
 -- ---- the first line of bytes
 

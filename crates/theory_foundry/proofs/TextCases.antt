@@ -1,16 +1,10 @@
 -- Genlib texts worked out by hand, and what the conditions say of each: its gates, or its refusal's number and place. By computing what is read, which is exactly
 -- what the conditions say (`TextExactly.gates-exactly`). So the conditions hold of texts, and at the borders of a gate's lines they hold where they should.
--- Assumes nothing.
-use Prim.Native.Nat.{ℕ}
-use mathlib.Core.Path.{_≡_, refl, sym}
-use mathlib.Core.List.{List, [], _∷_, _++_}
-use lib.Dec.{T, leb, leb→le}
-use lib.ListN.{length, take}
-use Rattle.model.specs.Text.{text}
-use Rattle.model.specs.Reading.{holds, fault}
-use Rattle.model.specs.Genlib.{Gate, readGenlib}
-use Rattle.theory_text.proofs.Steps.{fault-never}
-use Rattle.theory_foundry.specs.GateRefusals.{GatesIn, GenlibFault}
+use Rattle.base.specs.{ℕ, _≡_, refl, sym, List, [], _∷_, _++_, T, leb, leb→le, length, take}
+use Rattle.model.specs.{text, holds, fault, readGenlib}
+use Rattle.model.specs.Genlib.{Gate}
+use Rattle.theory_text.proofs.{fault-never}
+use Rattle.theory_foundry.specs.{GatesIn, GenlibFault}
 use Rattle.theory_foundry.proofs.TextExactly.{gates-exactly}
 
 gates-of : (t : List ℕ) (cs : List Gate) → T (leb (length t) 65536) → readGenlib t ≡ holds cs → GatesIn t cs

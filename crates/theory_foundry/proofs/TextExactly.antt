@@ -4,18 +4,16 @@
 --     text-faults         GenlibFault t and the first group that is refused
 --     gates-exactly       Gates t, for every text
 --     demand-genlib-refusals        GenlibRefusals t bytes, for every text and every number of lent bytes
--- Assumes nothing.
-use Prim.Native.Nat.{ℕ, _+_}
-use mathlib.Core.Path.{_≡_, refl, sym, _∙_, ap, subst}
-use mathlib.Core.Logic.{_⊎_, inl, inr, _↔_, ⊎-elim}
-use mathlib.Core.List.{List, [], _∷_, _++_, append-assoc, append-nil, cons≢nil, nil≢cons, head-eq-of-cons-eq, tail-eq-of-cons-eq}
-use lib.ListN.{length, length-append}
-use Rattle.model.specs.Text.{linesFrom}
-use Rattle.model.specs.Genlib.{Gate, Group, groups, readGenlib}
-use Rattle.theory_refusals.proofs.Results.{exactly-map}
-use Rattle.theory_foundry.specs.GateRefusals.{GatesIn, noGate, aGate, Block, BlockFault, twentyTwo, twentyThree, twentyFour, GenlibFault, atBlock, Gates, GenlibRefusals}
+use Rattle.base.specs.{ℕ, _+_, _≡_, refl, sym, _∙_, ap, subst, _⊎_, inl, inr, _↔_, ⊎-elim, List, [], _∷_, _++_, append-assoc, append-nil}
+use Rattle.base.specs.{cons≢nil, nil≢cons, head-eq-of-cons-eq, tail-eq-of-cons-eq, length, length-append}
+use Rattle.model.specs.{linesFrom, Group, groups, readGenlib}
+use Rattle.model.specs.Genlib.{Gate}
+use Rattle.theory_refusals.proofs.{exactly-map}
+use Rattle.theory_foundry.specs.{GatesIn, noGate, aGate, Block, BlockFault, twentyTwo, twentyThree, twentyFour, GenlibFault, atBlock}
+use Rattle.theory_foundry.specs.{Gates, GenlibRefusals}
 use Rattle.theory_foundry.proofs.GroupForms.{FormedLines}
-use Rattle.theory_foundry.proofs.GroupExactly.{GroupHolds, GroupFault, twentyTwo as group22, twentyThree as group23, twentyFour as group24}
+use Rattle.theory_foundry.proofs.GroupExactly.{GroupHolds, GroupFault, twentyTwo as group22, twentyThree as group23}
+use Rattle.theory_foundry.proofs.GroupExactly.{twentyFour as group24}
 use Rattle.theory_foundry.proofs.GroupsExactly.{GroupsHold, noGroup, aGroup, GroupsFault, thisOne, laterOne}
 use Rattle.theory_foundry.proofs.CallExactly.{genlib-exactly, call-from}
 use Rattle.theory_foundry.proofs.BlockForms.{Border, below-border, a-block, formed-groups, Reads, block-reads}

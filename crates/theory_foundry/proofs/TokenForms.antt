@@ -1,17 +1,11 @@
--- A line's words and signs: `tokens` finds those that the bytes spell, and the bytes spell no others. Assumes nothing.
-use Prim.Native.Nat.{ℕ}
-use mathlib.Core.Path.{_≡_, refl, sym, _∙_, ap, subst}
-use mathlib.Core.Logic.{_↔_}
-use mathlib.Core.Bool.{Bool, not, _&&_}
-use mathlib.Core.List.{List, [], _∷_, _++_, List·Memᴰ, List·Memᴰ·head, List·Memᴰ·tail, List·Memᴰ·not-nil}
-use lib.Dec.{T, T-not, not-T}
-use Rattle.model.specs.Text.{onto}
-use Rattle.model.specs.GenlibWords.{isBlank, isWordByte, startsWord, placed, tokens}
-use Rattle.theory_graph.proofs.Lists.{is-true, is-false}
-use Rattle.theory_refusals.proofs.Results.{on}
-use Rattle.theory_foundry.specs.GateForms.{Blank, space, tab, WordByte, run, Stops, Spelled, none, blank, sign, word}
+-- A line's words and signs: `tokens` finds those that the bytes spell, and the bytes spell no others.
+use Rattle.base.specs.{ℕ, _≡_, refl, sym, _∙_, ap, subst, _↔_, Bool, not, _&&_, List, [], _∷_, _++_, List·Memᴰ, List·Memᴰ·head}
+use Rattle.base.specs.{List·Memᴰ·tail, List·Memᴰ·not-nil, T, T-not, not-T}
+use Rattle.model.specs.{onto, isBlank, isWordByte, startsWord, placed, tokens}
+use Rattle.theory_graph.proofs.{is-true, is-false, by-member}
+use Rattle.theory_refusals.proofs.{on}
+use Rattle.theory_foundry.specs.{Blank, space, tab, WordByte, run, Stops, Spelled, none, blank, sign, word}
 use Rattle.theory_foundry.proofs.WordForms.{blank-form, blank-back, word-byte-form, word-byte-back}
-use Rattle.theory_graph.proofs.Split.{by-member}
 
 -- no blank is a byte of a word
 pub blank-apart : {b : ℕ} → Blank b → T (not (isWordByte b))

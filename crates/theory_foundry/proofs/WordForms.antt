@@ -1,18 +1,10 @@
--- Names, pins' names, blanks and the bytes of words: each test passes exactly where the bytes are so. Assumes nothing.
-use Prim.Native.Nat.{ℕ}
-use mathlib.Core.Path.{_≡_, sym, subst}
-use mathlib.Core.Logic.{inl, inr, ⊎-elim}
-use mathlib.Core.Bool.{not, _&&_}
-use mathlib.Core.List.{List, [], _∷_}
-use lib.Dec.{T, eqb, T-not, not-T}
-use mir.Facts.{and-yes, yes-and, or-yes, eqb-yes, yes-eqb}
-use Rattle.model.specs.Base.{all, same}
-use Rattle.model.specs.Text.{isNameByte}
-use Rattle.model.specs.GenlibWords.{isBlank, isWordByte, isWord, isEmpty}
-use Rattle.model.specs.GenlibFormula.{isPin, const0, const1}
-use Rattle.theory_graph.proofs.Lists.{same-eq, same-refl, all-of, all-in}
-use Rattle.theory_refusals.proofs.FieldForms.{byte-form, byte-back, yes-or}
-use Rattle.theory_foundry.specs.GateForms.{Blank, space, tab, WordByte, run, Named, PinName}
+-- Names, pins' names, blanks and the bytes of words: each test passes exactly where the bytes are so.
+use Rattle.base.specs.{ℕ, _≡_, sym, subst, inl, inr, ⊎-elim, not, _&&_, List, [], _∷_, T, eqb, T-not, not-T, and-yes, yes-and, or-yes}
+use Rattle.base.specs.{eqb-yes, yes-eqb}
+use Rattle.model.specs.{all, same, isNameByte, isBlank, isWordByte, isWord, isEmpty, isPin, const0, const1}
+use Rattle.theory_graph.proofs.{same-eq, same-refl, all-of, all-in}
+use Rattle.theory_refusals.proofs.{byte-form, byte-back, yes-or}
+use Rattle.theory_foundry.specs.{Blank, space, tab, WordByte, run, Named, PinName}
 
 -- ---- bytes
 

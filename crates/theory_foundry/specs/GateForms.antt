@@ -1,16 +1,10 @@
 -- The forms of a genlib text as relations over bytes, written from N6's sentences: what blanks, names, signs, figures, a GATE line, a PIN line, the pins of an
--- expression and their delays are. Each says that bytes are such a thing and what they mean; no reader stands here. Assumes nothing.
-use Prim.Native.Nat.{ℕ, suc, _+_, _-_, _*_, _^_, _≤_, _<_, max}
-use mathlib.Core.Path.{_≡_}
-use mathlib.Core.Logic.{_⊎_, _↔_}
-use mathlib.Core.Bool.{Bool, true, false, not, _&&_, _||_}
-use mathlib.Core.List.{List, [], _∷_, _++_, List·Memᴰ}
-use lib.ListN.{length, getD}
-use Rattle.model.specs.Base.{bit}
-use Rattle.model.specs.Text.{text}
-use Rattle.model.specs.Demands.{Distinct}
-use Rattle.model.specs.GenlibDemands.{Part, sum, product, factor}
-use Rattle.promises.specs.Forms.{NameByte, LineOf}
+-- expression and their delays are. Each says that bytes are such a thing and what they mean; no reader stands here.
+use Rattle.base.specs.{ℕ, suc, _+_, _-_, _*_, _^_, _≤_, _<_, max, _≡_, _⊎_, _↔_, Bool, true, false, not, _&&_, _||_, List, [], _∷_, _++_}
+use Rattle.base.specs.{List·Memᴰ, length, getD}
+use Rattle.model.specs.{bit, text, Distinct, Part, product, factor}
+use Rattle.model.specs.GenlibDemands.{sum}
+use Rattle.promises.specs.{NameByte, LineOf}
 
 -- ---- bytes and words
 

@@ -1,19 +1,13 @@
 -- 1, 22 to 24 and 18 of a genlib text as conditions over its bytes, by the forms of `GateForms`. A text is refused with a number at a place where the gates before
 -- the place are accepted, and the gate there meets the number's condition and none that is tried before it. No reader's definition is used: the reader is
--- named only where `Exactly` says what it does. Assumes nothing.
-use Prim.Native.Nat.{ℕ, _^_, _≤_, _<_}
-use mathlib.Core.Path.{_≡_}
-use mathlib.Core.Logic.{_⊎_}
-use mathlib.Core.Bool.{Bool, false}
-use mathlib.Core.List.{List, [], _∷_, _++_, List·Memᴰ}
-use lib.ListN.{length, getD}
-use Rattle.model.specs.Base.{bit}
-use Rattle.model.specs.Text.{text}
-use Rattle.model.specs.Genlib.{Gate, readGenlib, cellsText, genlibText}
-use Rattle.promises.specs.Forms.{NameByte}
-use Rattle.promises.specs.Refusals.{Exactly}
-use Rattle.theory_foundry.specs.GateForms.{Blank, Stops, Usable, Worth, Deep, PinName, InOrder, RowValue, GateSays, PinSays, GateLine, PinLine, Fits, Delay}
+-- named only where `Exactly` says what it does.
+use Rattle.base.specs.{ℕ, _^_, _≤_, _<_, _≡_, _⊎_, Bool, false, List, [], _∷_, _++_, List·Memᴰ, length, getD}
+use Rattle.model.specs.{bit, text, readGenlib, cellsText, genlibText}
+use Rattle.model.specs.Genlib.{Gate}
 use Rattle.model.specs.GenlibDemands.{sum}
+use Rattle.promises.specs.{NameByte, Exactly}
+use Rattle.theory_foundry.specs.GateForms.{Blank, Stops, Usable, Worth, Deep, PinName, InOrder, RowValue, GateSays, PinSays, GateLine}
+use Rattle.theory_foundry.specs.GateForms.{PinLine, Fits, Delay}
 
 -- ---- a gate and its PIN lines
 

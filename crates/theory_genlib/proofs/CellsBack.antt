@@ -1,31 +1,18 @@
--- A cell text that is written for gates is read as their cells, where 3 to 6 accept them. Assumes nothing.
-use Prim.Native.Nat.{ℕ, suc, _+_, _-_, _*_, _/_, _%_, _^_, _≤_, _<_}
-use native.Mathlib.Omega.{arith}
-use mathlib.Core.Path.{_≡_, refl, sym, _∙_, ap, ap₂, subst}
-use mathlib.Core.Bool.{Bool, true, false, not, cond, _&&_}
-use mathlib.Core.Option.{Option, none, some}
-use mathlib.Core.List.{List, [], _∷_, _++_, map, append-assoc, List·Memᴰ, List·Memᴰ·head, List·Memᴰ·tail, List·Memᴰ·not-nil}
-use lib.Dec.{T, eqb, leb, le→leb, ltb, ltb→lt, lt→ltb, nltb→le, lit<, not-T}
-use lib.ListN.{length, getD, take, drop, replicate}
-use lib.Seq.{take-append-seam}
-use lib.Pow.{pow-mono}
-use mir.Facts.{and-yes, yes-and, yes-leb, yes-ltb}
-use Rattle.model.specs.Base.{all, any, each, same, andThen, only}
-use Rattle.model.specs.Text.{text, decimal, linesFrom, closing, fields, numbers, between, hexDigit, hexFrom, hexTable, isLetter, isNameByte, isName}
-use Rattle.model.specs.Reading.{Read, holds, next, unless, from?}
-use Rattle.model.specs.Cells.{nameOf}
-use Rattle.model.specs.LibraryText.{nameBytes, cellOfFields, cellOfLine, isClean, noLower, isShorter, isLonger, readCells, readLibraryLines, readLibrary}
-use Rattle.model.specs.Demands.{Distinct}
-use Rattle.model.specs.Genlib.{Gate, hexByte, hexText, numberText, gateText, cellsText}
-use Rattle.model.specs.GenlibDemands.{cellOfGate, Listable}
+-- A cell text that is written for gates is read as their cells, where 3 to 6 accept them.
+use Rattle.base.specs.{ℕ, suc, _+_, _-_, _*_, _/_, _%_, _^_, _≤_, _<_, arith, _≡_, refl, sym, _∙_, ap, ap₂, subst, Bool, true, false, not}
+use Rattle.base.specs.{cond, _&&_, Option, none, some, List, [], _∷_, _++_, map, append-assoc, List·Memᴰ, List·Memᴰ·head, List·Memᴰ·tail}
+use Rattle.base.specs.{List·Memᴰ·not-nil, T, eqb, leb, le→leb, ltb, ltb→lt, lt→ltb, nltb→le, lit<, not-T, length, getD, take, drop}
+use Rattle.base.specs.{replicate, take-append-seam, pow-mono, and-yes, yes-and, yes-leb, yes-ltb}
+use Rattle.model.specs.{all, any, each, same, andThen, only, text, decimal, linesFrom, closing, fields, numbers, between, hexDigit, hexFrom}
+use Rattle.model.specs.{hexTable, isLetter, isNameByte, isName, Read, holds, next, unless, from?, nameOf, nameBytes, cellOfFields}
+use Rattle.model.specs.{cellOfLine, isClean, noLower, isShorter, isLonger, readCells, readLibraryLines, readLibrary, Distinct, hexByte}
+use Rattle.model.specs.{hexText, numberText, gateText, cellsText, cellOfGate, Listable}
+use Rattle.model.specs.Genlib.{Gate}
 use Rattle.model.specs.declared.Cell.{Cell}
-use Rattle.model.proofs.GenlibTables.{rows-most}
-use Rattle.theory_graph.proofs.Lists.{is-true, is-false, same-eq, map-in, any-none}
-use Rattle.theory_text.proofs.Plain.{Free, above, free-append, decimal-free, bytes-free}
-use Rattle.theory_text.proofs.LineLaws.{lineOfBytes, line-first, fields-word}
-use Rattle.theory_text.proofs.DueBack.{numbers-back, fields-numbers}
-use Rattle.theory_text.proofs.Former.{none-lower}
-use Rattle.theory_graph.proofs.Split.{by-bool}
+use Rattle.model.proofs.{rows-most}
+use Rattle.theory_graph.proofs.{is-true, is-false, same-eq, map-in, any-none, by-bool}
+use Rattle.theory_text.proofs.{Free, above, free-append, decimal-free, bytes-free, lineOfBytes, line-first, fields-word, numbers-back}
+use Rattle.theory_text.proofs.{fields-numbers, none-lower}
 
 -- a gate as `readGenlib` gives it
 pub record GateFits (g : Gate) : Type 0 where

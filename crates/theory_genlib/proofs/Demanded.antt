@@ -5,34 +5,24 @@
 --     genlib-fits         the gates of a genlib text are those of cell lines
 --     genlib-back         what is written for them is read as their cells, where 3 to 6 accept names and counts
 --     demand-genlib       the promise, for every genlib text and every number of lent bytes
--- Assumes nothing.
-use Prim.Native.Nat.{ℕ, zero, suc, _-_, _≤_}
-use native.Mathlib.Omega.{arith}
-use mathlib.Core.Path.{_≡_, refl, sym, _∙_, ap, subst}
-use mathlib.Core.Bool.{Bool, true, false, cond, _&&_}
-use mathlib.Core.Option.{some}
-use mathlib.Core.List.{List, [], _∷_, _++_, map, List·Memᴰ, List·Memᴰ·head, List·Memᴰ·tail, List·Memᴰ·not-nil}
-use lib.Dec.{T, eqb, leb}
-use lib.ListN.{length, getD, drop, length-drop}
-use mir.Facts.{and-yes, eqb-yes, leb-yes}
-use Rattle.model.specs.Base.{all, bit, keep}
-use Rattle.model.specs.Text.{Line, ended, linesFrom}
-use Rattle.model.specs.Reading.{holds, next}
-use Rattle.model.specs.GenlibWords.{tokens, isWordByte}
-use Rattle.model.specs.GenlibFormula.{formed, shallow, isPin, pinsOf, nameValue, sumOf, within, valueTaken, valueOf}
-use Rattle.model.specs.Genlib.{Gate, Group, isGateLine, gateHead, isPinLine, lineIs, hasLine, startsGate, grouped, groups, lineTokens, formulaOf, groupFormed, readGroup, readGroups, readGenlib, cellsText, genlibText}
-use Rattle.model.specs.LibraryText.{readLibrary}
-use Rattle.model.specs.GenlibDemands.{cellOfGate, Listable, sum, Means, HasValue, GateMeans, GatesMean, GenlibDemand}
-use Rattle.model.proofs.GenlibTables.{table-value, table-above}
-use Rattle.theory_graph.proofs.Lists.{is-true}
-use Rattle.theory_text.proofs.Steps.{holds-once, unless-out, next-out}
-use Rattle.theory_text.proofs.Faults.{lines-inside}
+use Rattle.base.specs.{ℕ, zero, suc, _-_, _≤_, arith, _≡_, refl, sym, _∙_, ap, subst, Bool, true, false, cond, _&&_, some, List, [], _∷_}
+use Rattle.base.specs.{_++_, map, List·Memᴰ, List·Memᴰ·head, List·Memᴰ·tail, List·Memᴰ·not-nil, T, eqb, leb, length, getD, drop}
+use Rattle.base.specs.{length-drop, and-yes, eqb-yes, leb-yes}
+use Rattle.model.specs.{all, bit, keep, Line, ended, linesFrom, holds, next, tokens, isWordByte, formed, shallow, isPin, pinsOf, nameValue}
+use Rattle.model.specs.{sumOf, valueTaken, Group, isGateLine, gateHead, isPinLine, lineIs, hasLine, startsGate, grouped, groups, lineTokens}
+use Rattle.model.specs.{formulaOf, groupFormed, readGroup, readGroups, readGenlib, cellsText, genlibText, readLibrary, cellOfGate, Listable}
+use Rattle.model.specs.{Means, HasValue, GateMeans, GatesMean, GenlibDemand}
+use Rattle.model.specs.GenlibFormula.{within, valueOf}
+use Rattle.model.specs.Genlib.{Gate}
+use Rattle.model.specs.GenlibDemands.{sum}
+use Rattle.model.proofs.{table-value, table-above}
+use Rattle.theory_graph.proofs.{is-true, by-member}
+use Rattle.theory_text.proofs.{holds-once, unless-out, next-out, lines-inside}
 use Rattle.theory_genlib.proofs.Forms.{deep-taken, formed-taken}
 use Rattle.theory_genlib.proofs.Grammar.{sum-means}
 use Rattle.theory_genlib.proofs.Tokens.{sign-alone, tokens-length, drop-in}
 use Rattle.theory_genlib.proofs.CellsBack.{GateFits, cells-back}
 use Rattle.theory_genlib.proofs.Gates.{Passed, group-parts, group-fits, delays-are}
-use Rattle.theory_graph.proofs.Split.{by-member}
 
 -- ---- the lines of a group stand in the text
 

@@ -4,26 +4,16 @@
 --     sum-takes           what the scan accepts, the grammar takes
 --     deep-taken          what is in form is taken whole, with `;` alone left
 --     formed-taken        and so it is with 16 brackets, where they are at most 16 deep
--- Assumes nothing.
-use Prim.Native.Nat.{ℕ, zero, suc, _+_, _-_, _≤_, _<_}
-use native.Mathlib.Nat.{le-refl}
-use native.Mathlib.Omega.{arith}
-use mathlib.Core.Path.{_≡_, refl, sym, _∙_, ap, subst}
-use mathlib.Core.Bool.{Bool, true, false, not, cond, _&&_, _||_, true≢false, false≢true}
-use mathlib.Core.Option.{none, some}
-use mathlib.Core.List.{List, [], _∷_, List·Memᴰ, List·Memᴰ·head, List·Memᴰ·tail}
-use lib.Dec.{T, eqb, leb, leb→le, ltb, lt→ltb}
-use lib.ListN.{length, drop}
-use borrow.Author.Tests.{eqb-true}
-use mir.Facts.{no-eqb}
-use Rattle.theory_graph.proofs.Lists.{is-true, is-false}
-use Rattle.model.specs.Base.{andThen, all, flip}
-use Rattle.model.specs.Text.{isNameByte, isLetter, between}
-use Rattle.model.specs.GenlibWords.{lead, isSign, isWord, isEmpty}
-use Rattle.model.specs.GenlibFormula.{scanDue, scanAfter, scanToken, scan, isDone, formed, opened, shallow, Taken, turns, begins, chain, quoted, closeBracket, named, atom, factorOf, productOf, sumOf, within}
+use Rattle.base.specs.{ℕ, zero, suc, _+_, _-_, _≤_, _<_, le-refl, arith, _≡_, refl, sym, _∙_, ap, subst, Bool, true, false, not, cond, _&&_}
+use Rattle.base.specs.{_||_, true≢false, false≢true, none, some, List, [], _∷_, List·Memᴰ, List·Memᴰ·head, List·Memᴰ·tail, T, eqb, leb}
+use Rattle.base.specs.{leb→le, ltb, lt→ltb, length, drop, eqb-true, no-eqb}
+use Rattle.model.specs.{andThen, all, flip, isNameByte, isLetter, between, lead, isSign, isWord, isEmpty, scanDue, scanAfter, scanToken}
+use Rattle.model.specs.{scan, isDone, formed, opened, shallow, Taken, turns, begins, chain, quoted, closeBracket, atom, factorOf, productOf}
+use Rattle.model.specs.{sumOf}
+use Rattle.model.specs.GenlibFormula.{named, within}
 use Rattle.model.specs.declared.Scan.{Scan}
 use Rattle.model.specs.declared.Scan.the-variants.{Due, After, Done, Broken}
-use Rattle.theory_graph.proofs.Split.{by-bool, by-option}
+use Rattle.theory_graph.proofs.{is-true, is-false, by-bool, by-option}
 
 -- ---- one token
 

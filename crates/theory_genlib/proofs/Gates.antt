@@ -1,28 +1,18 @@
 -- The gates that a genlib text gives: their pins, tables and figures are those of a cell line.
 --     group-fits          the gate of a group: at most four pins, a table of its rows, four delays, those of absent pins 0, figures of at most 65,535
 --     group-parts         what its reading has passed: 22, 23 and 24
--- Assumes nothing.
-use Prim.Native.Nat.{ℕ, zero, suc, _^_, _≤_, _<_}
-use native.Mathlib.Omega.{arith}
-use mathlib.Core.Path.{_≡_, refl, sym, _∙_, ap, subst}
-use mathlib.Core.Logic.{_⊎_, inl, inr, ⊎-elim}
-use mathlib.Core.Bool.{Bool, true, false, not, cond, _&&_}
-use mathlib.Core.Option.{some}
-use mathlib.Core.List.{List, [], _∷_, _++_, map}
-use lib.Dec.{T, eqb, leb, le→leb, ltb, ltb→lt, nltb→le}
-use lib.ListN.{length, getD, drop}
-use mir.Facts.{and-yes, yes-and, yes-eqb, leb-yes}
-use Rattle.model.specs.Base.{all, andThen}
-use Rattle.model.specs.Reading.{holds}
-use Rattle.model.specs.GenlibWords.{isFigure, decimals, inThousandths, thousandths}
-use Rattle.model.specs.GenlibFormula.{pinsOf, shallow, nameValue, valueOf}
-use Rattle.model.specs.Genlib.{Gate, Group, fits, pinLine, delayOf, pinDelay, delaysOf, tableOf, lineTokens, formulaOf, groupFormed, groupSmall, gateFrom, gateOf, readGroup}
-use Rattle.model.specs.GenlibDemands.{HasDelay}
-use Rattle.model.proofs.GenlibTables.{rows-less}
-use Rattle.theory_text.proofs.Steps.{unless-out, from-out, then-out, only-out}
+use Rattle.base.specs.{ℕ, zero, suc, _^_, _≤_, _<_, arith, _≡_, refl, sym, _∙_, ap, subst, _⊎_, inl, inr, ⊎-elim, Bool, true, false, not}
+use Rattle.base.specs.{cond, _&&_, some, List, [], _∷_, _++_, map, T, eqb, leb, le→leb, ltb, ltb→lt, nltb→le, length, getD, drop, and-yes}
+use Rattle.base.specs.{yes-and, yes-eqb, leb-yes}
+use Rattle.model.specs.{all, andThen, holds, isFigure, decimals, inThousandths, thousandths, pinsOf, shallow, nameValue, Group, pinLine}
+use Rattle.model.specs.{delayOf, pinDelay, delaysOf, tableOf, lineTokens, formulaOf, groupFormed, groupSmall, gateFrom, readGroup, HasDelay}
+use Rattle.model.specs.GenlibFormula.{valueOf}
+use Rattle.model.specs.Genlib.{Gate, fits, gateOf}
+use Rattle.model.proofs.{rows-less}
+use Rattle.theory_graph.proofs.{by-bool}
+use Rattle.theory_text.proofs.{unless-out, from-out, then-out, only-out}
 use Rattle.theory_genlib.proofs.Forms.{none-some, some-once}
 use Rattle.theory_genlib.proofs.CellsBack.{GateFits}
-use Rattle.theory_graph.proofs.Split.{by-bool}
 
 -- ---- figures
 

@@ -1,19 +1,14 @@
 -- What the grammar takes is an expression of that value, by the words of the request.
 --     sum-means           the tokens that are taken are a sum, and what is left stands behind them
--- Assumes nothing.
-use Prim.Native.Nat.{ℕ, zero, suc}
-use mathlib.Core.Path.{_≡_, refl, sym, _∙_, ap, subst}
-use mathlib.Core.Bool.{Bool, true, false, not, cond, _&&_, _||_}
-use mathlib.Core.Option.{none, some}
-use mathlib.Core.List.{List, [], _∷_, _++_, append-assoc}
-use lib.ListN.{drop}
-use Rattle.model.specs.Base.{andThen, flip}
-use Rattle.model.specs.GenlibWords.{isSign, isWord}
-use Rattle.model.specs.GenlibFormula.{Taken, turns, begins, chain, quoted, closeBracket, named, atom, factorOf, productOf, sumOf, within}
-use Rattle.model.specs.GenlibDemands.{Part, sum, product, factor, Means}
+use Rattle.base.specs.{ℕ, zero, suc, _≡_, refl, sym, _∙_, ap, subst, Bool, true, false, not, cond, _&&_, _||_, none, some, List, [], _∷_}
+use Rattle.base.specs.{_++_, append-assoc, drop}
+use Rattle.model.specs.{andThen, flip, isSign, isWord, Taken, turns, begins, chain, quoted, closeBracket, atom, factorOf, productOf, sumOf}
+use Rattle.model.specs.{Part, product, factor, Means}
+use Rattle.model.specs.GenlibFormula.{named, within}
+use Rattle.model.specs.GenlibDemands.{sum}
 use Rattle.model.specs.GenlibDemands.Means.{bracketed, turned, primed, times, plus, alone, named as name, one}
+use Rattle.theory_graph.proofs.{by-bool}
 use Rattle.theory_genlib.proofs.Forms.{begins-is, none-some, some-once}
-use Rattle.theory_graph.proofs.Split.{by-bool}
 
 -- a part of this value stands before what is left
 pub record Before (value : List ℕ → Bool) (p : Part) (ts : List (List ℕ)) (r : Bool × List (List ℕ)) : Type 0 where

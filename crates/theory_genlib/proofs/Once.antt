@@ -2,23 +2,15 @@
 --     means-read          the tokens of a part are taken with its value, given brackets and fuel enough
 --     value-once          an expression and its `;` have one value
 --     value-formed        and are in form
--- Assumes nothing.
-use Prim.Native.Nat.{ℕ, zero, suc, _+_, _-_, _≤_}
-use native.Mathlib.Omega.{arith}
-use mathlib.Core.Path.{_≡_, refl, sym, _∙_, ap}
-use mathlib.Core.Bool.{Bool, true, false, not, cond, _&&_, _||_}
-use mathlib.Core.Option.{none, some}
-use mathlib.Core.List.{List, [], _∷_, _++_, append-assoc}
-use lib.Dec.{eqb}
-use lib.ListN.{drop}
-use Rattle.model.specs.Base.{andThen, flip}
-use Rattle.model.specs.Text.{isNameByte, isLetter, between}
-use Rattle.model.specs.GenlibWords.{lead, isSign, isWord}
-use Rattle.model.specs.GenlibFormula.{formed, Taken, turns, begins, chain, quoted, closeBracket, named, atom, factorOf, productOf, sumOf, within}
-use Rattle.model.specs.GenlibDemands.{Part, sum, product, factor, Means, HasValue}
+use Rattle.base.specs.{ℕ, zero, suc, _+_, _-_, _≤_, arith, _≡_, refl, sym, _∙_, ap, Bool, true, false, not, cond, _&&_, _||_, none, some}
+use Rattle.base.specs.{List, [], _∷_, _++_, append-assoc, eqb, drop}
+use Rattle.model.specs.{andThen, flip, isNameByte, isLetter, between, lead, isSign, isWord, formed, Taken, turns, begins, chain, quoted}
+use Rattle.model.specs.{closeBracket, atom, factorOf, productOf, sumOf, Part, product, factor, Means, HasValue}
+use Rattle.model.specs.GenlibFormula.{named, within}
+use Rattle.model.specs.GenlibDemands.{sum}
 use Rattle.model.specs.GenlibDemands.Means.{bracketed, turned, primed, times, plus, alone, named as name, one}
+use Rattle.theory_graph.proofs.{by-bool}
 use Rattle.theory_genlib.proofs.Forms.{sign-lead, word-sign, some-once, taken-formed}
-use Rattle.theory_graph.proofs.Split.{by-bool}
 
 -- a token is one sign only
 sign-other : (b c : ℕ) (t : List ℕ) → isSign b t ≡ true → eqb b c ≡ false → isSign c t ≡ false

@@ -1,15 +1,8 @@
--- A line's tokens: a sign stands alone, and there are no more tokens than bytes. Assumes nothing.
-use Prim.Native.Nat.{ℕ, zero, suc, _≤_}
-use native.Mathlib.Omega.{arith}
-use mathlib.Core.Path.{_≡_, refl, sym, _∙_, ap}
-use mathlib.Core.Logic.{_⊎_, inl, inr, ⊎-elim}
-use mathlib.Core.Bool.{Bool, true, false, _&&_, true≢false}
-use mathlib.Core.List.{List, [], _∷_, List·Memᴰ, List·Memᴰ·head, List·Memᴰ·tail, List·Memᴰ·not-nil}
-use lib.ListN.{length, drop}
-use borrow.Author.Tests.{eqb-true}
-use Rattle.model.specs.Text.{onto}
-use Rattle.model.specs.GenlibWords.{isBlank, isWordByte, startsWord, placed, tokens, lead, isSign}
-use Rattle.theory_graph.proofs.Split.{by-bool}
+-- A line's tokens: a sign stands alone, and there are no more tokens than bytes.
+use Rattle.base.specs.{ℕ, zero, suc, _≤_, arith, _≡_, refl, sym, _∙_, ap, _⊎_, inl, inr, ⊎-elim, Bool, true, false, _&&_, true≢false, List}
+use Rattle.base.specs.{[], _∷_, List·Memᴰ, List·Memᴰ·head, List·Memᴰ·tail, List·Memᴰ·not-nil, length, drop, eqb-true}
+use Rattle.model.specs.{onto, isBlank, isWordByte, startsWord, placed, tokens, lead, isSign}
+use Rattle.theory_graph.proofs.{by-bool}
 
 -- a token is a word, by its first byte, or one byte
 abbrev Token : List ℕ → Type 0

@@ -1,17 +1,10 @@
--- The cuts of a variable: each cuts it off, and the leaves of one that is not the variable alone are placed before it. Assumes nothing.
-use Prim.Native.Nat.{ℕ, zero, suc, _+_, _≤_, compare}
-use native.Mathlib.Nat.{le-refl, le-of-suc-le-suc, not-suc-le-zero, suc-add, add-suc}
-use native.Mathlib.Omega.{arith}
-use mathlib.Core.Path.{_≡_, refl, sym, _∙_, subst}
-use mathlib.Core.Logic.{_⊎_, inl, inr, ⊎-elim}
-use mathlib.Core.Bool.{Bool}
-use mathlib.Core.List.{List, [], _∷_, _++_, map, append-nil, List·Memᴰ, List·Memᴰ·head, List·Memᴰ·tail, List·Memᴰ·not-nil, List·Memᴰ·cases-cons, List·Memᴰ·eq-of-singleton}
-use lib.Dec.{leb}
-use lib.ListN.{length, length-append}
-use Rattle.model.specs.Base.{find, run, union, keep, each, lowest}
-use Rattle.model.specs.Graph.{And, Graph, Node, constant, input, undefined, both, node, placingOrder, span, varOf, andOn, placeF, ready}
-use Rattle.model.specs.Cuts.{compareCuts, unions, nodeCuts, cutLists, cutsOf, walk}
-use Rattle.model.specs.Demands.{Distinct}
+-- The cuts of a variable: each cuts it off, and the leaves of one that is not the variable alone are placed before it.
+use Rattle.base.specs.{ℕ, zero, suc, _+_, _≤_, compare, le-refl, le-of-suc-le-suc, not-suc-le-zero, suc-add, add-suc, arith, _≡_, refl, sym}
+use Rattle.base.specs.{_∙_, subst, _⊎_, inl, inr, ⊎-elim, Bool, List, [], _∷_, _++_, map, append-nil, List·Memᴰ, List·Memᴰ·head}
+use Rattle.base.specs.{List·Memᴰ·tail, List·Memᴰ·not-nil, List·Memᴰ·cases-cons, List·Memᴰ·eq-of-singleton, leb, length, length-append}
+use Rattle.model.specs.{find, run, union, keep, each, lowest, And, Node, constant, input, undefined, both, node, placingOrder, varOf, andOn}
+use Rattle.model.specs.{placeF, ready, compareCuts, unions, nodeCuts, cutLists, cutsOf, walk, Distinct}
+use Rattle.model.specs.Graph.{Graph, span}
 use Rattle.theory_graph.proofs.Sets.{union-left, union-right, union-only}
 use Rattle.theory_graph.proofs.Lists.{map-out, each-out, keep-out}
 use Rattle.theory_graph.proofs.Runs.{no-twice-behind, run-stays, run-entry, run-split, run-keeps, find-cons}

@@ -1,14 +1,7 @@
--- Lists without repetition, and lengths of lists. Assumes nothing.
-use Prim.Native.Nat.{ℕ, zero, suc, _≤_}
-use native.Mathlib.Nat.{le-refl, le-of-eq}
-use native.Mathlib.Omega.{arith}
-use mathlib.Core.Path.{_≡_, refl, sym, ap}
-use mathlib.Core.Logic.{⊎-elim}
-use mathlib.Core.Bool.{Bool}
-use mathlib.Core.List.{List, [], _∷_, _++_, map, List·Memᴰ, List·Memᴰ·head, List·Memᴰ·tail, List·Memᴰ·not-nil, List·Memᴰ·append-cases, Memᴰ·append-left, Memᴰ·cast}
-use lib.ListN.{length}
-use Rattle.model.specs.Base.{keep, from, below}
-use Rattle.model.specs.Demands.{Distinct}
+-- Lists without repetition, and lengths of lists.
+use Rattle.base.specs.{ℕ, zero, suc, _≤_, le-refl, le-of-eq, arith, _≡_, refl, sym, ap, ⊎-elim, Bool, List, [], _∷_, _++_, map, List·Memᴰ}
+use Rattle.base.specs.{List·Memᴰ·head, List·Memᴰ·tail, List·Memᴰ·not-nil, List·Memᴰ·append-cases, Memᴰ·append-left, Memᴰ·cast, length}
+use Rattle.model.specs.{keep, from, below, Distinct}
 use Rattle.theory_graph.proofs.Lists.{map-out, keep-out}
 use Rattle.theory_graph.proofs.Split.{by-bool}
 

@@ -1,14 +1,10 @@
--- AIGER's values as a relation: the graph has values under each setting, and any values that satisfy its ANDs are these. Assumes nothing.
-use Prim.Native.Nat.{ℕ}
-use mathlib.Core.Path.{_≡_, refl, sym, _∙_, ap, ap₂, subst}
-use mathlib.Core.Logic.{⊎-elim}
-use mathlib.Core.Bool.{Bool, _&&_}
-use mathlib.Core.List.{List, [], _∷_, _++_, map, append-nil, List·Memᴰ, List·Memᴰ·head, List·Memᴰ·tail, List·Memᴰ·not-nil, List·Memᴰ·append-cases, Memᴰ·append-right, Memᴰ·cast}
-use lib.Dec.{T, eqb, eqb→eq}
-use lib.ListN.{length}
-use Rattle.model.specs.Base.{elem, flip}
-use Rattle.model.specs.Graph.{And, Graph, both, findAnd, node, placingOrder, varOf, negated, literalValue, nodeValue, valueOf, GraphValues, andVars}
-use Rattle.model.specs.Demands.{Distinct}
+-- AIGER's values as a relation: the graph has values under each setting, and any values that satisfy its ANDs are these.
+use Rattle.base.specs.{ℕ, _≡_, refl, sym, _∙_, ap, ap₂, subst, ⊎-elim, Bool, _&&_, List, [], _∷_, _++_, map, append-nil, List·Memᴰ}
+use Rattle.base.specs.{List·Memᴰ·head, List·Memᴰ·tail, List·Memᴰ·not-nil, List·Memᴰ·append-cases, Memᴰ·append-right, Memᴰ·cast, T, eqb}
+use Rattle.base.specs.{eqb→eq, length}
+use Rattle.model.specs.{elem, flip, And, both, findAnd, node, placingOrder, varOf, negated, literalValue, nodeValue, valueOf, GraphValues}
+use Rattle.model.specs.{andVars, Distinct}
+use Rattle.model.specs.Graph.{Graph}
 use Rattle.theory_graph.proofs.Lists.{map-in, map-out, each-in, elem-out}
 use Rattle.theory_graph.proofs.Runs.{along, twice-apart}
 use Rattle.theory_graph.specs.Accepted.{Accepted}

@@ -1,16 +1,10 @@
--- Laws of the list functions of `model`: what `map`, `keep`, `each`, `below`, `elem` and `lowest` hold, and look-ups. Assumes nothing.
-use Prim.Native.Nat.{ℕ, zero, suc, _+_, _<_}
-use native.Mathlib.Nat.{le-of-suc-le-suc, not-suc-le-zero, add-zero, add-suc, suc-add, zero-add}
-use mathlib.Core.Path.{_≡_, refl, sym, _∙_, ap, ap₂, subst}
-use mathlib.Core.Option.{Option, none, some}
-use mathlib.Core.Logic.{⊎-elim}
-use native.Mathlib.Omega.{arith}
-use mathlib.Core.Bool.{or-true, Bool, true, false, not, cond, _||_, true≢false, false≢true}
-use mathlib.Core.List.{List, [], _∷_, _++_, map, List·Memᴰ, List·Memᴰ·head, List·Memᴰ·tail, List·Memᴰ·not-nil, List·Memᴰ·append-cases, Memᴰ·append-left, Memᴰ·append-right}
-use lib.Dec.{T, eqb, eqb→eq, eqb-refl, leb}
-use lib.ListN.{length, getD}
-use mir.Facts.{eqb-no, and-yes, yes-and, yes-eqb}
-use Rattle.model.specs.Base.{all, any, keep, each, from, below, elem, same, lowest, smaller}
+-- Laws of the list functions of `model`: what `map`, `keep`, `each`, `below`, `elem` and `lowest` hold, and look-ups.
+use Rattle.base.specs.{ℕ, zero, suc, _+_, _<_, le-of-suc-le-suc, not-suc-le-zero, add-zero, add-suc, suc-add, zero-add, _≡_, refl, sym, _∙_}
+use Rattle.base.specs.{ap, ap₂, subst, Option, none, some, ⊎-elim, arith, or-true, Bool, true, false, not, cond, _||_, true≢false}
+use Rattle.base.specs.{false≢true, List, [], _∷_, _++_, map, List·Memᴰ, List·Memᴰ·head, List·Memᴰ·tail, List·Memᴰ·not-nil}
+use Rattle.base.specs.{List·Memᴰ·append-cases, Memᴰ·append-left, Memᴰ·append-right, T, eqb, eqb→eq, eqb-refl, leb, length, getD, eqb-no}
+use Rattle.base.specs.{and-yes, yes-and, yes-eqb}
+use Rattle.model.specs.{all, any, keep, each, from, below, elem, same, lowest, smaller}
 use Rattle.theory_graph.proofs.Split.{by-bool}
 
 module _ {A B : Type 0} where

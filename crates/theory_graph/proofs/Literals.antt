@@ -1,16 +1,7 @@
--- Literals: a variable and a phase, and the opposite phase. Assumes nothing.
-use Prim.Native.Nat.{ℕ, _+_, _*_, _/_, _%_, zero, suc, _≤_, _<_}
-use native.Mathlib.Omega.{arith}
-use mathlib.Core.Path.{_≡_, _∙_, ap}
-use mathlib.Core.Bool.{Bool, true, false, not, cond, Bool·not-not}
-use lib.Dec.{T, eqb, eqb→eq}
-use mir.Facts.{eqb-no}
-use Rattle.model.specs.Graph.{varOf, negated, literal, opposite}
-use native.Mathlib.Nat.{not-suc-le-zero, le-of-suc-le-suc}
-use Rattle.model.specs.Base.{bit, one}
-use Rattle.model.specs.Table.{rowOf}
-use mathlib.Core.List.{List, [], _∷_}
-use lib.ListN.{length, getD}
+-- Literals: a variable and a phase, and the opposite phase.
+use Rattle.base.specs.{ℕ, _+_, _*_, _/_, _%_, zero, suc, _≤_, _<_, arith, _≡_, _∙_, ap, Bool, true, false, not, cond, Bool·not-not, T, eqb}
+use Rattle.base.specs.{eqb→eq, eqb-no, not-suc-le-zero, le-of-suc-le-suc, List, [], _∷_, length, getD}
+use Rattle.model.specs.{varOf, negated, literal, opposite, bit, one, rowOf}
 
 pub lit-var : (b : Bool) (v : ℕ) → varOf (literal b v) ≡ v
 unfolding varOf literal

@@ -1,13 +1,8 @@
--- Which variables are inputs. Assumes nothing.
-use Prim.Native.Nat.{ℕ}
-use mathlib.Core.Path.{_≡_, refl, sym, _∙_, ap}
-use mathlib.Core.Bool.{Bool, true, false, cond, false≢true}
-use mathlib.Core.List.{List, [], _∷_, List·Memᴰ, Memᴰ·append-left, Memᴰ·cast}
-use lib.Dec.{eqb, eqb→eq}
-use lib.ListN.{length}
-use Rattle.model.specs.Base.{elem}
-use Rattle.model.specs.Graph.{And, Graph, Node, constant, input, undefined, both, node, findAnd, placeF, placingOrder}
-use Rattle.model.specs.Demands.{Distinct}
+-- Which variables are inputs.
+use Rattle.base.specs.{ℕ, _≡_, refl, sym, _∙_, ap, Bool, true, false, cond, false≢true, List, [], _∷_, List·Memᴰ, Memᴰ·append-left}
+use Rattle.base.specs.{Memᴰ·cast, eqb, eqb→eq, length}
+use Rattle.model.specs.{elem, And, Node, constant, input, undefined, both, node, findAnd, placeF, placingOrder, Distinct}
+use Rattle.model.specs.Graph.{Graph}
 use Rattle.theory_graph.proofs.Lists.{elem-in, elem-out}
 use Rattle.theory_graph.proofs.Split.{by-bool}
 

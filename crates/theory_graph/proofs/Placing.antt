@@ -1,19 +1,12 @@
--- The placing order has no number twice, if the graph is accepted. Assumes nothing.
-use Prim.Native.Nat.{ℕ, zero, suc, _≤_}
-use native.Mathlib.Omega.{arith}
-use mathlib.Core.Path.{_≡_, refl, sym, _∙_, subst}
-use mathlib.Core.Logic.{_⊎_, inl, inr, ⊎-elim}
-use mathlib.Core.Bool.{Bool, not, _&&_}
-use mathlib.Core.Option.{Option, none, some}
-use mathlib.Core.List.{List, [], _∷_, _++_, map, List·Memᴰ, List·Memᴰ·head, List·Memᴰ·tail, List·Memᴰ·not-nil, List·Memᴰ·append-cases, Memᴰ·append-left, Memᴰ·append-right, Memᴰ·cast}
-use lib.Dec.{T, leb, leb→le, T-not}
-use lib.ListN.{length}
-use mir.Facts.{and-yes}
-use Rattle.model.specs.Base.{elem, keep, lowest}
-use Rattle.model.specs.Graph.{And, Graph, ready, andOn, placeF, placingOrder, unplaced, varOf, andVars}
+-- The placing order has no number twice, if the graph is accepted.
+use Rattle.base.specs.{ℕ, zero, suc, _≤_, arith, _≡_, refl, sym, _∙_, subst, _⊎_, inl, inr, ⊎-elim, Bool, not, _&&_, Option, none, some}
+use Rattle.base.specs.{List, [], _∷_, _++_, map, List·Memᴰ, List·Memᴰ·head, List·Memᴰ·tail, List·Memᴰ·not-nil, List·Memᴰ·append-cases}
+use Rattle.base.specs.{Memᴰ·append-left, Memᴰ·append-right, Memᴰ·cast, T, leb, leb→le, T-not, length, and-yes}
+use Rattle.model.specs.{elem, keep, lowest, And, ready, andOn, placeF, placingOrder, unplaced, varOf, andVars, Distinct}
+use Rattle.model.specs.Graph.{Graph}
 use Rattle.theory_graph.proofs.Distinct.{append-distinct}
-use Rattle.theory_graph.specs.Accepted.{Accepted, distinct}
-use Rattle.model.specs.Demands.{Distinct}
+use Rattle.theory_graph.specs.Accepted.{Accepted}
+use Rattle.theory_graph.specs.{distinct}
 use Rattle.theory_graph.proofs.Lists.{map-in, map-out, keep-in, keep-out, elem-T, elem-out, lowest-in, all-of}
 use Rattle.theory_graph.proofs.Split.{by-option, by-bool}
 

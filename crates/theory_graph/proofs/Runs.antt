@@ -1,10 +1,7 @@
--- What is known after a run along a list without repetition: each entry is its step's, and later steps leave it as it is. Assumes nothing.
-use Prim.Native.Nat.{ℕ}
-use mathlib.Core.Path.{_≡_, refl, sym, _∙_, subst}
-use mathlib.Core.List.{List, [], _∷_, _++_, append-assoc, List·Memᴰ, List·Memᴰ·head, List·Memᴰ·tail, List·Memᴰ·not-nil, Memᴰ·append-right, Memᴰ·cast}
-use lib.Dec.{eqb, eqb→eq, eqb-refl}
-use Rattle.model.specs.Base.{find, run}
-use Rattle.model.specs.Demands.{Distinct}
+-- What is known after a run along a list without repetition: each entry is its step's, and later steps leave it as it is.
+use Rattle.base.specs.{ℕ, _≡_, refl, sym, _∙_, subst, List, [], _∷_, _++_, append-assoc, List·Memᴰ, List·Memᴰ·head, List·Memᴰ·tail}
+use Rattle.base.specs.{List·Memᴰ·not-nil, Memᴰ·append-right, Memᴰ·cast, eqb, eqb→eq, eqb-refl}
+use Rattle.model.specs.{find, run, Distinct}
 use Rattle.theory_graph.proofs.Lists.{by-eqb}
 use Rattle.theory_graph.proofs.Split.{by-bool}
 

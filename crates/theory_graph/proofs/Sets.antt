@@ -1,9 +1,7 @@
--- `insert` and `union` of `Base`: what they hold, and that they stay ascending. Assumes nothing.
-use Prim.Native.Nat.{Ordering, Ordering·lt, Ordering·eq, Ordering·gt}
-use mathlib.Core.Path.{_≡_, refl}
-use mathlib.Core.Logic.{_⊎_, inl, inr, ⊎-elim}
-use mathlib.Core.List.{List, [], _∷_, List·Memᴰ, List·Memᴰ·head, List·Memᴰ·tail, List·Memᴰ·cases-cons, Memᴰ·cast}
-use Rattle.model.specs.Base.{put, insert, union}
+-- `insert` and `union` of `Base`: what they hold, and that they stay ascending.
+use Rattle.base.specs.{Ordering, Ordering·lt, Ordering·eq, Ordering·gt, _≡_, refl, _⊎_, inl, inr, ⊎-elim, List, [], _∷_, List·Memᴰ}
+use Rattle.base.specs.{List·Memᴰ·head, List·Memᴰ·tail, List·Memᴰ·cases-cons, Memᴰ·cast}
+use Rattle.model.specs.{put, insert, union}
 
 module _ {A : Type 0} where
   put-new : (o : Ordering) (x y : A) (ys r : List A) → (o ≡ Ordering·eq → x ≡ y) → List·Memᴰ x r → List·Memᴰ x (put o x y ys r)

@@ -1,10 +1,7 @@
--- A value by its forms, with the equation that says which form it has. Assumes nothing.
-use Prim.Native.Nat.{ℕ, zero, suc}
-use mathlib.Core.Path.{_≡_, refl}
-use mathlib.Core.Bool.{Bool, true, false}
-use mathlib.Core.Option.{Option, none, some}
-use mathlib.Core.List.{List, [], _∷_, List·Memᴰ, List·Memᴰ·head, List·Memᴰ·tail}
-use Rattle.model.specs.Reading.{Read, holds, fault}
+-- A value by its forms, with the equation that says which form it has.
+use Rattle.base.specs.{ℕ, zero, suc, _≡_, refl, Bool, true, false, Option, none, some, List, [], _∷_, List·Memᴰ, List·Memᴰ·head}
+use Rattle.base.specs.{List·Memᴰ·tail}
+use Rattle.model.specs.{Read, holds, fault}
 
 module _ {ℓ} {X : Type ℓ} where
   pub by-bool : (b : Bool) → (b ≡ true → X) → (b ≡ false → X) → X

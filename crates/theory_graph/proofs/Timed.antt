@@ -1,17 +1,8 @@
 -- A graph whose inputs are timed is the same graph in everything but their arrivals, and each input arrives as is listed for its place in the file.
--- Assumes nothing.
-use Prim.Native.Nat.{ℕ, zero, suc, _<_}
-use native.Mathlib.Nat.{not-suc-le-zero, le-of-suc-le-suc}
-use mathlib.Core.Path.{_≡_, refl, sym, _∙_, ap, subst}
-use mathlib.Core.Bool.{Bool, cond}
-use mathlib.Core.List.{List, [], _∷_, map, List·Memᴰ, List·Memᴰ·head, List·Memᴰ·tail, Memᴰ·cast}
-use lib.Dec.{eqb, eqb-refl}
-use lib.ListN.{length, getD}
-use mir.Facts.{no-eqb}
-use Rattle.model.specs.Graph.{Graph, node, placingOrder, unplaced, GraphValues}
-use Rattle.model.specs.Cuts.{cutsOf}
-use Rattle.model.specs.ArrivalsText.{Late, lateOf, timedBy}
-use Rattle.model.specs.Demands.{Distinct, Lists, ListedFor}
+use Rattle.base.specs.{ℕ, zero, suc, _<_, not-suc-le-zero, le-of-suc-le-suc, _≡_, refl, sym, _∙_, ap, subst, Bool, cond, List, [], _∷_, map}
+use Rattle.base.specs.{List·Memᴰ, List·Memᴰ·head, List·Memᴰ·tail, Memᴰ·cast, eqb, eqb-refl, length, getD, no-eqb}
+use Rattle.model.specs.Graph.{Graph}
+use Rattle.model.specs.{node, placingOrder, unplaced, GraphValues, cutsOf, Late, lateOf, timedBy, Distinct, Lists, ListedFor}
 use Rattle.theory_graph.specs.Accepted.{Accepted}
 use Rattle.theory_graph.proofs.Lists.{is-true, is-false, getD-in, map-in}
 

@@ -1,17 +1,12 @@
--- The values that `values` finds in placing order are those that AIGER's equations ask for, in an accepted graph. Assumes nothing.
-use Prim.Native.Nat.{ℕ, zero, suc}
-use mathlib.Core.Path.{_≡_, refl, sym, _∙_, ap, ap₂, subst}
-use mathlib.Core.Logic.{_⊎_, inl, inr, ⊎-elim}
-use mathlib.Core.Bool.{Bool, true, false, not, _&&_, true≢false, false≢true}
-use mathlib.Core.Option.{Option, none, some}
-use mathlib.Core.List.{List, [], _∷_, _++_, map, List·Memᴰ, List·Memᴰ·head, List·Memᴰ·tail, List·Memᴰ·not-nil, List·Memᴰ·cases-cons, Memᴰ·append-left, Memᴰ·cast}
-use lib.Dec.{T, eqb, eqb→eq, not-T}
-use lib.ListN.{length}
-use mir.Facts.{and-yes}
-use Rattle.model.specs.Base.{elem, keep, lowest, find, run, flip}
-use Rattle.model.specs.Graph.{And, Graph, Node, constant, input, undefined, both, findAnd, node, ready, andOn, placeF, placingOrder, unplaced, varOf, negated, literalValue, nodeValue, values, valueOf}
-use Rattle.theory_graph.specs.Accepted.{Accepted, distinct}
-use Rattle.model.specs.Demands.{Distinct}
+-- The values that `values` finds in placing order are those that AIGER's equations ask for, in an accepted graph.
+use Rattle.base.specs.{ℕ, zero, suc, _≡_, refl, sym, _∙_, ap, ap₂, subst, _⊎_, inl, inr, ⊎-elim, Bool, true, false, not, _&&_, true≢false}
+use Rattle.base.specs.{false≢true, Option, none, some, List, [], _∷_, _++_, map, List·Memᴰ, List·Memᴰ·head, List·Memᴰ·tail}
+use Rattle.base.specs.{List·Memᴰ·not-nil, List·Memᴰ·cases-cons, Memᴰ·append-left, Memᴰ·cast, T, eqb, eqb→eq, not-T, length, and-yes}
+use Rattle.model.specs.{elem, keep, lowest, find, run, flip, And, Node, constant, input, undefined, both, findAnd, node, ready, andOn}
+use Rattle.model.specs.{placeF, placingOrder, unplaced, varOf, negated, literalValue, nodeValue, values, valueOf, Distinct}
+use Rattle.model.specs.Graph.{Graph}
+use Rattle.theory_graph.specs.Accepted.{Accepted}
+use Rattle.theory_graph.specs.{distinct}
 use Rattle.theory_graph.proofs.Lists.{map-in, map-out, keep-in, keep-out, elem-out, lowest-in, is-true}
 use Rattle.theory_graph.proofs.Runs.{no-twice-behind, along, run-stays, run-entry, run-split}
 use Rattle.theory_graph.proofs.Walk.{Valuation}

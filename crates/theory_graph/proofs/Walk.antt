@@ -1,14 +1,8 @@
--- A walk over a cut gives the AIGER value of its root when the leaves carry theirs. Assumes nothing.
-use Prim.Native.Nat.{ℕ, suc}
-use mathlib.Core.Path.{_≡_, sym, _∙_, ap, ap₂}
-use mathlib.Core.Bool.{Bool, true, false, not, cond, _&&_}
-use mathlib.Core.Option.{some}
-use mathlib.Core.List.{List, [], _∷_, List·Memᴰ, List·Memᴰ·head, List·Memᴰ·tail, List·Memᴰ·not-nil}
-use lib.Dec.{T, eqb, eqb→eq}
-use mir.Facts.{eqb-no}
-use Rattle.model.specs.Base.{bit, orElse}
-use Rattle.model.specs.Graph.{Graph, constant, both, node, varOf, literalValue, nodeValue}
-use Rattle.model.specs.Cuts.{leafBit, walk}
+-- A walk over a cut gives the AIGER value of its root when the leaves carry theirs.
+use Rattle.base.specs.{ℕ, suc, _≡_, sym, _∙_, ap, ap₂, Bool, true, false, not, cond, _&&_, some, List, [], _∷_, List·Memᴰ, List·Memᴰ·head}
+use Rattle.base.specs.{List·Memᴰ·tail, List·Memᴰ·not-nil, T, eqb, eqb→eq, eqb-no}
+use Rattle.model.specs.{bit, orElse, constant, both, node, varOf, literalValue, nodeValue, leafBit, walk}
+use Rattle.model.specs.Graph.{Graph}
 
 -- the variables' values under a setting of the inputs
 abbrev pub Valuation : Graph → (ℕ → Bool) → (ℕ → Bool) → Type 0

@@ -1,14 +1,7 @@
--- A graph and a library free of the refusals that their texts can bring, as far as mapping depends on it. Assumes nothing.
-use Prim.Native.Nat.{ℕ, _^_}
-use mathlib.Core.Path.{_≡_}
-use mathlib.Core.Bool.{Bool, true, not, _&&_}
-use mathlib.Core.List.{List, [], _∷_, _++_, List·Memᴰ}
-use lib.Dec.{T, eqb, leb, ltb}
-use lib.ListN.{length}
-use Rattle.model.specs.Base.{all, each, elem, same}
-use Rattle.model.specs.Text.{isName}
-use Rattle.model.specs.Cells.{nameOf}
-use Rattle.model.specs.Graph.{And, Graph, varOf, unplaced, andVars}
+-- A graph and a library free of the refusals that their texts can bring, as far as mapping depends on it.
+use Rattle.base.specs.{ℕ, _^_, _≡_, Bool, true, not, _&&_, List, [], _∷_, _++_, List·Memᴰ, T, eqb, leb, ltb, length}
+use Rattle.model.specs.{all, each, elem, same, isName, nameOf, And, varOf, unplaced, andVars}
+use Rattle.model.specs.Graph.{Graph}
 use Rattle.model.specs.declared.Cell.{Cell}
 
 -- no number stands twice

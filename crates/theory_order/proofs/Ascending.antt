@@ -4,22 +4,11 @@
 --     ascending-unique            two ascending lists of numbers with the same members are one
 --     ascending-once              an ascending list has nothing twice
 --     cuts-found, cuts-back, cuts-on, cuts-never      "Cuts are listed by size, then by ascending leaves compared left to right": an order
--- Assumes nothing.
-use Prim.Native.Nat.{ℕ, _<_, compare, Ordering, Ordering·lt, Ordering·eq, Ordering·gt}
-use native.Mathlib.Omega.{arith}
-use mathlib.Core.Path.{_≡_, refl, sym, _∙_, ap, subst}
-use mathlib.Core.Bool.{true, false, true≢false, false≢true}
-use mathlib.Core.Logic.{_⊎_, inl, inr, ⊎-elim}
-use mathlib.Core.List.{List, [], _∷_, List·Memᴰ, List·Memᴰ·head, List·Memᴰ·tail, List·Memᴰ·not-nil, List·Memᴰ·cases-cons}
-use lib.Dec.{isLe, isEq}
-use lib.ListN.{length}
-use borrow.Author.Tests.{leb-true, leb-false, eqb-false, le-leb, ne-eqb, eq-eqb}
-use Rattle.model.specs.Base.{put, insert, union}
-use Rattle.model.specs.Cuts.{after, compareLeaves, compareCuts}
-use Rattle.model.specs.Demands.{Distinct}
-use Rattle.model.specs.OrderDemands.{Ascending}
-use Rattle.theory_graph.proofs.Sets.{insert-only}
-use Rattle.theory_graph.proofs.CutFacts.{compare-found}
+use Rattle.base.specs.{ℕ, _<_, compare, Ordering, Ordering·lt, Ordering·eq, Ordering·gt, arith, _≡_, refl, sym, _∙_, ap, subst, true, false}
+use Rattle.base.specs.{true≢false, false≢true, _⊎_, inl, inr, ⊎-elim, List, [], _∷_, List·Memᴰ, List·Memᴰ·head, List·Memᴰ·tail}
+use Rattle.base.specs.{List·Memᴰ·not-nil, List·Memᴰ·cases-cons, isLe, isEq, length, leb-true, leb-false, eqb-false, le-leb, ne-eqb, eq-eqb}
+use Rattle.model.specs.{put, insert, union, after, compareLeaves, compareCuts, Distinct, Ascending}
+use Rattle.theory_graph.proofs.{insert-only, compare-found}
 
 pub ascending-once : {A : Type 0} (less : A → A → Type 0) → ((x : A) → ¬ less x x) → (xs : List A) → Ascending less xs → Distinct xs
 ascending-once less never [] h = tt

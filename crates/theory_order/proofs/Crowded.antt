@@ -2,27 +2,14 @@
 -- counted as sets.
 --     crowded-first-iff           the place of refusal 16
 --     crowded-none-iff            it applies nowhere exactly where no placed variable has too many
--- Assumes nothing.
-use Prim.Native.Nat.{ℕ, _≤_}
-use native.Mathlib.Omega.{arith}
-use mathlib.Core.Path.{_≡_, refl, sym, _∙_, ap, subst}
-use mathlib.Core.Logic.{_↔_, ⊎-elim}
-use mathlib.Core.Bool.{Bool, true, false, not, cond}
-use mathlib.Core.Option.{some}
-use mathlib.Core.List.{List, [], _∷_, _++_, List·Memᴰ, List·Memᴰ·head, List·Memᴰ·tail, List·Memᴰ·not-nil, List·Memᴰ·cases-cons}
-use lib.Dec.{T, ltb, ltb→lt, lt→ltb}
-use lib.ListN.{length}
-use Rattle.model.specs.Base.{keep}
-use Rattle.model.specs.Limits.{cutLimit}
-use Rattle.model.specs.Reading.{firstOf}
-use Rattle.model.specs.Graph.{Graph, placingOrder}
-use Rattle.model.specs.Cuts.{cutsOf, crowded}
-use Rattle.model.specs.OrderDemands.{Many, FirstCrowded}
+use Rattle.base.specs.{ℕ, _≤_, arith, _≡_, refl, sym, _∙_, ap, subst, _↔_, ⊎-elim, Bool, true, false, not, cond, some, List, [], _∷_, _++_}
+use Rattle.base.specs.{List·Memᴰ, List·Memᴰ·head, List·Memᴰ·tail, List·Memᴰ·not-nil, List·Memᴰ·cases-cons, T, ltb, ltb→lt, lt→ltb, length}
+use Rattle.model.specs.{keep, cutLimit, firstOf, placingOrder, cutsOf, crowded, Many, FirstCrowded}
+use Rattle.model.specs.Graph.{Graph}
 use Rattle.theory_graph.specs.Accepted.{Accepted}
-use Rattle.theory_graph.proofs.Lists.{keep-in, keep-out, is-true, is-false}
+use Rattle.theory_graph.proofs.{keep-in, keep-out, is-true, is-false, by-bool}
 use Rattle.theory_order.proofs.Splits.{none-in, no-more}
 use Rattle.theory_order.proofs.Recursion.{cuts-exactly, cuts-once}
-use Rattle.theory_graph.proofs.Split.{by-bool}
 
 -- ---- the first that passes a test
 

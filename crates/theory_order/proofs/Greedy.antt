@@ -1,23 +1,13 @@
 -- "Placing order: variable 0 and the inputs first, then again and again the lowest-numbered AND whose operands are both placed", as a relation apart
 -- from the definition.
 --     placing-iff                 the placing order is what the sentence says, and nothing else is
--- Assumes nothing.
-use Prim.Native.Nat.{ℕ, zero, suc, _≤_}
-use native.Mathlib.Nat.{le-antisymm}
-use native.Mathlib.Omega.{arith}
-use mathlib.Core.Path.{_≡_, refl, sym, ap, ap₂, subst}
-use mathlib.Core.Logic.{_↔_}
-use mathlib.Core.Bool.{not, _&&_}
-use mathlib.Core.List.{List, [], _∷_, _++_, map, List·Memᴰ, Memᴰ·cast}
-use lib.ListN.{length}
-use mir.Facts.{yes-and}
-use Rattle.model.specs.Base.{elem, keep, lowest}
-use Rattle.model.specs.Graph.{And, Graph, varOf, ready, andOn, placeF, placingOrder}
-use Rattle.model.specs.OrderDemands.{Follows}
-use Rattle.theory_graph.proofs.Lists.{map-in, keep-in, elem-T}
+use Rattle.base.specs.{ℕ, zero, suc, _≤_, le-antisymm, arith, _≡_, refl, sym, ap, ap₂, subst, _↔_, not, _&&_, List, [], _∷_, _++_, map}
+use Rattle.base.specs.{List·Memᴰ, Memᴰ·cast, length, yes-and}
+use Rattle.model.specs.{elem, keep, lowest, And, varOf, ready, andOn, placeF, placingOrder, Follows}
+use Rattle.model.specs.Graph.{Graph}
+use Rattle.theory_graph.proofs.{map-in, keep-in, elem-T, by-option}
 use Rattle.theory_order.proofs.Splits.{cons-tail, keep-length, lowest-none, lowest-least}
 use Rattle.theory_order.proofs.Orders.{waiting, in-not, next-turn, fewer-wait}
-use Rattle.theory_graph.proofs.Split.{by-option}
 
 -- behind those placed already: nothing, where no AND is left whose operands are placed; else the lowest such AND, and so on behind it
 pub data Greedy (g : Graph) : List ℕ → List ℕ → Type 0 where

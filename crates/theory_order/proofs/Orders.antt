@@ -5,26 +5,18 @@
 --     unplaced-none-iff           all are placed exactly where there is an order of all
 --     unplaced-lowest-iff         the place of refusal 15
 --     order-turn                  what stands in the placing order is variable 0, an input, or an AND behind its operands
--- Assumes nothing.
-use Prim.Native.Nat.{ℕ, zero, suc, _≤_, _<_}
-use native.Mathlib.Omega.{arith}
-use mathlib.Core.Path.{_≡_, refl, sym, _∙_, ap, subst}
-use mathlib.Core.Logic.{_⊎_, inl, inr, _↔_, ⊎-elim}
-use mathlib.Core.Bool.{Bool, not, _&&_}
-use mathlib.Core.Option.{Option, none, some}
-use mathlib.Core.List.{List, [], _∷_, _++_, map, append-nil, append-assoc, List·Memᴰ, List·Memᴰ·head, List·Memᴰ·tail, List·Memᴰ·not-nil, List·Memᴰ·eq-of-singleton, List·Memᴰ·append-cases, Memᴰ·append-left, Memᴰ·append-right, Memᴰ·cast}
-use lib.Dec.{T, T-not, not-T}
-use lib.ListN.{length}
-use mir.Facts.{and-yes, yes-and}
-use Rattle.model.specs.Base.{elem, keep, lowest}
-use Rattle.model.specs.Graph.{And, Graph, varOf, ready, andOn, placeF, placingOrder, unplaced, andVars}
-use Rattle.model.specs.OrderDemands.{Follows, Order, Stands, OrderOfAll}
-use Rattle.theory_graph.specs.Accepted.{distinct}
-use Rattle.theory_graph.proofs.Lists.{map-in, map-out, keep-in, keep-out, elem-out, elem-T, is-true, lowest-in}
-use Rattle.theory_graph.proofs.Runs.{twice-apart}
-use Rattle.theory_graph.proofs.Placing.{next-new}
-use Rattle.theory_order.proofs.Splits.{by-elem, distinct-yes, none-in, nil-split, cons-head, cons-tail, split-append, between-first, first-between, split-once, keep-length, keep-less, lowest-none, lowest-least, lowest-some}
-use Rattle.theory_graph.proofs.Split.{by-option, by-member}
+use Rattle.base.specs.{ℕ, zero, suc, _≤_, _<_, arith, _≡_, refl, sym, _∙_, ap, subst, _⊎_, inl, inr, _↔_, ⊎-elim, Bool, not, _&&_, Option}
+use Rattle.base.specs.{none, some, List, [], _∷_, _++_, map, append-nil, append-assoc, List·Memᴰ, List·Memᴰ·head, List·Memᴰ·tail}
+use Rattle.base.specs.{List·Memᴰ·not-nil, List·Memᴰ·eq-of-singleton, List·Memᴰ·append-cases, Memᴰ·append-left, Memᴰ·append-right, Memᴰ·cast}
+use Rattle.base.specs.{T, T-not, not-T, length, and-yes, yes-and}
+use Rattle.model.specs.{elem, keep, lowest, And, varOf, ready, andOn, placeF, placingOrder, unplaced, andVars, Follows, Order, Stands}
+use Rattle.model.specs.{OrderOfAll}
+use Rattle.model.specs.Graph.{Graph}
+use Rattle.theory_graph.specs.{distinct}
+use Rattle.theory_graph.proofs.{map-in, map-out, keep-in, keep-out, elem-out, elem-T, is-true, lowest-in, twice-apart, next-new, by-option}
+use Rattle.theory_graph.proofs.{by-member}
+use Rattle.theory_order.proofs.Splits.{by-elem, distinct-yes, none-in, nil-split, cons-head, cons-tail, split-append, between-first}
+use Rattle.theory_order.proofs.Splits.{first-between, split-once, keep-length, keep-less, lowest-none, lowest-least, lowest-some}
 
 follows-more : {g : Graph} {v : ℕ} (xs ys : List ℕ) → ((x : ℕ) → List·Memᴰ x xs → List·Memᴰ x ys) → Follows g xs v → Follows g ys v
 follows-more xs ys sub f =

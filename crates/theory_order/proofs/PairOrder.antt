@@ -1,22 +1,11 @@
 -- "for each root cell, pin and inner cell with at least one pin, in that order of lines, form a pair feeding that pin, if the result has at most four pins";
--- "all pairs are kept". Assumes nothing.
-use Prim.Native.Nat.{ℕ, zero, suc, _+_, _≤_, _<_}
-use native.Mathlib.Omega.{arith}
-use mathlib.Core.Path.{_≡_, refl, sym, _∙_, ap, subst}
-use mathlib.Core.Logic.{inl, inr, _↔_, ⊎-elim}
-use mathlib.Core.Bool.{Bool}
-use mathlib.Core.List.{List, [], _∷_, _++_, map, List·Memᴰ, List·Memᴰ·head, List·Memᴰ·tail, List·Memᴰ·not-nil, List·Memᴰ·append-cases}
-use lib.Dec.{T, leb, le→leb}
-use lib.ListN.{length}
-use mir.Facts.{and-yes, yes-and, leb-yes}
-use Rattle.model.specs.Base.{each, keep, from, below}
-use Rattle.model.specs.Cells.{cellAt}
-use Rattle.model.specs.Pairs.{Pair, joins, pairsOf}
-use Rattle.model.specs.PairDemands.{Joined, Before, Rising, PairsKept}
+-- "all pairs are kept".
+use Rattle.base.specs.{ℕ, zero, suc, _+_, _≤_, _<_, arith, _≡_, refl, sym, _∙_, ap, subst, inl, inr, _↔_, ⊎-elim, Bool, List, [], _∷_, _++_}
+use Rattle.base.specs.{map, List·Memᴰ, List·Memᴰ·head, List·Memᴰ·tail, List·Memᴰ·not-nil, List·Memᴰ·append-cases, T, leb, le→leb, length}
+use Rattle.base.specs.{and-yes, yes-and, leb-yes}
+use Rattle.model.specs.{each, keep, from, below, cellAt, Pair, joins, pairsOf, Joined, Before, Rising, PairsKept}
 use Rattle.model.specs.declared.Cell.{Cell}
-use Rattle.theory_graph.proofs.Lists.{map-in, map-out, each-in, each-out, keep-in, keep-out, below-in, below-out}
-use Rattle.theory_graph.proofs.Split.{by-bool, by-member}
-use Rattle.theory_graph.proofs.Distinct.{from-low}
+use Rattle.theory_graph.proofs.{map-in, map-out, each-in, each-out, keep-in, keep-out, below-in, below-out, by-bool, by-member, from-low}
 
 -- ---- lists each of whose elements stands before all that follow it
 

@@ -5,33 +5,21 @@
 --     cuts-listed, cuts-once      "Cuts are listed by size, then by ascending leaves compared left to right"; "Equal sets count once."
 --     leaves-ascending, leaves-four, leaves-earlier       the leaves of a cut
 --     cuts-constant, cuts-input, cuts-and                 the recursion as equations of the lists
--- Assumes nothing.
-use Prim.Native.Nat.{ℕ, _≤_, _<_, compare}
-use native.Mathlib.Omega.{arith}
-use mathlib.Core.Path.{_≡_, refl, sym, _∙_, ap, subst, subst₂}
-use mathlib.Core.Logic.{_⊎_, inl, inr, _↔_, ⊎-elim}
-use mathlib.Core.List.{List, [], _∷_, _++_, map, List·Memᴰ, List·Memᴰ·head, List·Memᴰ·tail, List·Memᴰ·not-nil, List·Memᴰ·cases-cons, List·Memᴰ·eq-of-singleton, List·Memᴰ·append-cases, Memᴰ·append-left, Memᴰ·append-right, Memᴰ·cast}
-use lib.Dec.{leb}
-use lib.ListN.{length}
-use mir.Facts.{leb-yes, yes-leb}
-use borrow.Author.Tests.{eq-eqb, ne-eqb}
-use Rattle.model.specs.Base.{each, union, find}
-use Rattle.model.specs.Graph.{And, Graph, both, findAnd, node, placingOrder, varOf, andVars}
-use Rattle.model.specs.Cuts.{compareCuts, unions, nodeCuts, cutLists, cutsOf}
-use Rattle.model.specs.Demands.{Distinct}
-use Rattle.model.specs.OrderDemands.{Ascending, Follows, IsUnion, IsCut, ofConstant, ofInput, ofAnd, ofOperands}
+use Rattle.base.specs.{ℕ, _≤_, _<_, compare, arith, _≡_, refl, sym, _∙_, ap, subst, subst₂, _⊎_, inl, inr, _↔_, ⊎-elim, List, [], _∷_, _++_}
+use Rattle.base.specs.{map, List·Memᴰ, List·Memᴰ·head, List·Memᴰ·tail, List·Memᴰ·not-nil, List·Memᴰ·cases-cons, List·Memᴰ·eq-of-singleton}
+use Rattle.base.specs.{List·Memᴰ·append-cases, Memᴰ·append-left, Memᴰ·append-right, Memᴰ·cast, leb, length, leb-yes, yes-leb, eq-eqb}
+use Rattle.base.specs.{ne-eqb}
+use Rattle.model.specs.{each, union, find, And, both, findAnd, node, placingOrder, varOf, andVars, compareCuts, unions, nodeCuts, cutLists}
+use Rattle.model.specs.{cutsOf, Distinct, Ascending, Follows, IsUnion, IsCut, ofConstant, ofInput, ofAnd, ofOperands}
+use Rattle.model.specs.Graph.{Graph}
 use Rattle.theory_graph.specs.Accepted.{Accepted}
-use Rattle.theory_graph.proofs.Lists.{map-in, map-out, each-in, each-out, keep-in, keep-out}
-use Rattle.theory_graph.proofs.Sets.{union-left, union-right, union-only}
-use Rattle.theory_graph.proofs.Runs.{along, twice-apart, run-stays, run-split}
-use Rattle.theory_graph.proofs.Placing.{order-once, defined-placed}
-use Rattle.theory_graph.proofs.Nodes.{node-input}
-use Rattle.theory_graph.proofs.Values.{and-once, ands-once}
-use Rattle.theory_graph.proofs.CutFacts.{compare-found, cutStep, cutsKnown, cuts-entry, cuts-none, leaves-before}
+use Rattle.theory_graph.proofs.{map-in, map-out, each-in, each-out, keep-in, keep-out, union-left, union-right, union-only, along}
+use Rattle.theory_graph.proofs.{twice-apart, run-stays, run-split, order-once, defined-placed, node-input, and-once, ands-once}
+use Rattle.theory_graph.proofs.{compare-found, cutStep, cutsKnown, cuts-entry, cuts-none, leaves-before, by-member}
 use Rattle.theory_order.proofs.Splits.{by-elem, not-elem, distinct-yes, split-at}
-use Rattle.theory_order.proofs.Ascending.{Before, ascending-once, ascending-unique, leaves-ascend, cuts-found, cuts-never, cuts-ascend}
+use Rattle.theory_order.proofs.Ascending.{Before, ascending-once, ascending-unique, leaves-ascend, cuts-found, cuts-never}
+use Rattle.theory_order.proofs.Ascending.{cuts-ascend}
 use Rattle.theory_order.proofs.Orders.{order-turn}
-use Rattle.theory_graph.proofs.Split.{by-member}
 
 -- ---- unions
 

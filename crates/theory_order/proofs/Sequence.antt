@@ -1,12 +1,9 @@
--- Where each AND's operands are defined and of lower variables, every AND can be placed. Assumes nothing.
-use Prim.Native.Nat.{ℕ, zero, suc, _<_}
-use native.Mathlib.Nat.{le-refl, not-suc-le-zero}
-use native.Mathlib.Omega.{arith}
-use mathlib.Core.Path.{_≡_}
-use mathlib.Core.Logic.{⊎-elim}
-use mathlib.Core.List.{[], _∷_, _++_, List·Memᴰ, List·Memᴰ·append-cases, Memᴰ·append-right, Memᴰ·cast}
-use Rattle.model.specs.Graph.{And, Graph, varOf, placingOrder, unplaced, andVars}
-use Rattle.theory_graph.proofs.Lists.{map-out}
+-- Where each AND's operands are defined and of lower variables, every AND can be placed.
+use Rattle.base.specs.{ℕ, zero, suc, _<_, le-refl, not-suc-le-zero, arith, _≡_, ⊎-elim, [], _∷_, _++_, List·Memᴰ, List·Memᴰ·append-cases}
+use Rattle.base.specs.{Memᴰ·append-right, Memᴰ·cast}
+use Rattle.model.specs.{And, varOf, placingOrder, unplaced, andVars}
+use Rattle.model.specs.Graph.{Graph}
+use Rattle.theory_graph.proofs.{map-out}
 use Rattle.theory_order.proofs.Splits.{none-in}
 use Rattle.theory_order.proofs.Orders.{ready-placed, first-placed, unplaced-in}
 

@@ -1,21 +1,11 @@
--- Laws of lists: where an element stands in a list, how many can, what is kept by a narrower test, and the lowest of a list. Assumes nothing.
-use Prim.Native.Nat.{ℕ, _≤_, _<_}
-use native.Mathlib.Nat.{le-refl}
-use native.Mathlib.Omega.{arith}
-use mathlib.Core.Path.{_≡_, refl, sym, _∙_, ap, ap₂, subst}
-use mathlib.Core.Logic.{_⊎_, inl, inr, ⊎-elim}
-use mathlib.Core.Bool.{Bool, true, false, not, cond, true≢false}
-use mathlib.Core.Option.{Option, none, some}
-use mathlib.Core.List.{List, [], _∷_, _++_, append-nil, List·Memᴰ, List·Memᴰ·head, List·Memᴰ·tail, List·Memᴰ·not-nil, List·Memᴰ·append-cases, Memᴰ·append-left, Memᴰ·append-right}
-use lib.Dec.{T, leb}
-use lib.ListN.{length, length-append}
-use mir.Facts.{leb-yes, leb-no}
-use Rattle.model.specs.Base.{elem, keep, lowest, smaller}
-use Rattle.model.specs.Demands.{Distinct}
-use Rattle.theory_graph.specs.Accepted.{distinct}
-use Rattle.theory_graph.proofs.Lists.{elem-in, elem-out}
-use Rattle.theory_graph.proofs.Placing.{distinct-once}
-use Rattle.theory_graph.proofs.Split.{by-bool, by-option, by-member}
+-- Laws of lists: where an element stands in a list, how many can, what is kept by a narrower test, and the lowest of a list.
+use Rattle.base.specs.{ℕ, _≤_, _<_, le-refl, arith, _≡_, refl, sym, _∙_, ap, ap₂, subst, _⊎_, inl, inr, ⊎-elim, Bool, true, false, not}
+use Rattle.base.specs.{cond, true≢false, Option, none, some, List, [], _∷_, _++_, append-nil, List·Memᴰ, List·Memᴰ·head, List·Memᴰ·tail}
+use Rattle.base.specs.{List·Memᴰ·not-nil, List·Memᴰ·append-cases, Memᴰ·append-left, Memᴰ·append-right, T, leb, length, length-append}
+use Rattle.base.specs.{leb-yes, leb-no}
+use Rattle.model.specs.{elem, keep, lowest, smaller, Distinct}
+use Rattle.theory_graph.specs.{distinct}
+use Rattle.theory_graph.proofs.{elem-in, elem-out, distinct-once, by-bool, by-option, by-member}
 
 -- a number stands in a list or not, by the test
 pub by-elem {ℓ} : {X : Type ℓ} (v : ℕ) (xs : List ℕ) → (List·Memᴰ v xs → X) → (¬ List·Memᴰ v xs → X) → X

@@ -1,28 +1,19 @@
--- The arrivals' text is read exactly where it has the form, and 25 and 26 come exactly by their conditions. Assumes nothing.
-use Prim.Native.Nat.{ℕ, _+_, _≤_, _<_}
-use native.Mathlib.Omega.{arith}
-use mathlib.Core.Path.{_≡_, refl, sym, _∙_, ap, subst}
-use mathlib.Core.Logic.{_⊎_, inl, inr, _↔_, ⊎-elim}
-use mathlib.Core.Bool.{Bool, true, false, not, false≢true, _&&_}
-use mathlib.Core.Option.{Option, none, some}
-use mathlib.Core.List.{List, [], _∷_, _++_, map, append-nil, append-assoc, nil≢cons, List·Memᴰ, List·Memᴰ·head, List·Memᴰ·tail, List·Memᴰ·not-nil}
-use lib.Dec.{T, ltb}
-use lib.ListN.{length, getD, length-append}
-use mir.Facts.{and-yes, yes-and, and-no, ltb-yes, ltb-no, not-T, T-not-not}
-use Rattle.model.specs.Base.{all, elem, same, andThen, only}
-use Rattle.model.specs.Text.{Line, ended, text, linesFrom}
-use Rattle.model.specs.Reading.{Read, holds, fault, next, unless, from?}
-use Rattle.model.specs.ArrivalsText.{Late, lateNumbers, readLate, readLateLines, readArrivals}
-use Rattle.theory_graph.proofs.Lists.{same-eq, is-true, is-false, elem-in, elem-out}
-use Rattle.theory_text.proofs.Steps.{then-out, only-out}
-use Rattle.theory_text.proofs.Plain.{Free}
-use Rattle.promises.specs.Forms.{Begins, NumberLine, Title, title, TitleLine}
-use Rattle.promises.specs.Refusals.{Exactly, LatesIn, noLate, aLate, LateFault, twentyFive, twentySix, ArrivalsFault, noTitle, atLate, ArrivalsHold}
+-- The arrivals' text is read exactly where it has the form, and 25 and 26 come exactly by their conditions.
+use mir.Facts.{not-T}
+use Rattle.base.specs.{ℕ, _+_, _≤_, _<_, arith, _≡_, refl, sym, _∙_, ap, subst, _⊎_, inl, inr, _↔_, ⊎-elim, Bool, true, false, not}
+use Rattle.base.specs.{false≢true, _&&_, Option, none, some, List, [], _∷_, _++_, map, append-nil, append-assoc, nil≢cons, List·Memᴰ}
+use Rattle.base.specs.{List·Memᴰ·head, List·Memᴰ·tail, List·Memᴰ·not-nil, T, ltb, length, getD, length-append, and-yes, yes-and, and-no}
+use Rattle.base.specs.{ltb-yes, ltb-no, T-not-not}
+use Rattle.model.specs.{all, elem, same, andThen, only, Line, ended, text, linesFrom, Read, holds, fault, next, unless, from?, Late}
+use Rattle.model.specs.{lateNumbers, readLate, readLateLines, readArrivals}
+use Rattle.promises.specs.{Begins, NumberLine, Title, title, TitleLine, Exactly, LatesIn, noLate, aLate, LateFault, twentyFive, twentySix}
+use Rattle.promises.specs.{ArrivalsFault, noTitle, atLate, ArrivalsHold}
+use Rattle.theory_graph.proofs.{same-eq, is-true, is-false, elem-in, elem-out, by-bool, by-option, by-list}
+use Rattle.theory_text.proofs.{then-out, only-out, Free, no-lines}
 use Rattle.theory_refusals.proofs.LineForms.{Reads, reads-line, first-split, lines-none, free-above, found-begins, begins-read}
-use Rattle.theory_refusals.proofs.Results.{Result, held, refused, exactly, unless-yes, unless-no, on, next-holds, next-fault, next-next, next-same, result-next, result-map, result-as}
+use Rattle.theory_refusals.proofs.Results.{Result, held, refused, exactly, unless-yes, unless-no, on, next-holds, next-fault}
+use Rattle.theory_refusals.proofs.Results.{next-next, next-same, result-next, result-map, result-as}
 use Rattle.theory_refusals.proofs.NumberLines.{reads-late}
-use Rattle.theory_text.proofs.Ends.{no-lines}
-use Rattle.theory_graph.proofs.Split.{by-bool, by-option, by-list}
 
 -- ---- the first line
 

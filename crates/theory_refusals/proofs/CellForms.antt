@@ -1,28 +1,19 @@
--- A cell line is read exactly where its bytes have the form, and with the form's meaning; and the tests of 5, 6 and 27 are their conditions. Assumes nothing.
-use Prim.Native.Nat.{ℕ, zero, suc, _/_, _%_, _^_, _≤_, _<_}
-use native.Mathlib.Omega.{arith}
-use mathlib.Core.Path.{_≡_, refl, sym, _∙_, ap, subst}
-use mathlib.Core.Bool.{Bool, true, false, cond, true≢false, _&&_}
-use mathlib.Core.Option.{Option, some}
-use mathlib.Core.List.{List, [], _∷_, _++_, append-nil}
-use lib.Dec.{T, eqb, leb, ltb, lit<}
-use lib.ListN.{length, getD, take, drop, length-append, length-take, length-drop, take-append-drop}
-use mir.Facts.{and-yes, yes-and, eqb-yes, yes-eqb, no-eqb, leb-yes, yes-leb, ltb-yes, yes-ltb}
-use Rattle.model.specs.Base.{bit, all, andThen, only}
-use Rattle.model.specs.Text.{ended, fields, numbers, hexTable}
-use Rattle.model.specs.Text.{isName as isNamed}
-use Rattle.model.specs.LibraryText.{nameBytes, cellOfFields, cellOfLine, isClean, noLower}
+-- A cell line is read exactly where its bytes have the form, and with the form's meaning; and the tests of 5, 6 and 27 are their conditions.
+use Rattle.base.specs.{ℕ, zero, suc, _/_, _%_, _^_, _≤_, _<_, arith, _≡_, refl, sym, _∙_, ap, subst, Bool, true, false, cond, true≢false}
+use Rattle.base.specs.{_&&_, Option, some, List, [], _∷_, _++_, append-nil, T, eqb, leb, ltb, lit<, length, getD, take, drop, length-append}
+use Rattle.base.specs.{length-take, length-drop, take-append-drop, and-yes, yes-and, eqb-yes, yes-eqb, no-eqb, leb-yes, yes-leb, ltb-yes}
+use Rattle.base.specs.{yes-ltb}
+use Rattle.model.specs.{bit, all, andThen, only, ended, fields, numbers, hexTable, isName as isNamed, nameBytes, cellOfFields, cellOfLine}
+use Rattle.model.specs.{isClean, noLower}
 use Rattle.model.specs.declared.Cell.{Cell}
-use Rattle.theory_graph.proofs.Lists.{is-true, is-false}
-use Rattle.theory_text.proofs.Steps.{then-out, only-out}
-use Rattle.theory_text.proofs.Plain.{Free}
-use Rattle.promises.specs.Forms.{Name, Numbers, Table, Lows, given, same as sameLows, CellFields, CellLine, joined}
+use Rattle.promises.specs.{Name, Numbers, Table, Lows, given, same as sameLows, CellFields, CellLine, joined, Clean, Ranged}
 use Rattle.promises.specs.Forms.Numbers.{none as noNumbers, one as aNumber}
-use Rattle.promises.specs.Refusals.{Clean, Ranged}
-use Rattle.theory_refusals.proofs.FieldForms.{joins, number-free, name-form, name-back, name-free, numbers-form, numbers-back, numbers-count, numbers-free, table-form, table-back, table-free, fields-joined, joined-free}
+use Rattle.theory_graph.proofs.{is-true, is-false, by-bool}
+use Rattle.theory_text.proofs.{then-out, only-out, Free, field-count}
+use Rattle.theory_refusals.proofs.FieldForms.{joins, number-free, name-form, name-back, name-free, numbers-form, numbers-back}
+use Rattle.theory_refusals.proofs.FieldForms.{numbers-count, numbers-free, table-form, table-back, table-free, fields-joined}
+use Rattle.theory_refusals.proofs.FieldForms.{joined-free}
 use Rattle.theory_refusals.proofs.LineForms.{Reads, reads-line}
-use Rattle.theory_text.proofs.CellLines.{field-count}
-use Rattle.theory_graph.proofs.Split.{by-bool}
 
 -- ---- lists
 

@@ -1,22 +1,16 @@
--- Differences and the ANDs of the binary form are read exactly where the bytes have the form, and 20 and 21 come exactly by their conditions. Assumes nothing.
-use Prim.Native.Nat.{ℕ, zero, suc, _+_, _-_, _*_, _≤_, _<_}
-use native.Mathlib.Omega.{arith}
-use mathlib.Core.Path.{_≡_, refl, sym, _∙_, ap, ap₂, subst}
-use mathlib.Core.Logic.{_⊎_, inl, inr, ⊎-elim}
-use mathlib.Core.Bool.{Bool, true, false, not, cond, _&&_}
-use mathlib.Core.List.{List, [], _∷_, _++_, append-nil, append-assoc}
-use lib.Dec.{T, eqb, leb, ltb}
-use lib.ListN.{length, drop, length-append}
-use mir.Facts.{and-yes, yes-and, and-no, ltb-yes, yes-ltb, ltb-no, no-ltb, leb-yes, yes-leb, leb-no, no-leb, eqb-yes, eqb-no, no-eqb, not-T, T-not-not}
-use Rattle.model.specs.Reading.{Read, holds, fault, next, unless}
-use Rattle.model.specs.GraphText.{anAnd, Item, Passed, difference, lessBy, readAnds}
-use Rattle.theory_graph.proofs.Lists.{is-true, is-false}
-use Rattle.theory_text.proofs.Steps.{fault-never}
-use Rattle.promises.specs.Forms.{Difference, short, long, Begins}
-use Rattle.promises.specs.Refusals.{Exactly, AndsIn, noAnd, oneAnd, AndFault, twenty, twentyOne, twentyNext, twentyOneNext, AndsHold, AndsRefused}
-use Rattle.theory_refusals.proofs.Results.{Result, held, refused, exactly, unless-yes, unless-no, on, next-holds, next-next, next-same, result-next, result-as}
-use lib.Seq.{drop-append-seam}
-use Rattle.theory_graph.proofs.Split.{by-read, by-nat}
+-- Differences and the ANDs of the binary form are read exactly where the bytes have the form, and 20 and 21 come exactly by their conditions.
+use mir.Facts.{not-T}
+use Rattle.base.specs.{ℕ, zero, suc, _+_, _-_, _*_, _≤_, _<_, arith, _≡_, refl, sym, _∙_, ap, ap₂, subst, _⊎_, inl, inr, ⊎-elim, Bool, true}
+use Rattle.base.specs.{false, not, cond, _&&_, List, [], _∷_, _++_, append-nil, append-assoc, T, eqb, leb, ltb, length, drop, length-append}
+use Rattle.base.specs.{and-yes, yes-and, and-no, ltb-yes, yes-ltb, ltb-no, no-ltb, leb-yes, yes-leb, leb-no, no-leb, eqb-yes, eqb-no}
+use Rattle.base.specs.{no-eqb, T-not-not, drop-append-seam}
+use Rattle.model.specs.{Read, holds, fault, next, unless, anAnd, Item, Passed, difference, lessBy, readAnds}
+use Rattle.promises.specs.{Difference, short, long, Begins, Exactly, AndsIn, noAnd, oneAnd, AndFault, twenty, twentyOne, twentyNext}
+use Rattle.promises.specs.{twentyOneNext, AndsHold, AndsRefused}
+use Rattle.theory_graph.proofs.{is-true, is-false, by-read, by-nat}
+use Rattle.theory_text.proofs.{fault-never}
+use Rattle.theory_refusals.proofs.Results.{Result, held, refused, exactly, unless-yes, unless-no, on, next-holds, next-next}
+use Rattle.theory_refusals.proofs.Results.{next-same, result-next, result-as}
 
 -- ---- a difference
 

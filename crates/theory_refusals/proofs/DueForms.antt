@@ -1,24 +1,19 @@
--- Due lines are read exactly where the text has them, and 11, 12 and 13 come exactly by their conditions. Assumes nothing.
-use Prim.Native.Nat.{ℕ, suc, _+_, _-_, _*_, _/_, _%_}
-use native.Mathlib.Omega.{arith}
-use mathlib.Core.Path.{_≡_, refl, sym, _∙_, ap, ap₂, subst}
-use mathlib.Core.Logic.{_⊎_, inl, inr, _↔_, ⊎-elim}
-use mathlib.Core.Bool.{Bool, true, false, not, cond, false≢true, _&&_, _||_}
-use mathlib.Core.Option.{Option, none, some}
-use mathlib.Core.List.{List, [], _∷_, _++_, map, append-nil, append-assoc, List·Memᴰ, List·Memᴰ·head, List·Memᴰ·tail, List·Memᴰ·not-nil, List·Memᴰ·append-cases, Memᴰ·append-left, Memᴰ·append-right}
-use lib.Dec.{T, eqb, leb}
-use lib.ListN.{length, getD, length-append}
-use mir.Facts.{and-yes, yes-and, leb-yes, yes-leb, eqb-yes, yes-eqb, eqb-no, no-eqb, not-T, T-not-not}
-use Rattle.model.specs.Base.{all, elem}
-use Rattle.model.specs.Text.{Line, linesFrom}
-use Rattle.model.specs.Reading.{Read, holds, fault, next, unless, from?}
-use Rattle.model.specs.GraphText.{closed, Kind, anInput, anOutput, anAnd, defines, Item, itemLiterals, readDue}
-use Rattle.theory_graph.proofs.Lists.{is-true, all-of, all-in, elem-in, elem-out}
-use Rattle.promises.specs.Refusals.{Exactly, Defining, inputDefines, andDefines, firstVar, DueLine, Lawful, DefinedBy, Again, DueIn, noLine, aLine, DueFault, eleven, twelve, thirteen, DueHolds, DueRefused}
+-- Due lines are read exactly where the text has them, and 11, 12 and 13 come exactly by their conditions.
+use mir.Facts.{not-T}
+use Rattle.base.specs.{ℕ, suc, _+_, _-_, _*_, _/_, _%_, arith, _≡_, refl, sym, _∙_, ap, ap₂, subst, _⊎_, inl, inr, _↔_, ⊎-elim, Bool, true}
+use Rattle.base.specs.{false, not, cond, false≢true, _&&_, _||_, Option, none, some, List, [], _∷_, _++_, map, append-nil, append-assoc}
+use Rattle.base.specs.{List·Memᴰ, List·Memᴰ·head, List·Memᴰ·tail, List·Memᴰ·not-nil, List·Memᴰ·append-cases, Memᴰ·append-left}
+use Rattle.base.specs.{Memᴰ·append-right, T, eqb, leb, length, getD, length-append, and-yes, yes-and, leb-yes, yes-leb, eqb-yes, yes-eqb}
+use Rattle.base.specs.{eqb-no, no-eqb, T-not-not}
+use Rattle.model.specs.{all, elem, Line, linesFrom, Read, holds, fault, next, unless, from?, closed, Kind, anInput, anOutput, anAnd}
+use Rattle.model.specs.{defines, Item, itemLiterals, readDue}
+use Rattle.promises.specs.{Exactly, Defining, inputDefines, andDefines, firstVar, DueLine, Lawful, DefinedBy, Again, DueIn, noLine, aLine}
+use Rattle.promises.specs.{DueFault, eleven, twelve, thirteen, DueHolds, DueRefused}
+use Rattle.theory_graph.proofs.{is-true, all-of, all-in, elem-in, elem-out, by-bool, by-option}
 use Rattle.theory_refusals.proofs.LineForms.{Found, first-split, lines-none, found-begins, begins-read, none-begins}
-use Rattle.theory_refusals.proofs.Results.{Result, held, refused, exactly, unless-yes, unless-no, on, next-holds, next-fault, next-next, next-same, result-next, result-as}
+use Rattle.theory_refusals.proofs.Results.{Result, held, refused, exactly, unless-yes, unless-no, on, next-holds, next-fault}
+use Rattle.theory_refusals.proofs.Results.{next-next, next-same, result-next, result-as}
 use Rattle.theory_refusals.proofs.NumberLines.{reads-due}
-use Rattle.theory_graph.proofs.Split.{by-bool, by-option}
 
 -- ---- what a kind defines
 

@@ -1,26 +1,17 @@
 -- The fields of a line: numbers, names and tables are read exactly where the bytes have the form, and with the form's meaning; a line's fields are the parts
--- that one space joins. Assumes nothing.
-use Prim.Native.Nat.{ℕ, zero, suc, _+_, _-_, _*_, _/_, _%_, _≤_, _<_}
-use native.Mathlib.Nat.{not-suc-le-zero, le-refl}
-use native.Mathlib.Omega.{arith}
-use mathlib.Core.Path.{_≡_, refl, sym, _∙_, ap, ap₂, subst}
-use mathlib.Core.Logic.{_⊎_, inl, inr, ⊎-elim}
-use mathlib.Core.Bool.{Bool, true, false, not, cond, false≢true, _&&_, _||_}
-use mathlib.Core.Option.{none, some}
-use mathlib.Core.List.{List, [], _∷_, _++_, append-assoc, List·Memᴰ, List·Memᴰ·head, List·Memᴰ·tail}
-use lib.Dec.{T, eqb, leb, ltb}
-use lib.ListN.{length}
-use mir.Facts.{and-yes, yes-and, or-yes, eqb-yes, yes-eqb, leb-yes, yes-leb, ltb-yes, ltb-no, yes-ltb, no-ltb}
-use Rattle.model.specs.Base.{all, same, andThen, only}
-use Rattle.model.specs.Text.{digits, decimal, asDigits, number, numbers, between, hexDigit, hexFrom, hexTable, isLetter, isNameByte, isName, onto, split, fields}
-use Rattle.theory_graph.proofs.Lists.{same-eq, all-of, all-in, is-true, is-false}
-use Rattle.theory_text.proofs.Steps.{then-out, only-out}
-use Rattle.theory_text.proofs.Plain.{Free, above, free-append, decimal-free}
-use Rattle.theory_text.proofs.LineLaws.{fields-word, fields-last}
-use Rattle.promises.specs.Forms.{Letter, NameByte, Name, name, Decimal, digit, more, Number, Numbers, Hex, figure, letter, Table, four, joined, Within}
+-- that one space joins.
+use Rattle.base.specs.{ℕ, zero, suc, _+_, _-_, _*_, _/_, _%_, _≤_, _<_, not-suc-le-zero, le-refl, arith, _≡_, refl, sym, _∙_, ap, ap₂}
+use Rattle.base.specs.{subst, _⊎_, inl, inr, ⊎-elim, Bool, true, false, not, cond, false≢true, _&&_, _||_, none, some, List, [], _∷_, _++_}
+use Rattle.base.specs.{append-assoc, List·Memᴰ, List·Memᴰ·head, List·Memᴰ·tail, T, eqb, leb, ltb, length, and-yes, yes-and, or-yes, eqb-yes}
+use Rattle.base.specs.{yes-eqb, leb-yes, yes-leb, ltb-yes, ltb-no, yes-ltb, no-ltb}
+use Rattle.model.specs.{all, same, andThen, only, digits, decimal, asDigits, number, numbers, between, hexDigit, hexFrom, hexTable}
+use Rattle.model.specs.{isLetter, isNameByte, isName, onto, split, fields}
+use Rattle.promises.specs.{Letter, NameByte, Name, name, Decimal, digit, more, Number, Numbers, Hex, figure, letter, Table, four, joined}
+use Rattle.promises.specs.{Within}
 use Rattle.promises.specs.Forms.Numbers.{none as noNumbers, one as aNumber}
-use Rattle.theory_text.proofs.DueBack.{number-back as number-written}
-use Rattle.theory_graph.proofs.Split.{by-bool, by-list}
+use Rattle.theory_graph.proofs.{same-eq, all-of, all-in, is-true, is-false, by-bool, by-list}
+use Rattle.theory_text.proofs.{then-out, only-out, Free, above, free-append, decimal-free, fields-word, fields-last}
+use Rattle.theory_text.proofs.{number-back as number-written}
 
 -- ---- numbers
 

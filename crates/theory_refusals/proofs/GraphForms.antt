@@ -1,25 +1,20 @@
--- The graph behind a header is read exactly where the text has it, in either form, and 11 to 14, 20 and 21 come exactly by their conditions. Assumes nothing.
-use Prim.Native.Nat.{ℕ, zero, suc, _+_, _-_, _*_, _≤_}
-use native.Mathlib.Omega.{arith}
-use mathlib.Core.Path.{_≡_, refl, sym, _∙_, ap, subst}
-use mathlib.Core.Logic.{_⊎_, inl, inr, ⊎-elim}
-use mathlib.Core.Bool.{Bool, true, false, cond, false≢true, true≢false}
-use mathlib.Core.List.{List, [], _∷_, _++_, append-assoc, List·Memᴰ, List·Memᴰ·head, List·Memᴰ·tail, List·Memᴰ·not-nil, List·Memᴰ·append-cases}
-use lib.ListN.{length, drop, replicate, length-append, length-drop}
-use Rattle.model.specs.Base.{from}
-use Rattle.model.specs.Text.{linesFrom}
-use Rattle.model.specs.Reading.{Read, holds, next}
+-- The graph behind a header is read exactly where the text has it, in either form, and 11 to 14, 20 and 21 come exactly by their conditions.
+use Rattle.base.specs.{ℕ, zero, suc, _+_, _-_, _*_, _≤_, arith, _≡_, refl, sym, _∙_, ap, subst, _⊎_, inl, inr, ⊎-elim, Bool, true, false}
+use Rattle.base.specs.{cond, false≢true, true≢false, List, [], _∷_, _++_, append-assoc, List·Memᴰ, List·Memᴰ·head, List·Memᴰ·tail}
+use Rattle.base.specs.{List·Memᴰ·not-nil, List·Memᴰ·append-cases, length, drop, replicate, length-append, length-drop}
+use Rattle.model.specs.{from, linesFrom, Read, holds, next, closed, Kind, anInput, anOutput, anAnd, howMany, defines, due, Item, readDue}
+use Rattle.model.specs.{readAnds, behindLines, inputItems, readBinary, readItems, definedBy, checkUses, graphOf, readGraph}
 use Rattle.model.specs.Graph.{Graph}
-use Rattle.model.specs.GraphText.{closed, Kind, anInput, anOutput, anAnd, howMany, defines, due, Item, readDue, readAnds, behindLines, inputItems, readBinary, readItems, definedBy, checkUses, graphOf, readGraph}
 use Rattle.model.specs.declared.Header.{Header}
-use Rattle.theory_graph.proofs.Lists.{map-out}
-use Rattle.promises.specs.Refusals.{Exactly, Wants, inputWants, DueIn, noLine, aLine, DueHolds, DueRefused, dueKinds, AndsIn, noAnd, oneAnd, AndsHold, AndsRefused, FirstStray, inputsOf, ItemsIn, asciiItems, binaryItems, ItemsFault, ofLines, ofOutputs, ofAnds, GraphFault, ofItems, fourteen, GraphIn}
+use Rattle.promises.specs.{Exactly, Wants, inputWants, DueIn, noLine, aLine, DueHolds, DueRefused, dueKinds, AndsIn, noAnd, oneAnd}
+use Rattle.promises.specs.{AndsHold, AndsRefused, FirstStray, inputsOf, ItemsIn, asciiItems, binaryItems, ItemsFault, ofLines, ofOutputs}
+use Rattle.promises.specs.{ofAnds, GraphFault, ofItems, fourteen, GraphIn}
+use Rattle.theory_graph.proofs.{map-out, by-bool}
 use Rattle.theory_refusals.proofs.Results.{exactly-next, exactly-map, exactly-holds}
 use Rattle.theory_refusals.proofs.NumberLines.{reads-due}
 use Rattle.theory_refusals.proofs.DueForms.{due-exactly}
 use Rattle.theory_refusals.proofs.UseForms.{Shaped, AllDefined, uses-exactly}
 use Rattle.theory_refusals.proofs.DifferenceForms.{drop-behind, ands-exactly}
-use Rattle.theory_graph.proofs.Split.{by-bool}
 
 -- ---- where the ANDs of the binary form begin
 

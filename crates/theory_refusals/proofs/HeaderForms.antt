@@ -1,28 +1,19 @@
--- The header is read exactly where the text begins with a line of its form, and 7, 8, 9 and 19 come exactly by their conditions. Assumes nothing.
-use Prim.Native.Nat.{ℕ, suc, _+_, _≤_, _<_}
-use native.Mathlib.Omega.{arith}
-use mathlib.Core.Path.{_≡_, refl, sym, _∙_, ap, subst}
-use mathlib.Core.Logic.{inl, inr, ⊎-elim}
-use mathlib.Core.Bool.{Bool, true, false, not, false≢true, _&&_, _||_}
-use mathlib.Core.Option.{Option, none, some}
-use mathlib.Core.List.{List, [], _∷_, _++_, append-assoc}
-use lib.Dec.{T, eqb, leb, lit<}
-use lib.ListN.{length, getD, drop}
-use mir.Facts.{and-yes, yes-and, and-no, or-yes, eqb-yes, yes-eqb, eqb-no, no-eqb, leb-yes, leb-no, not-T}
-use Rattle.model.specs.Base.{same, andThen, only}
-use Rattle.model.specs.Text.{Line, text, nextOf, linesFrom, fields, numbers}
-use Rattle.model.specs.Reading.{Read, holds, fault, next, unless, from?}
-use Rattle.model.specs.GraphText.{closed, headerOfNumbers, headerOf, inLimits, inSequence, readHeader}
+-- The header is read exactly where the text begins with a line of its form, and 7, 8, 9 and 19 come exactly by their conditions.
+use mir.Facts.{not-T}
+use Rattle.base.specs.{ℕ, suc, _+_, _≤_, _<_, arith, _≡_, refl, sym, _∙_, ap, subst, inl, inr, ⊎-elim, Bool, true, false, not, false≢true}
+use Rattle.base.specs.{_&&_, _||_, Option, none, some, List, [], _∷_, _++_, append-assoc, T, eqb, leb, lit<, length, getD, drop, and-yes}
+use Rattle.base.specs.{yes-and, and-no, or-yes, eqb-yes, yes-eqb, eqb-no, no-eqb, leb-yes, leb-no}
+use Rattle.model.specs.{same, andThen, only, Line, text, nextOf, linesFrom, fields, numbers, Read, holds, fault, next, unless, from?}
+use Rattle.model.specs.{closed, headerOfNumbers, headerOf, inLimits, inSequence, readHeader}
 use Rattle.model.specs.declared.Header.{Header}
-use Rattle.theory_graph.proofs.Lists.{same-eq, is-true}
-use Rattle.theory_text.proofs.Steps.{then-out, only-out}
-use Rattle.theory_text.proofs.Plain.{Free}
-use Rattle.promises.specs.Forms.{Begins, Word, aag, aig, Numbers, HeaderLine, joined}
-use Rattle.promises.specs.Refusals.{Exceeds, OutOfSequence, HeaderFault, seven, eight, nine, nineteen, HeaderHolds, Exactly}
-use Rattle.theory_refusals.proofs.FieldForms.{joins, numbers-form, numbers-back, numbers-count, numbers-free, AllFree, fields-joined, joined-free}
+use Rattle.promises.specs.{Begins, Word, aag, aig, Numbers, HeaderLine, joined, Exceeds, OutOfSequence, HeaderFault, seven, eight, nine}
+use Rattle.promises.specs.{nineteen, HeaderHolds, Exactly}
+use Rattle.theory_graph.proofs.{same-eq, is-true, by-bool, by-option, by-list}
+use Rattle.theory_text.proofs.{then-out, only-out, Free}
+use Rattle.theory_refusals.proofs.FieldForms.{joins, numbers-form, numbers-back, numbers-count, numbers-free, AllFree, fields-joined}
+use Rattle.theory_refusals.proofs.FieldForms.{joined-free}
 use Rattle.theory_refusals.proofs.LineForms.{first-split, ended-lines}
 use Rattle.theory_refusals.proofs.Results.{Result, held, refused, exactly, unless-yes, unless-no, on}
-use Rattle.theory_graph.proofs.Split.{by-bool, by-option, by-list}
 
 -- ---- the line
 

@@ -19,3 +19,12 @@ pub mod DifferenceForms
 pub mod GraphForms
 pub mod TextForms
 pub mod OutcomeForms
+pub use Results.{Result, exactly, exactly-holds, exactly-map, exactly-next, exactly-unless, held, next-holds, next-next, next-same, on}
+pub use Results.{refused, result-as, unless-no, unless-yes}
+pub use FieldForms.{AllFree, byte-back, byte-form, decimal-only, digits-form, fields-joined, joined-free, joins, letter-back, letter-form}
+pub use FieldForms.{name-form, name-free, within-back, within-form, yes-or}
+pub use LineForms.{begins-read, ended-lines, first-split, found-begins, free-above, held-lines, lines-none, none-begins, reads-line}
+pub use HeaderForms.{header-exactly}
+pub use LibraryForms.{library-exactly, names-read, reads-names}
+pub use GraphForms.{graph-exactly}
+pub use OutcomeForms.{demand-refusals}

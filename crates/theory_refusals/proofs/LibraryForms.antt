@@ -1,29 +1,22 @@
--- The library's text is read exactly where it has the form, and 2 to 6 and 27 come exactly by their conditions. Assumes nothing.
-use Prim.Native.Nat.{ℕ, suc, _+_, _≤_, _<_}
-use native.Mathlib.Omega.{arith}
-use mathlib.Core.Path.{_≡_, refl, sym, _∙_, ap, ap₂, subst}
-use mathlib.Core.Logic.{⊎-elim}
-use mathlib.Core.Bool.{Bool, true, false, not, cond, false≢true, _&&_, _||_}
-use mathlib.Core.Option.{Option, none, some}
-use mathlib.Core.List.{List, [], _∷_, _++_, reverse, reverse-append, reverse-cons, append-nil, append-assoc, nil≢cons, List·Memᴰ, List·Memᴰ·head, List·Memᴰ·tail, List·Memᴰ·not-nil, List·Memᴰ·append-cases, Memᴰ·append-left, Memᴰ·append-right}
-use lib.Dec.{T, ltb}
-use lib.ListN.{length, length-append}
-use mir.Facts.{and-yes, yes-and, or-yes, ltb-yes, yes-ltb, ltb-no, not-T, T-not-not}
-use Rattle.model.specs.Base.{all, any, same, andThen, only}
-use Rattle.model.specs.Text.{Line, ended, text, linesFrom}
-use Rattle.model.specs.Reading.{Read, holds, fault, next, unless, from?}
-use Rattle.model.specs.Cells.{nameOf}
-use Rattle.model.specs.LibraryText.{cellOfLine, isClean, noLower, isShorter, isLonger, readCells, readLibraryLines, readLibrary}
+-- The library's text is read exactly where it has the form, and 2 to 6 and 27 come exactly by their conditions.
+use mir.Facts.{not-T}
+use Rattle.base.specs.{ℕ, suc, _+_, _≤_, _<_, arith, _≡_, refl, sym, _∙_, ap, ap₂, subst, ⊎-elim, Bool, true, false, not, cond, false≢true}
+use Rattle.base.specs.{_&&_, _||_, Option, none, some, List, [], _∷_, _++_, reverse, reverse-append, reverse-cons, append-nil, append-assoc}
+use Rattle.base.specs.{nil≢cons, List·Memᴰ, List·Memᴰ·head, List·Memᴰ·tail, List·Memᴰ·not-nil, List·Memᴰ·append-cases, Memᴰ·append-left}
+use Rattle.base.specs.{Memᴰ·append-right, T, ltb, length, length-append, and-yes, yes-and, or-yes, ltb-yes, yes-ltb, ltb-no, T-not-not}
+use Rattle.model.specs.{all, any, same, andThen, only, Line, ended, text, linesFrom, Read, holds, fault, next, unless, from?, nameOf}
+use Rattle.model.specs.{cellOfLine, isClean, noLower, isShorter, isLonger, readCells, readLibraryLines, readLibrary}
 use Rattle.model.specs.declared.Cell.{Cell}
-use Rattle.theory_graph.proofs.Lists.{same-eq, same-refl, is-true, is-false, any-each}
-use Rattle.theory_text.proofs.Plain.{Free}
-use Rattle.theory_text.proofs.Steps.{then-out, only-out}
-use Rattle.promises.specs.Forms.{Names, shorter, longer, NamesLine}
-use Rattle.promises.specs.Refusals.{Exactly, Repeated, CellsIn, noCell, aCell, CellFault, three, four, five, six, twentySeven, LibraryFault, two, atLine, LibraryHolds}
-use Rattle.theory_refusals.proofs.LineForms.{Reads, reads-line, first-split, lines-none, free-above, found-begins, begins-read, none-begins}
-use Rattle.theory_refusals.proofs.Results.{Result, held, refused, exactly, unless-yes, unless-no, on, next-holds, next-fault, next-next, next-same, result-next, result-map, result-as}
+use Rattle.promises.specs.{Names, shorter, longer, NamesLine, Exactly, Repeated, CellsIn, noCell, aCell, CellFault, three, five, six}
+use Rattle.promises.specs.{twentySeven, LibraryFault, two, atLine, LibraryHolds}
+use Rattle.promises.specs.Refusals.{four}
+use Rattle.theory_graph.proofs.{same-eq, same-refl, is-true, is-false, any-each, by-bool, by-option, by-list, by-member}
+use Rattle.theory_text.proofs.{Free, then-out, only-out}
+use Rattle.theory_refusals.proofs.LineForms.{Reads, reads-line, first-split, lines-none, free-above, found-begins, begins-read}
+use Rattle.theory_refusals.proofs.LineForms.{none-begins}
+use Rattle.theory_refusals.proofs.Results.{Result, held, refused, exactly, unless-yes, unless-no, on, next-holds, next-fault}
+use Rattle.theory_refusals.proofs.Results.{next-next, next-same, result-next, result-map, result-as}
 use Rattle.theory_refusals.proofs.CellForms.{reads-cell, clean-form, clean-back, ranged-form, ranged-back}
-use Rattle.theory_graph.proofs.Split.{by-bool, by-option, by-list, by-member}
 
 -- ---- the names line
 

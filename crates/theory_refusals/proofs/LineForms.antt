@@ -1,23 +1,12 @@
 -- Lines: a text's first line as `linesFrom` finds it is the line with which the text begins by the form, and the lines behind it are those of what stands behind.
--- Assumes nothing.
-use Prim.Native.Nat.{ℕ, suc, _+_, _≤_, _<_}
-use native.Mathlib.Omega.{arith}
-use mathlib.Core.Path.{_≡_, refl, sym, _∙_, ap}
-use mathlib.Core.Bool.{Bool, true, false, cond}
-use mathlib.Core.Option.{Option, some}
-use mathlib.Core.List.{List, [], _∷_, _++_, reverse, reverse-cons, append-assoc, cons≢nil, nil≢cons, head-eq-of-cons-eq, tail-eq-of-cons-eq}
-use lib.Dec.{T, eqb, leb, lit<}
-use lib.ListN.{length, length-append, length-reverse}
-use mir.Facts.{and-yes, eqb-yes, leb-yes}
-use Rattle.model.specs.Base.{all, andThen, only}
-use Rattle.model.specs.Text.{Line, nextOf, closing, linesFrom}
-use Rattle.model.specs.GraphText.{closed}
-use Rattle.theory_text.proofs.Steps.{then-out, only-out}
-use Rattle.theory_text.proofs.Plain.{Free, above}
-use Rattle.theory_text.proofs.LineLaws.{lineOfBytes, lines-step, line-first, held-back, held-length, heldWith}
-use Rattle.promises.specs.Forms.{End, ten, both, LineOf, Begins}
-use Rattle.theory_text.proofs.Ends.{no-lines}
-use Rattle.theory_graph.proofs.Split.{by-bool}
+use Rattle.base.specs.{ℕ, suc, _+_, _≤_, _<_, arith, _≡_, refl, sym, _∙_, ap, Bool, true, false, cond, Option, some, List, [], _∷_, _++_}
+use Rattle.base.specs.{reverse, reverse-cons, append-assoc, cons≢nil, nil≢cons, head-eq-of-cons-eq, tail-eq-of-cons-eq, T, eqb, leb, lit<}
+use Rattle.base.specs.{length, length-append, length-reverse, and-yes, eqb-yes, leb-yes}
+use Rattle.model.specs.{all, andThen, only, Line, nextOf, closing, linesFrom, closed}
+use Rattle.promises.specs.{End, ten, both, LineOf, Begins}
+use Rattle.theory_graph.proofs.{by-bool}
+use Rattle.theory_text.proofs.{then-out, only-out, Free, above, lineOfBytes, lines-step, line-first, held-back, held-length, heldWith}
+use Rattle.theory_text.proofs.{no-lines}
 
 -- ---- a line that bytes 13 and 10 end
 

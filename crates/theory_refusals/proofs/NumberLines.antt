@@ -1,25 +1,13 @@
--- Lines of numbers are read exactly where their bytes have the form. Assumes nothing.
-use Prim.Native.Nat.{ℕ, _<_}
-use native.Mathlib.Omega.{arith}
-use mathlib.Core.Path.{_≡_, refl, sym, _∙_, ap, subst}
-use mathlib.Core.Bool.{Bool, false, _&&_}
-use mathlib.Core.Option.{Option, some}
-use mathlib.Core.List.{List, [], _∷_}
-use lib.Dec.{eqb, lit<}
-use lib.ListN.{length}
-use mir.Facts.{eqb-yes, yes-eqb}
-use Rattle.model.specs.Base.{andThen, only}
-use Rattle.model.specs.Text.{Line, fields, numbers}
-use Rattle.model.specs.GraphText.{closed, Kind, anInput, anOutput, anAnd, howMany, itemLiterals}
-use Rattle.model.specs.ArrivalsText.{lateNumbers}
-use Rattle.theory_graph.proofs.Lists.{is-true}
-use Rattle.theory_text.proofs.Steps.{then-out, only-out}
-use Rattle.theory_text.proofs.Plain.{Free}
-use Rattle.promises.specs.Forms.{Numbers, NumberFields, NumberLine, joined}
-use Rattle.promises.specs.Refusals.{Wants, inputWants, outputWants, andWants, DueLine}
-use Rattle.theory_refusals.proofs.FieldForms.{joins, numbers-form, numbers-back, numbers-count, numbers-free, fields-joined, joined-free}
+-- Lines of numbers are read exactly where their bytes have the form.
+use Rattle.base.specs.{ℕ, _<_, arith, _≡_, refl, sym, _∙_, ap, subst, Bool, false, _&&_, Option, some, List, [], _∷_, eqb, lit<, length}
+use Rattle.base.specs.{eqb-yes, yes-eqb}
+use Rattle.model.specs.{andThen, only, Line, fields, numbers, closed, Kind, anInput, anOutput, anAnd, howMany, itemLiterals, lateNumbers}
+use Rattle.promises.specs.{Numbers, NumberFields, NumberLine, joined, Wants, inputWants, outputWants, andWants, DueLine}
+use Rattle.theory_graph.proofs.{is-true, by-bool}
+use Rattle.theory_text.proofs.{then-out, only-out, Free}
+use Rattle.theory_refusals.proofs.FieldForms.{joins, numbers-form, numbers-back, numbers-count, numbers-free, fields-joined}
+use Rattle.theory_refusals.proofs.FieldForms.{joined-free}
 use Rattle.theory_refusals.proofs.LineForms.{Reads, reads-line}
-use Rattle.theory_graph.proofs.Split.{by-bool}
 
 -- so many numbers of a line's contents
 abbrev counted : ℕ → List (List ℕ) → Option (List ℕ)

@@ -1,37 +1,20 @@
--- The outcome of a call is refused exactly by the conditions of `Outcomes`. Assumes nothing.
-use Prim.Native.Nat.{ℕ}
-use native.Mathlib.Omega.{arith}
-use mathlib.Core.Path.{_≡_, refl, sym, _∙_, ap, ap₂, subst}
-use mathlib.Core.Logic.{_⊎_, inl, inr, _↔_, ⊎-elim}
-use mathlib.Core.Bool.{Bool, true, false}
-use mathlib.Core.Option.{Option, none, some}
-use mathlib.Core.List.{List, [], _∷_, _++_}
-use lib.Dec.{T, leb}
-use lib.ListN.{length}
-use Rattle.model.specs.Base.{lowest}
-use Rattle.model.specs.Reading.{holds, fault, firstOf}
-use Rattle.model.specs.Graph.{Graph, unplaced, andVars}
-use Rattle.model.specs.Cuts.{crowded}
-use Rattle.model.specs.ArrivalsText.{timedBy}
-use Rattle.model.specs.Netlist.{Outcome, refused, mapped, mapGraph, mapPlaced, mapCut, mapChosen, printed, uncovered, gates, figuresOf, netlistText}
-use Rattle.model.specs.Timing.{lowOf, timingLines, followed}
-use Rattle.model.specs.Choice.{chosen}
-use Rattle.model.specs.Mapper.{Call, Design, readTexts, mapTexts, mapDesign, within}
-use Rattle.model.specs.Demands.{Distinct, Mappable}
+-- The outcome of a call is refused exactly by the conditions of `Outcomes`.
+use Rattle.base.specs.{ℕ, arith, _≡_, refl, sym, _∙_, ap, ap₂, subst, _⊎_, inl, inr, _↔_, ⊎-elim, Bool, true, false, Option, none, some}
+use Rattle.base.specs.{List, [], _∷_, _++_, T, leb, length}
+use Rattle.model.specs.{lowest, holds, fault, firstOf, unplaced, andVars, crowded, timedBy, Outcome, refused, mapped, mapGraph, mapPlaced}
+use Rattle.model.specs.{mapCut, mapChosen, printed, uncovered, gates, figuresOf, netlistText, lowOf, timingLines, followed, chosen, Call}
+use Rattle.model.specs.{Design, readTexts, mapTexts, mapDesign, within, Distinct, Mappable, OrderOfAll, FirstCrowded}
+use Rattle.model.specs.Graph.{Graph}
 use Rattle.model.specs.declared.Cell.{Cell}
 use Rattle.model.specs.declared.Phase.{Phase}
 use Rattle.model.specs.declared.Figures.{Figures}
-use Rattle.theory_graph.specs.Accepted.{distinct}
-use Rattle.theory_order.proofs.Orders.{unplaced-none-iff, unplaced-lowest-iff}
-use Rattle.theory_order.proofs.Crowded.{crowded-first-iff, crowded-none-iff}
-use Rattle.theory_text.proofs.ReadGraph.{graph-known, once-distinct}
-use Rattle.theory_text.proofs.ReadTexts.{texts-read, design-accepted}
-use Rattle.theory_text.proofs.Outcomes.{outcome-is, refused-never}
-use Rattle.promises.specs.Refusals.{ToDesign, TextsFault}
-use Rattle.promises.specs.Outcomes.{LowestUnplaced, NoneCrowded, Outcomes}
-use Rattle.model.specs.OrderDemands.{OrderOfAll, FirstCrowded}
+use Rattle.promises.specs.{ToDesign, TextsFault, LowestUnplaced, NoneCrowded}
+use Rattle.promises.specs.Outcomes.{Outcomes}
+use Rattle.theory_graph.specs.{distinct}
+use Rattle.theory_graph.proofs.{by-bool, by-read}
+use Rattle.theory_order.proofs.{unplaced-none-iff, unplaced-lowest-iff, crowded-first-iff, crowded-none-iff}
+use Rattle.theory_text.proofs.{graph-known, once-distinct, texts-read, design-accepted, outcome-is, refused-never}
 use Rattle.theory_refusals.proofs.TextForms.{texts-exactly}
-use Rattle.theory_graph.proofs.Split.{by-bool, by-read}
 
 numberIn : Outcome → ℕ
 numberIn (refused n k) = n

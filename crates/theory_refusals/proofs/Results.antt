@@ -1,14 +1,9 @@
--- `Exactly`, from what a reading comes to and from what is enough for it. Assumes nothing.
-use Prim.Native.Nat.{ℕ}
-use mathlib.Core.Path.{_≡_, refl, sym, _∙_, ap, ap₂, subst}
-use mathlib.Core.Logic.{_⊎_, inl, inr, _↔_, ⊎-elim}
-use mathlib.Core.Bool.{Bool, true, false, not}
-use lib.Dec.{T}
-use Rattle.model.specs.Reading.{Read, holds, fault, next, unless}
-use Rattle.theory_text.proofs.Steps.{holds-once, fault-never, next-out}
-use Rattle.theory_text.proofs.Faults.{in-fault}
-use Rattle.theory_graph.proofs.Lists.{is-true, is-false}
-use Rattle.promises.specs.Refusals.{Exactly}
+-- `Exactly`, from what a reading comes to and from what is enough for it.
+use Rattle.base.specs.{ℕ, _≡_, refl, sym, _∙_, ap, ap₂, subst, _⊎_, inl, inr, _↔_, ⊎-elim, Bool, true, false, not, T}
+use Rattle.model.specs.{Read, holds, fault, next, unless}
+use Rattle.promises.specs.{Exactly}
+use Rattle.theory_graph.proofs.{is-true, is-false}
+use Rattle.theory_text.proofs.{holds-once, fault-never, next-out, in-fault}
 
 -- what a reading comes to, with its reason
 pub data Result {A : Type 0} (H : A → Type 0) (F : ℕ → ℕ → Type 0) : Read A → Type 0 where

@@ -1,30 +1,19 @@
--- The texts of a call are read exactly where none of the refusals before 15 applies, and the first that applies comes exactly by its condition. Assumes nothing.
-use Prim.Native.Nat.{ℕ, suc, _+_, _*_, _≤_, _<_}
-use native.Mathlib.Omega.{arith}
-use mathlib.Core.Path.{_≡_, refl, sym, _∙_, ap, subst}
-use mathlib.Core.Logic.{_⊎_, inl, inr, ⊎-elim}
-use mathlib.Core.Bool.{_&&_}
-use mathlib.Core.List.{List}
-use lib.Dec.{T, leb}
-use lib.ListN.{length, drop, length-append}
-use mir.Facts.{and-yes, yes-and, leb-yes, yes-leb}
-use Rattle.model.specs.Limits.{need}
-use Rattle.model.specs.Reading.{Read, holds, next, unless}
-use Rattle.model.specs.LibraryText.{readLibrary}
-use Rattle.model.specs.Pairs.{cellsFor}
+-- The texts of a call are read exactly where none of the refusals before 15 applies, and the first that applies comes exactly by its condition.
+use Rattle.base.specs.{ℕ, suc, _+_, _*_, _≤_, _<_, arith, _≡_, refl, sym, _∙_, ap, subst, _⊎_, inl, inr, ⊎-elim, _&&_, List, T, leb, length}
+use Rattle.base.specs.{drop, length-append, and-yes, yes-and, leb-yes, yes-leb, not-le-of-lt}
+use Rattle.model.specs.{need, Read, holds, next, unless, readLibrary, cellsFor, readHeader, readGraph, Late, readArrivals, timedBy, Call}
+use Rattle.model.specs.{Design, designOf, short, readListed, readTexts}
 use Rattle.model.specs.Graph.{Graph}
-use Rattle.model.specs.GraphText.{readHeader, readGraph}
-use Rattle.model.specs.ArrivalsText.{Late, readArrivals, timedBy}
-use Rattle.model.specs.Mapper.{Call, Design, designOf, short, readListed, readTexts}
 use Rattle.model.specs.declared.Cell.{Cell}
 use Rattle.model.specs.declared.Header.{Header}
-use Rattle.promises.specs.Refusals.{Exactly, LibraryFault, LibraryHolds, HeaderFault, HeaderHolds, GraphFault, GraphIn, ArrivalsFault, ArrivalsHold, Short, ToCells, ToHeader, ToDesign, TextsFault, one, ofLibrary, thirty, ofHeader, ten, ofGraph, ofArrivals, Refusals}
+use Rattle.promises.specs.{Exactly, LibraryFault, LibraryHolds, HeaderFault, HeaderHolds, GraphFault, GraphIn, ArrivalsFault, ArrivalsHold}
+use Rattle.promises.specs.{Short, ToCells, ToHeader, ToDesign, TextsFault, one, ofLibrary, thirty, ofHeader, ofGraph, ofArrivals}
+use Rattle.promises.specs.Refusals.{ten, Refusals}
 use Rattle.theory_refusals.proofs.Results.{exactly-next, exactly-unless, exactly-map, exactly-holds}
 use Rattle.theory_refusals.proofs.LibraryForms.{library-exactly}
 use Rattle.theory_refusals.proofs.HeaderForms.{header-exactly}
 use Rattle.theory_refusals.proofs.GraphForms.{graph-exactly}
 use Rattle.theory_refusals.proofs.ArrivalForms.{arrivals-exactly}
-use native.Mathlib.Nat.{not-le-of-lt}
 
 over : (n m : ℕ) → (¬ (n ≤ m)) → m < n
 over n m h = omega arith

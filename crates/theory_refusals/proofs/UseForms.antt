@@ -1,20 +1,13 @@
--- 14 comes exactly where a line uses an undefined variable, at the first such line. Assumes nothing.
-use Prim.Native.Nat.{ℕ}
-use mathlib.Core.Path.{_≡_, refl, sym, _∙_, ap, subst}
-use mathlib.Core.Logic.{⊎-elim}
-use mathlib.Core.Bool.{Bool, not}
-use mathlib.Core.List.{List, [], _∷_, _++_, append-nil, append-assoc, List·Memᴰ, List·Memᴰ·head, List·Memᴰ·tail, List·Memᴰ·not-nil, List·Memᴰ·append-cases, Memᴰ·append-left}
-use lib.Dec.{T}
-use lib.ListN.{drop}
-use mir.Facts.{and-no, not-T}
-use Rattle.model.specs.Base.{all, elem}
-use Rattle.model.specs.Reading.{Read, holds, fault, next}
-use Rattle.model.specs.Graph.{varOf}
-use Rattle.model.specs.GraphText.{Kind, anInput, anOutput, anAnd, defines, Item, uses, definedBy, checkUses}
-use Rattle.theory_graph.proofs.Lists.{is-true, all-of, elem-out, elem-T}
-use Rattle.promises.specs.Refusals.{Exactly, Defining, inputDefines, andDefines, firstVar, DefinedBy, Using, outputUses, andUses, Stray, FirstStray}
-use Rattle.theory_refusals.proofs.Results.{Result, held, refused, exactly, unless-yes, unless-no, on, next-holds, next-next, result-next, result-as}
-use Rattle.theory_graph.proofs.Split.{by-bool, by-member}
+-- 14 comes exactly where a line uses an undefined variable, at the first such line.
+use mir.Facts.{not-T}
+use Rattle.base.specs.{ℕ, _≡_, refl, sym, _∙_, ap, subst, ⊎-elim, Bool, not, List, [], _∷_, _++_, append-nil, append-assoc, List·Memᴰ}
+use Rattle.base.specs.{List·Memᴰ·head, List·Memᴰ·tail, List·Memᴰ·not-nil, List·Memᴰ·append-cases, Memᴰ·append-left, T, drop, and-no}
+use Rattle.model.specs.{all, elem, Read, holds, fault, next, varOf, Kind, anInput, anOutput, anAnd, defines, Item, uses, definedBy}
+use Rattle.model.specs.{checkUses}
+use Rattle.promises.specs.{Exactly, Defining, inputDefines, andDefines, firstVar, DefinedBy, Using, outputUses, andUses, Stray, FirstStray}
+use Rattle.theory_graph.proofs.{is-true, all-of, elem-out, elem-T, by-bool, by-member}
+use Rattle.theory_refusals.proofs.Results.{Result, held, refused, exactly, unless-yes, unless-no, on, next-holds, next-next}
+use Rattle.theory_refusals.proofs.Results.{result-next, result-as}
 
 -- an input's line has its literal alone
 abbrev pub Shaped : Item → Type 0

@@ -1,13 +1,8 @@
--- What a `# gates` line says, by computing: B's netlist, and lines that say nothing. Assumes nothing.
-use Prim.Native.Nat.{ℕ}
-use mathlib.Core.Bool.{Bool, true, false, _&&_}
-use mathlib.Core.Option.{Option, none, some}
-use mathlib.Core.List.{List, [], _∷_}
-use lib.Dec.{T, eqb}
-use Rattle.model.specs.Base.{all}
-use Rattle.model.specs.Text.{text}
-use Rattle.cases.proofs.Said.{listing}
-use Rattle.theory_tally.specs.Sums.{GatesLine, figuresIn}
+-- What a `# gates` line says, by computing: B's netlist, and lines that say nothing.
+use Rattle.base.specs.{ℕ, Bool, true, false, _&&_, Option, none, some, List, [], _∷_, T, eqb}
+use Rattle.model.specs.{all, text}
+use Rattle.cases.proofs.{listing}
+use Rattle.theory_tally.specs.{GatesLine, figuresIn}
 
 unfoldable pub says : ℕ → ℕ → Option GatesLine → Bool
 says gates area none = false

@@ -1,30 +1,23 @@
 -- A count and a report answer exactly by the conditions over the bytes.
 --     count-exactly       1, the library's refusals, 28 and 29, for every tally, library and netlist
 --     report-exactly      1, the library's refusals, 28 and 18, for every tally, library and number of lent bytes
--- Assumes nothing.
-use Prim.Native.Nat.{ℕ, _^_, _≤_}
-use mathlib.Core.Path.{_≡_, refl, sym, _∙_, ap, subst}
-use mathlib.Core.Logic.{_⊎_, inl, inr, ⊎-elim}
-use mathlib.Core.Bool.{Bool, _&&_}
-use mathlib.Core.List.{List, [], _++_, append-nil, append-assoc}
-use lib.Dec.{T, leb, ltb}
-use lib.ListN.{length}
-use mir.Facts.{and-yes, yes-and, leb-yes, yes-leb, ltb-yes, yes-ltb}
-use Rattle.model.specs.Base.{all}
-use Rattle.model.specs.Reading.{Read, holds, next, unless}
-use Rattle.model.specs.LibraryText.{rangedLines, isRanged, readLibrary}
-use Rattle.model.specs.Tally.{inWidth, readCounted, counted, countText, reportText, reportOf}
+use Rattle.base.specs.{ℕ, _^_, _≤_, _≡_, refl, sym, _∙_, ap, subst, _⊎_, inl, inr, ⊎-elim, Bool, _&&_, List, [], _++_, append-nil}
+use Rattle.base.specs.{append-assoc, T, leb, ltb, length, and-yes, yes-and, leb-yes, yes-leb, ltb-yes, yes-ltb}
+use Rattle.model.specs.{all, Read, holds, next, unless, rangedLines, isRanged, readLibrary, inWidth, readCounted, counted, countText}
+use Rattle.model.specs.{reportText, reportOf}
 use Rattle.model.specs.declared.Cell.{Cell}
 use Rattle.model.specs.declared.Tally.{Tally}
-use Rattle.theory_graph.proofs.Lists.{all-of, all-in}
-use Rattle.theory_graph.specs.Accepted.{libraryFits}
-use Rattle.theory_text.proofs.ReadLibrary.{library-fits}
-use Rattle.promises.specs.Refusals.{Exactly, CellsIn, noCell, aCell, LibraryFault, LibraryHolds}
-use Rattle.theory_refusals.proofs.Results.{exactly-next, exactly-unless, exactly-holds, exactly-map}
-use Rattle.theory_refusals.proofs.LibraryForms.{reads-names, names-read, library-exactly}
-use Rattle.theory_tally.specs.CountRefusals.{NetlistIn, NetlistFault, Narrow, Room, BothShort, CountFault, CountHolds, CountRefusals, ReportFault, ReportHolds, ReportRefusals}
+use Rattle.promises.specs.{Exactly, CellsIn, noCell, aCell, LibraryFault, LibraryHolds}
+use Rattle.theory_graph.proofs.{all-of, all-in}
+use Rattle.theory_graph.specs.{libraryFits}
+use Rattle.theory_text.proofs.{library-fits}
+use Rattle.theory_refusals.proofs.{exactly-next, exactly-unless, exactly-holds, exactly-map, reads-names, names-read, library-exactly}
+use Rattle.theory_tally.specs.{NetlistIn, NetlistFault, Narrow, Room, BothShort, CountFault, CountHolds, ReportFault, ReportHolds}
+use Rattle.theory_tally.specs.{ReportRefusals}
+use Rattle.theory_tally.specs.CountRefusals.{CountRefusals}
 use Rattle.theory_tally.specs.CountRefusals.CountFault.{one, ofLibrary, twentyEight, ofNetlist}
-use Rattle.theory_tally.specs.CountRefusals.ReportFault.{one as r-one, ofLibrary as r-library, twentyEight as r-twentyEight, eighteen as r-eighteen}
+use Rattle.theory_tally.specs.CountRefusals.ReportFault.{one as r-one, ofLibrary as r-library, twentyEight as r-twentyEight}
+use Rattle.theory_tally.specs.CountRefusals.ReportFault.{eighteen as r-eighteen}
 use Rattle.theory_tally.proofs.CountExactly.{netlist-exactly}
 
 -- ---- the library's names line says whether delays are ranges

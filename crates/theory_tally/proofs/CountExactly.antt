@@ -1,27 +1,18 @@
 -- A netlist is read exactly where its lines are those that are due, and 29 comes exactly by its condition, for listed cells of different names.
--- Assumes nothing.
-use Prim.Native.Nat.{ℕ, zero, _+_}
-use native.Mathlib.Omega.{arith}
-use mathlib.Core.Path.{_≡_, refl, sym, _∙_, ap, subst}
-use mathlib.Core.Bool.{Bool}
-use mathlib.Core.Option.{Option, none, some}
-use mathlib.Core.List.{List, [], _∷_, _++_, append-nil, append-assoc}
-use lib.Dec.{T}
-use lib.ListN.{length, length-append}
-use Rattle.model.specs.Text.{Line, linesFrom}
-use Rattle.model.specs.Reading.{holds, fault}
-use Rattle.model.specs.Tally.{readCounted}
+use Rattle.base.specs.{ℕ, zero, _+_, arith, _≡_, refl, sym, _∙_, ap, subst, Bool, Option, none, some, List, [], _∷_, _++_, append-nil}
+use Rattle.base.specs.{append-assoc, T, length, length-append}
+use Rattle.model.specs.{Line, linesFrom, holds, fault, readCounted}
 use Rattle.model.specs.declared.Cell.{Cell}
-use Rattle.theory_graph.specs.Accepted.{libraryFits}
-use Rattle.promises.specs.Forms.{Begins}
-use Rattle.theory_refusals.proofs.Results.{Result, held, refused, exactly, result-as}
-use Rattle.theory_refusals.proofs.LineForms.{first-split, lines-none, found-begins, begins-read, none-begins}
-use Rattle.theory_tally.specs.CountForms.{Due, modelDue, timingDue, NextLine, Reached, noLine, aLine}
-use Rattle.theory_tally.specs.CountRefusals.{NetlistIn, Finished, NetlistFault, twentyNine, Netlists}
+use Rattle.promises.specs.{Begins}
+use Rattle.theory_graph.specs.{libraryFits}
+use Rattle.theory_graph.proofs.{by-option, by-list}
+use Rattle.theory_text.proofs.{no-lines}
+use Rattle.theory_refusals.proofs.{Result, held, refused, exactly, result-as, first-split, lines-none, found-begins, begins-read}
+use Rattle.theory_refusals.proofs.{none-begins}
+use Rattle.theory_tally.specs.{Due, modelDue, timingDue, NextLine, Reached, noLine, aLine, NetlistIn, Finished, NetlistFault}
+use Rattle.theory_tally.specs.{twentyNine, Netlists}
 use Rattle.theory_tally.proofs.CountSteps.{lineStep, reads-step}
 use Rattle.theory_tally.proofs.CountRun.{left, goes-on, stops, ends, finished, finished?, counted-left}
-use Rattle.theory_graph.proofs.Split.{by-option, by-list}
-use Rattle.theory_text.proofs.Ends.{no-lines}
 
 none-some : {d : Due} → _≡_ {A = Option Due} none (some d) → ⊥
 none-some e = let z : _≡_ {A = ℕ} 0 1 = cc in omega arith

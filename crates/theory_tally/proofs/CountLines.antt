@@ -1,29 +1,20 @@
--- The line that is due in a counted netlist: it is taken exactly where its contents have the form, and then what the form says is due. Assumes nothing.
-use Prim.Native.Nat.{ℕ, zero, suc, _+_, _^_, _≤_, _<_}
-use native.Mathlib.Nat.{le-refl}
-use native.Mathlib.Omega.{arith}
-use mathlib.Core.Path.{_≡_, refl, sym, _∙_, ap, ap₂, subst}
-use mathlib.Core.Bool.{Bool, true, false, not, cond, _&&_}
-use mathlib.Core.Option.{some}
-use mathlib.Core.List.{List, [], _∷_, _++_, map, head-eq-of-cons-eq, tail-eq-of-cons-eq}
-use lib.Dec.{T, eqb, leb, ltb, lit<}
-use lib.ListN.{length}
-use mir.Facts.{and-yes, yes-and}
-use Rattle.model.specs.Base.{all, same, from, below}
-use Rattle.model.specs.Text.{text, decimal, fields, isName}
-use Rattle.model.specs.Cells.{nameOf, cellAt}
-use Rattle.model.specs.NetlistLines.{areDigits, isLabel, isPhaseNet, isBound, ofForm, ofList, isNameList, gateForm, gateOf, isWire, isFigures, isTiming}
+-- The line that is due in a counted netlist: it is taken exactly where its contents have the form, and then what the form says is due.
+use Rattle.base.specs.{ℕ, zero, suc, _+_, _^_, _≤_, _<_, le-refl, arith, _≡_, refl, sym, _∙_, ap, ap₂, subst, Bool, true, false, not, cond}
+use Rattle.base.specs.{_&&_, some, List, [], _∷_, _++_, map, head-eq-of-cons-eq, tail-eq-of-cons-eq, T, eqb, leb, ltb, lit<, length}
+use Rattle.base.specs.{and-yes, yes-and}
+use Rattle.model.specs.{all, same, from, below, text, decimal, fields, isName, nameOf, cellAt, areDigits, isLabel, isPhaseNet, isBound}
+use Rattle.model.specs.{ofForm, ofList, isNameList, gateForm, gateOf, isWire, isFigures, isTiming}
 use Rattle.model.specs.declared.Cell.{Cell}
-use Rattle.theory_graph.proofs.Lists.{same-eq, same-refl}
-use Rattle.theory_graph.specs.Accepted.{libraryFits, cellFits}
-use Rattle.theory_text.proofs.Plain.{Free, decimal-free}
-use Rattle.promises.specs.Forms.{Decimal, joined}
-use Rattle.theory_refusals.proofs.FieldForms.{decimal-only, digits-form, AllFree, fields-joined, name-form, name-free}
-use Rattle.theory_tally.specs.CountForms.{AnyDigits, Label, PhaseNet, Pins, output, pin, Labels, noLabel, oneLabel, GateWords}
+use Rattle.promises.specs.{Decimal, joined}
+use Rattle.theory_graph.proofs.{same-eq, same-refl, by-list}
+use Rattle.theory_graph.specs.{libraryFits, cellFits}
+use Rattle.theory_text.proofs.{Free, decimal-free, library-rest}
+use Rattle.theory_refusals.proofs.{decimal-only, digits-form, AllFree, fields-joined, name-form, name-free}
+use Rattle.theory_tally.specs.{AnyDigits, Label, PhaseNet, Pins, output, pin, Labels, noLabel, oneLabel, GateWords}
 use Rattle.theory_tally.proofs.Named.{name-once}
-use Rattle.theory_tally.proofs.CountWords.{digits-word, word-digits, label-word, word-label, net-word, word-net, bound-word, word-bound, form-more, form-end, Fit, noField, field, form-fits, line-fits, of-fields, digits-free, label-free, net-free, pins-free, labels-free, word-free}
-use Rattle.theory_graph.proofs.Split.{by-list}
-use Rattle.theory_text.proofs.Names.{library-rest}
+use Rattle.theory_tally.proofs.CountWords.{digits-word, word-digits, label-word, word-label, net-word, word-net, bound-word}
+use Rattle.theory_tally.proofs.CountWords.{word-bound, form-more, form-end, Fit, noField, field, form-fits, line-fits, of-fields}
+use Rattle.theory_tally.proofs.CountWords.{digits-free, label-free, net-free, pins-free, labels-free, word-free}
 
 -- ---- a list of names
 

@@ -1,28 +1,16 @@
 -- The reading of a netlist, line by line: what is left to read where a line is due. A line that may stand there leads on to what is due behind it, any other is
--- refused with 29 at its offset, a missing one at the text's length. Assumes nothing.
-use Prim.Native.Nat.{ℕ, zero, suc, _-_}
-use native.Mathlib.Omega.{arith}
-use mathlib.Core.Path.{_≡_, refl, sym, _∙_, ap}
-use mathlib.Core.Bool.{Bool, true, false, cond, _&&_}
-use mathlib.Core.Option.{Option, none, some}
-use mathlib.Core.List.{List, [], _∷_, _++_, map, append-nil, append-assoc}
-use lib.Dec.{T, not-T}
-use lib.ListN.{length, getD}
-use mir.Facts.{and-yes, yes-and}
-use Rattle.model.specs.Base.{same, each, from, below, andThen, only}
-use Rattle.model.specs.Text.{Line, endedByTen, text, fields, linesFrom}
-use Rattle.model.specs.GraphText.{closed}
-use Rattle.model.specs.Reading.{Read, holds, fault, next}
-use Rattle.model.specs.NetlistLines.{isNameList, gateOf, isWire, isFigures, isTiming}
-use Rattle.model.specs.Tally.{dueLines, nothingLeft, gateIn, gatesIn, afterGates, areaOf, frame, wirePairs, timings, behindGates, outputsOf, readCounted}
+-- refused with 29 at its offset, a missing one at the text's length.
+use Rattle.base.specs.{ℕ, zero, suc, _-_, arith, _≡_, refl, sym, _∙_, ap, Bool, true, false, cond, _&&_, Option, none, some, List, [], _∷_}
+use Rattle.base.specs.{_++_, map, append-nil, append-assoc, T, not-T, length, getD, and-yes, yes-and}
+use Rattle.model.specs.{same, each, from, below, andThen, only, Line, endedByTen, text, fields, linesFrom, closed, Read, holds, fault, next}
+use Rattle.model.specs.{isNameList, gateOf, isWire, isFigures, isTiming, dueLines, nothingLeft, gateIn, gatesIn, afterGates, areaOf, frame}
+use Rattle.model.specs.{wirePairs, timings, behindGates, outputsOf, readCounted}
 use Rattle.model.specs.declared.Cell.{Cell}
-use Rattle.theory_graph.proofs.Lists.{is-true, is-false}
-use Rattle.theory_text.proofs.Steps.{then-out, only-out}
-use Rattle.theory_refusals.proofs.Results.{on, unless-yes, unless-no}
-use Rattle.theory_tally.specs.CountForms.{Due, modelDue, inputsDue, outputsDue, gateDue, wireDue, coverDue, figuresDue, timingDue}
-use Rattle.theory_tally.specs.CountRefusals.{Finished}
+use Rattle.theory_graph.proofs.{is-true, is-false, by-option}
+use Rattle.theory_text.proofs.{then-out, only-out}
+use Rattle.theory_refusals.proofs.{on, unless-yes, unless-no}
+use Rattle.theory_tally.specs.{Due, modelDue, inputsDue, outputsDue, gateDue, wireDue, coverDue, figuresDue, timingDue, Finished}
 use Rattle.theory_tally.proofs.CountSteps.{wireStep, timeStep, gateStep, stepOf, lineStep}
-use Rattle.theory_graph.proofs.Split.{by-option}
 
 -- ---- the tests behind the gates, one after the other
 

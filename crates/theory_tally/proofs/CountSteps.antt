@@ -1,31 +1,22 @@
--- What a reader of a netlist takes where a line is due, and what is then due: exactly what `CountForms.Next` says. Assumes nothing.
-use Prim.Native.Nat.{ℕ, zero, suc, _-_, _<_}
-use native.Mathlib.Omega.{arith}
-use mathlib.Core.Path.{_≡_, refl, sym, _∙_, ap, subst}
-use mathlib.Core.Bool.{Bool, true, cond}
-use mathlib.Core.Option.{Option, none, some}
-use mathlib.Core.List.{List, [], _∷_, _++_}
-use lib.Dec.{T, lit<}
-use lib.ListN.{length}
-use Rattle.model.specs.Base.{all, same, andThen, only}
-use Rattle.model.specs.Text.{Line, text, fields, split, onto}
-use Rattle.model.specs.GraphText.{closed}
-use Rattle.model.specs.Cells.{nameOf, cellAt}
-use Rattle.model.specs.NetlistLines.{isNameList, gateOf, isWire, isFigures, isTiming}
-use Rattle.model.specs.Tally.{areaOf}
+-- What a reader of a netlist takes where a line is due, and what is then due: exactly what `CountForms.Next` says.
+use Rattle.base.specs.{ℕ, zero, suc, _-_, _<_, arith, _≡_, refl, sym, _∙_, ap, subst, Bool, true, cond, Option, none, some, List, [], _∷_}
+use Rattle.base.specs.{_++_, T, lit<, length}
+use Rattle.model.specs.{all, same, andThen, only, Line, text, fields, split, onto, closed, nameOf, cellAt, isNameList, gateOf, isWire}
+use Rattle.model.specs.{isFigures, isTiming, areaOf}
 use Rattle.model.specs.declared.Cell.{Cell}
-use Rattle.theory_graph.proofs.Lists.{same-eq, same-refl}
-use Rattle.theory_graph.specs.Accepted.{libraryFits}
-use Rattle.theory_text.proofs.Steps.{only-out, only-yes}
-use Rattle.theory_text.proofs.Plain.{Free}
-use Rattle.promises.specs.Forms.{joined}
-use Rattle.theory_refusals.proofs.FieldForms.{fields-joined, joined-free}
-use Rattle.theory_refusals.proofs.LineForms.{Reads, reads-line, free-above}
-use Rattle.theory_tally.specs.CountForms.{Due, modelDue, inputsDue, outputsDue, gateDue, wireDue, coverDue, figuresDue, timingDue, Next, model, inputs, outputs, gate, behind, wire, cover, end, figures, timing, NextLine}
+use Rattle.promises.specs.{joined}
+use Rattle.theory_graph.proofs.{same-eq, same-refl, by-option}
+use Rattle.theory_graph.specs.{libraryFits}
+use Rattle.theory_text.proofs.{only-out, only-yes, Free}
+use Rattle.theory_refusals.proofs.{fields-joined, joined-free, reads-line, free-above}
+use Rattle.theory_refusals.proofs.LineForms.{Reads}
+use Rattle.theory_tally.specs.{Due, modelDue, inputsDue, outputsDue, gateDue, wireDue, coverDue, figuresDue, timingDue, Next, model}
+use Rattle.theory_tally.specs.{inputs, outputs, gate, behind, wire, cover, end, figures, timing, NextLine}
 use Rattle.theory_tally.proofs.DueMet.{no-gate}
 use Rattle.theory_tally.proofs.CountWords.{of-fields, labels-free, word-free}
-use Rattle.theory_tally.proofs.CountLines.{names-form, names-fields, names-back, wire-form, wire-free, wire-back, figures-form, figures-free, figures-back, timing-form, timing-free, timing-back, words-free, gate-form, gate-back}
-use Rattle.theory_graph.proofs.Split.{by-option}
+use Rattle.theory_tally.proofs.CountLines.{names-form, names-fields, names-back, wire-form, wire-free, wire-back, figures-form}
+use Rattle.theory_tally.proofs.CountLines.{figures-free, figures-back, timing-form, timing-free, timing-back, words-free, gate-form}
+use Rattle.theory_tally.proofs.CountLines.{gate-back}
 
 unfoldable pub wireStep : ℕ → ℕ → List ℕ → List ℕ → Option Due
 wireStep zero n us w = only (same (text ".end") w) (figuresDue n us)

@@ -1,21 +1,14 @@
--- The words and lines of a counted netlist: each test passes exactly where the bytes are so, and no space or line end stands in a word. Assumes nothing.
-use Prim.Native.Nat.{ℕ, suc, _≤_, _<_}
-use native.Mathlib.Omega.{arith}
-use mathlib.Core.Path.{_≡_, refl, sym, _∙_, ap, subst}
-use mathlib.Core.Logic.{_⊎_, inl, inr, ⊎-elim}
-use mathlib.Core.Bool.{Bool, _&&_}
-use mathlib.Core.List.{List, [], _∷_, List·Memᴰ, List·Memᴰ·head, List·Memᴰ·tail}
-use lib.Dec.{T, eqb, ltb, leb, lit<}
-use lib.ListN.{length}
-use mir.Facts.{and-yes, yes-and, or-yes, eqb-yes, yes-eqb, yes-ltb, leb-yes}
-use Rattle.model.specs.Base.{all}
-use Rattle.model.specs.Text.{fields, between}
-use Rattle.model.specs.NetlistLines.{areDigits, isLabel, isPhaseNet, isInnerNet, isGateNet, isBound, ofForm}
-use Rattle.theory_graph.proofs.Lists.{all-of, all-in}
-use Rattle.theory_text.proofs.Plain.{Free, above}
-use Rattle.promises.specs.Forms.{Within, joined}
-use Rattle.theory_refusals.proofs.FieldForms.{within-form, within-back, yes-or, AllFree, joins, fields-joined}
-use Rattle.theory_tally.specs.CountForms.{AnyDigits, someDigits, Label, label, PhaseNet, GateNet, phase, inner, Bound, bound, Pins, output, pin, Labels, noLabel, oneLabel}
+-- The words and lines of a counted netlist: each test passes exactly where the bytes are so, and no space or line end stands in a word.
+use Rattle.base.specs.{ℕ, suc, _≤_, _<_, arith, _≡_, refl, sym, _∙_, ap, subst, _⊎_, inl, inr, ⊎-elim, Bool, _&&_, List, [], _∷_, List·Memᴰ}
+use Rattle.base.specs.{List·Memᴰ·head, List·Memᴰ·tail, T, eqb, ltb, leb, lit<, length, and-yes, yes-and, or-yes, eqb-yes, yes-eqb, yes-ltb}
+use Rattle.base.specs.{leb-yes}
+use Rattle.model.specs.{all, fields, between, areDigits, isLabel, isPhaseNet, isInnerNet, isGateNet, isBound, ofForm}
+use Rattle.promises.specs.{Within, joined}
+use Rattle.theory_graph.proofs.{all-of, all-in}
+use Rattle.theory_text.proofs.{Free, above}
+use Rattle.theory_refusals.proofs.{within-form, within-back, yes-or, AllFree, joins, fields-joined}
+use Rattle.theory_tally.specs.{AnyDigits, someDigits, Label, label, PhaseNet, GateNet, phase, inner, Bound, bound, Pins, output, pin}
+use Rattle.theory_tally.specs.{Labels, noLabel, oneLabel}
 
 -- ---- digits, labels, nets
 

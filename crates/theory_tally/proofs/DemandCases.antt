@@ -1,17 +1,9 @@
--- What `specs.TallyDemands` reads, by computing: the lines that name a cell, and reports. Assumes nothing.
-use Prim.Native.Nat.{ℕ}
+-- What `specs.TallyDemands` reads, by computing: the lines that name a cell, and reports.
 use Prim.Native.String.{String}
-use mathlib.Core.Bool.{Bool, true, false, _&&_}
-use mathlib.Core.Option.{none, some}
-use mathlib.Core.List.{List, [], _∷_}
-use lib.Dec.{T, eqb}
-use Rattle.model.specs.Base.{all, same}
-use Rattle.model.specs.Text.{text}
-use Rattle.model.specs.Reading.{holds, fault}
-use Rattle.model.specs.LibraryText.{readLibrary}
-use Rattle.model.specs.Cells.{cellAt}
-use Rattle.cases.proofs.Said.{library, listing}
-use Rattle.theory_tally.specs.TallyDemands.{gatesNaming, Row, readReport, cellRow}
+use Rattle.base.specs.{ℕ, Bool, true, false, _&&_, none, some, List, [], _∷_, T, eqb}
+use Rattle.model.specs.{all, same, text, holds, fault, readLibrary, cellAt}
+use Rattle.cases.proofs.{library, listing}
+use Rattle.theory_tally.specs.{gatesNaming, Row, readReport, cellRow}
 
 -- a netlist with two gates of one cell
 unfoldable pub two : List ℕ

@@ -1,21 +1,10 @@
--- Lines that meet what is due: read through to the end. Assumes nothing.
-use Prim.Native.Nat.{ℕ, suc, _+_}
-use native.Mathlib.Omega.{arith}
-use mathlib.Core.Path.{_≡_, refl, sym, _∙_, ap, subst}
-use mathlib.Core.Bool.{Bool, true, false, cond, _&&_}
-use mathlib.Core.Option.{Option, none, some}
-use mathlib.Core.List.{List, [], _∷_, _++_, map, List·Memᴰ, List·Memᴰ·head, List·Memᴰ·tail}
-use lib.Dec.{T}
-use lib.ListN.{length}
-use Rattle.model.specs.Base.{same, below}
-use Rattle.model.specs.Text.{Line, text, fields}
-use Rattle.model.specs.Reading.{holds, unless}
-use Rattle.model.specs.Cells.{nameOf, cellAt}
-use Rattle.model.specs.Blif.{named}
-use Rattle.model.specs.NetlistLines.{isBound, ofForm, gateForm, gateOf}
-use Rattle.model.specs.Tally.{dueLines, gateIn, gatesIn, afterGates}
+-- Lines that meet what is due: read through to the end.
+use Rattle.base.specs.{ℕ, suc, _+_, arith, _≡_, refl, sym, _∙_, ap, subst, Bool, true, false, cond, _&&_, Option, none, some, List, [], _∷_}
+use Rattle.base.specs.{_++_, map, List·Memᴰ, List·Memᴰ·head, List·Memᴰ·tail, T, length}
+use Rattle.model.specs.{same, below, Line, text, fields, holds, unless, nameOf, cellAt, named, isBound, ofForm, gateForm, gateOf, dueLines}
+use Rattle.model.specs.{gateIn, gatesIn, afterGates}
 use Rattle.model.specs.declared.Cell.{Cell}
-use Rattle.theory_graph.proofs.Lists.{same-refl}
+use Rattle.theory_graph.proofs.{same-refl}
 use Rattle.theory_tally.proofs.Worded.{placed}
 
 -- ---- due lines

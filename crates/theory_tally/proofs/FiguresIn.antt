@@ -1,29 +1,16 @@
--- What the `# gates` line of a counted netlist says, by its own words, is what is counted of its gates. Assumes nothing.
-use Prim.Native.Nat.{ℕ, zero, suc, _+_}
-use native.Mathlib.Omega.{arith}
-use mathlib.Core.Path.{_≡_, refl, sym, _∙_, ap, ap₂, subst}
-use mathlib.Core.Bool.{Bool, true, false, cond, _&&_}
-use mathlib.Core.Option.{Option, none, some}
-use mathlib.Core.List.{List, [], _∷_, _++_, map, map-append, reverse, reverse-cons, append-assoc, append-nil}
-use lib.Dec.{T, eqb, eqb→eq}
-use lib.ListN.{length, getD}
-use mir.Facts.{and-yes}
-use Rattle.model.specs.Base.{each, same, andThen, only, from, below}
-use Rattle.model.specs.Text.{Line, endedByTen, text, decimal, parts, closing, linesFrom, fields, split, onto}
-use Rattle.model.specs.Reading.{holds}
-use Rattle.model.specs.NetlistLines.{isNameList, isWire, isFigures, ofForm, ofList, isPhaseNet, isLabel, areDigits, isBound, gateForm, gateOf}
-use Rattle.model.specs.Cells.{nameOf}
-use Rattle.model.specs.Tally.{dueLines, nothingLeft, gateIn, gatesIn, afterGates, areaOf, frame, wirePairs, timings, behindGates, outputsOf, readCounted}
+-- What the `# gates` line of a counted netlist says, by its own words, is what is counted of its gates.
+use Rattle.base.specs.{ℕ, zero, suc, _+_, arith, _≡_, refl, sym, _∙_, ap, ap₂, subst, Bool, true, false, cond, _&&_, Option, none, some}
+use Rattle.base.specs.{List, [], _∷_, _++_, map, map-append, reverse, reverse-cons, append-assoc, append-nil, T, eqb, eqb→eq, length, getD}
+use Rattle.base.specs.{and-yes}
+use Rattle.model.specs.{each, same, andThen, only, from, below, Line, endedByTen, text, decimal, parts, closing, linesFrom, fields, split}
+use Rattle.model.specs.{onto, holds, isNameList, isWire, isFigures, ofForm, ofList, isPhaseNet, isLabel, areDigits, isBound, gateForm}
+use Rattle.model.specs.{gateOf, nameOf, dueLines, nothingLeft, gateIn, gatesIn, afterGates, areaOf, frame, wirePairs, timings, behindGates}
+use Rattle.model.specs.{outputsOf, readCounted}
 use Rattle.model.specs.declared.Cell.{Cell}
-use Rattle.theory_graph.proofs.Lists.{is-true, same-eq}
-use Rattle.theory_text.proofs.Plain.{Free, free-reverse}
-use Rattle.theory_text.proofs.LineLaws.{lines-step}
-use Rattle.theory_text.proofs.Steps.{holds-once, fault-never, unless-out, next-out}
-use Rattle.theory_text.proofs.ReadBack.{parts-line}
-use Rattle.theory_text.proofs.ReadFigures.{figure-back}
-use Rattle.theory_tally.specs.Sums.{GatesLine, beginsGates, gatesWords, gatesLine, figuresIn}
+use Rattle.theory_graph.proofs.{is-true, same-eq, by-bool, by-list}
+use Rattle.theory_text.proofs.{Free, free-reverse, lines-step, holds-once, fault-never, unless-out, next-out, parts-line, figure-back}
+use Rattle.theory_tally.specs.{GatesLine, beginsGates, gatesWords, gatesLine, figuresIn}
 use Rattle.theory_tally.proofs.DueMet.{Meets}
-use Rattle.theory_graph.proofs.Split.{by-bool, by-list}
 
 -- ---- lines that byte 10 alone ends are the parts between bytes 10
 

@@ -23,3 +23,7 @@ pub mod CountSteps
 pub mod CountRun
 pub mod CountExactly
 pub mod CountCalls
+pub use Used.{counted-by}
+pub use Numbered.{count-numbered, report-numbered}
+pub use TallyDemands.{reads-back, tallied-more, tallied-none}
+pub use CountCalls.{count-exactly, report-exactly}

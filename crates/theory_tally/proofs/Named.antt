@@ -1,32 +1,18 @@
--- The gates that are counted of a netlist are its gate lines, cell by cell: by the netlist's bytes alone. Assumes nothing.
-use Prim.Native.Nat.{ℕ, zero, suc, _+_, _<_}
-use native.Mathlib.Nat.{zero-add}
-use native.Mathlib.Omega.{arith}
-use mathlib.Core.Path.{_≡_, refl, sym, _∙_, ap, ap₂, subst}
-use mathlib.Core.Bool.{Bool, true, false, not, cond, _&&_}
-use mathlib.Core.Option.{Option, none, some}
-use mathlib.Core.List.{List, [], _∷_, _++_, map, map-append, append-nil, List·Memᴰ, List·Memᴰ·head, List·Memᴰ·tail}
-use lib.Dec.{T, eqb, T-not}
-use lib.ListN.{length, getD}
-use borrow.Author.Tests.{eq-eqb, ne-eqb}
-use mir.Facts.{and-yes}
-use Rattle.model.specs.Base.{each, same, from, below}
-use Rattle.model.specs.Text.{Line, endedByTen, text, decimal, linesFrom, fields, split, onto}
-use Rattle.model.specs.Reading.{holds}
-use Rattle.model.specs.Cells.{nameOf, cellAt}
-use Rattle.model.specs.LibraryText.{readLibrary}
-use Rattle.model.specs.NetlistLines.{isNameList, isWire, isFigures, isTiming, ofForm, ofList, isPhaseNet, isLabel, areDigits, isBound, gateForm, gateOf}
-use Rattle.model.specs.Tally.{dueLines, nothingLeft, gateIn, gatesIn, afterGates, areaOf, frame, wirePairs, timings, behindGates, outputsOf, readCounted, times}
+-- The gates that are counted of a netlist are its gate lines, cell by cell: by the netlist's bytes alone.
+use Rattle.base.specs.{ℕ, zero, suc, _+_, _<_, zero-add, arith, _≡_, refl, sym, _∙_, ap, ap₂, subst, Bool, true, false, not, cond, _&&_}
+use Rattle.base.specs.{Option, none, some, List, [], _∷_, _++_, map, map-append, append-nil, List·Memᴰ, List·Memᴰ·head, List·Memᴰ·tail, T}
+use Rattle.base.specs.{eqb, T-not, length, getD, eq-eqb, ne-eqb, and-yes}
+use Rattle.model.specs.{each, same, from, below, Line, endedByTen, text, decimal, linesFrom, fields, split, onto, holds, nameOf, cellAt}
+use Rattle.model.specs.{readLibrary, isNameList, isWire, isFigures, isTiming, ofForm, ofList, isPhaseNet, isLabel, areDigits, isBound}
+use Rattle.model.specs.{gateForm, gateOf, dueLines, nothingLeft, gateIn, gatesIn, afterGates, areaOf, frame, wirePairs, timings}
+use Rattle.model.specs.{behindGates, outputsOf, readCounted, times}
 use Rattle.model.specs.declared.Cell.{Cell}
-use Rattle.theory_graph.proofs.Lists.{is-true, same-eq, same-refl, all-of, by-eqb}
-use Rattle.theory_graph.specs.Accepted.{libraryFits}
-use Rattle.theory_text.proofs.Steps.{holds-once, next-out}
-use Rattle.theory_text.proofs.ReadLibrary.{library-fits}
-use Rattle.theory_tally.specs.TallyDemands.{namesCell, linesNaming, gatesNaming}
+use Rattle.theory_graph.proofs.{is-true, same-eq, same-refl, all-of, by-eqb, by-bool, by-list, by-option}
+use Rattle.theory_graph.specs.{libraryFits}
+use Rattle.theory_text.proofs.{holds-once, next-out, library-fits, library-rest}
+use Rattle.theory_tally.specs.{namesCell, linesNaming, gatesNaming}
 use Rattle.theory_tally.proofs.DueMet.{Meets, AreGates}
 use Rattle.theory_tally.proofs.FiguresIn.{bytesOf, Ten, ten-append, lines-parts, keys-first, due-out, left-out}
-use Rattle.theory_graph.proofs.Split.{by-bool, by-list, by-option}
-use Rattle.theory_text.proofs.Names.{library-rest}
 
 -- ---- no two cells share a name
 

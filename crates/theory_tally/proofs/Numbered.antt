@@ -1,15 +1,10 @@
--- A refusal of a netlist or of a report has a number, and it is not 0. Assumes nothing.
-use Prim.Native.Nat.{ℕ, _<_}
-use mathlib.Core.Bool.{Bool, _&&_}
-use mathlib.Core.List.{List, [], _∷_}
-use lib.Dec.{leb, ltb, lit<}
-use lib.ListN.{length}
-use Rattle.model.specs.Text.{Line, endedByTen, linesFrom}
-use Rattle.model.specs.Reading.{holds}
-use Rattle.model.specs.LibraryText.{readLibrary, isRanged}
-use Rattle.model.specs.Tally.{inWidth, dueLines, nothingLeft, gatesIn, afterGates, areaOf, frame, behindGates, outputsOf, readCounted, counted, countText, reportText, reportOf}
+-- A refusal of a netlist or of a report has a number, and it is not 0.
+use Rattle.base.specs.{ℕ, _<_, Bool, _&&_, List, [], _∷_, leb, ltb, lit<, length}
+use Rattle.model.specs.{Line, endedByTen, linesFrom, holds, readLibrary, isRanged, inWidth, dueLines, nothingLeft, gatesIn, afterGates}
+use Rattle.model.specs.{areaOf, frame, behindGates, outputsOf, readCounted, counted, countText, reportText, reportOf}
 use Rattle.model.specs.declared.Tally.{Tally}
-use Rattle.theory_text.proofs.Faults.{Faults, in-holds, in-fault, in-unless, in-next, library-faults}
+use Rattle.theory_text.proofs.Faults.{Faults}
+use Rattle.theory_text.proofs.{in-holds, in-fault, in-unless, in-next, library-faults}
 
 abbrev pub Numbered : ℕ → ℕ → Type 0
 Numbered n k = 0 < n

@@ -1,46 +1,28 @@
--- Every netlist that the mapper prints is counted, with its own figures. Assumes nothing.
-use Prim.Native.Nat.{ℕ, suc, _+_, _-_, _≤_, _<_}
-use native.Mathlib.Omega.{arith}
-use mathlib.Core.Path.{_≡_, refl, sym, _∙_, ap, ap₂, subst}
-use mathlib.Core.Bool.{Bool, true, false}
-use mathlib.Core.Option.{none}
-use mathlib.Core.List.{List, [], _∷_, _++_, map, append-nil, List·Memᴰ, List·Memᴰ·head, List·Memᴰ·tail}
-use lib.Dec.{T}
-use lib.ListN.{length}
-use borrow.Author.Tests.{le-leb, lt-ltb}
-use Rattle.model.specs.Base.{each, same, from, below}
-use Rattle.model.specs.Text.{Line, text, linesFrom, split, onto, fields}
-use Rattle.model.specs.Reading.{Read, holds, next, unless}
-use Rattle.model.specs.Cells.{nameOf, cellAt}
-use Rattle.model.specs.LibraryText.{readLibrary, isRanged}
+-- Every netlist that the mapper prints is counted, with its own figures.
+use Rattle.base.specs.{ℕ, suc, _+_, _-_, _≤_, _<_, arith, _≡_, refl, sym, _∙_, ap, ap₂, subst, Bool, true, false, none, List, [], _∷_, _++_}
+use Rattle.base.specs.{map, append-nil, List·Memᴰ, List·Memᴰ·head, List·Memᴰ·tail, T, length, le-leb, lt-ltb}
+use Rattle.model.specs.{each, same, from, below, Line, text, linesFrom, split, onto, fields, Read, holds, next, unless, nameOf, cellAt}
+use Rattle.model.specs.{readLibrary, isRanged, absent, chosen, Gate, outName, sum, figuresOf, lowOf, Call, readTexts, choiceText}
+use Rattle.model.specs.{choiceFigures, printedText, inWidth, frame, timings, behindGates, outputsOf, areaOf, gateIn, gatesIn, afterGates}
+use Rattle.model.specs.{dueLines, nothingLeft, readCounted, counted, countText, isWire}
 use Rattle.model.specs.Graph.{Graph}
-use Rattle.model.specs.Choice.{absent, chosen}
-use Rattle.model.specs.Netlist.{Gate, outName, sum, figuresOf}
-use Rattle.model.specs.Timing.{lowOf}
-use Rattle.model.specs.Mapper.{Call, readTexts}
-use Rattle.model.specs.Demands.{choiceText, choiceFigures, printedText}
-use Rattle.model.specs.Tally.{inWidth, frame, timings, behindGates, outputsOf, areaOf, gateIn, gatesIn, afterGates, dueLines, nothingLeft, readCounted, counted, countText}
-use Rattle.model.specs.NetlistLines.{isWire}
 use Rattle.model.specs.declared.Cell.{Cell}
 use Rattle.model.specs.declared.Figures.{Figures}
 use Rattle.model.specs.declared.Tally.{Tally}
-use Rattle.theory_graph.specs.Accepted.{Accepted, libraryFits}
-use Rattle.theory_graph.proofs.Distinct.{length-map, length-from}
-use Rattle.theory_text.proofs.LineLaws.{lineOfBytes}
-use Rattle.theory_text.proofs.Plain.{name-clear, Clear}
-use Rattle.theory_text.proofs.Steps.{holds-once}
-use Rattle.theory_text.proofs.ReadTexts.{texts-read, design-accepted}
-use Rattle.theory_demands.proofs.Numbered.{Fitting}
-use Rattle.theory_demands.proofs.Gates.{chosenGates, gate-listed, line-bound}
-use Rattle.theory_text.proofs.Outcomes.{printed-choice}
-use Rattle.theory_demands.proofs.Demanded.{design-fitting, readable}
-use Rattle.theory_text.proofs.Names.{named-cell}
-use Rattle.theory_text.proofs.ReadBack.{outputNames}
-use Rattle.theory_tally.specs.Sums.{Grown, CountsPrinted}
+use Rattle.theory_graph.specs.Accepted.{Accepted}
+use Rattle.theory_graph.specs.{libraryFits}
+use Rattle.theory_graph.proofs.{length-map, length-from}
+use Rattle.theory_text.proofs.{lineOfBytes, name-clear, Clear, holds-once, texts-read, design-accepted, printed-choice, named-cell}
+use Rattle.theory_text.proofs.{outputNames}
+use Rattle.theory_demands.proofs.{Fitting, chosenGates, gate-listed, line-bound, design-fitting, readable}
+use Rattle.theory_tally.specs.{Grown, CountsPrinted}
 use Rattle.theory_tally.proofs.Sums.{grown}
 use Rattle.theory_tally.proofs.Worded.{Wholes, wholes-append, lined, placed, behind, lines-placed, placed-append}
 use Rattle.theory_tally.proofs.DueMet.{Meets, meets-append, due-met, AreGates, gates-met, behind-met, no-gate, Found, gate-found}
-use Rattle.theory_tally.proofs.Rows.{gateRow, gate-whole, gate-form, other-form, modelRow, inputsRow, outputsRow, model-whole, inputs-whole, outputs-whole, inputs-met, outputs-met, outputs-fields, wireRow, wireRows, wire-fields, wires-met, wires-whole, figureRow, figure-whole, figure-met, timingRows, timings-whole, timings-met, timings-lined, behindRows, netlistRows, netlist-lined}
+use Rattle.theory_tally.proofs.Rows.{gateRow, gate-whole, gate-form, other-form, modelRow, inputsRow, outputsRow, model-whole}
+use Rattle.theory_tally.proofs.Rows.{inputs-whole, outputs-whole, inputs-met, outputs-met, outputs-fields, wireRow, wireRows}
+use Rattle.theory_tally.proofs.Rows.{wire-fields, wires-met, wires-whole, figureRow, figure-whole, figure-met, timingRows}
+use Rattle.theory_tally.proofs.Rows.{timings-whole, timings-met, timings-lined, behindRows, netlistRows, netlist-lined}
 
 -- ---- the gates
 

@@ -1,29 +1,18 @@
--- The lines of a printed netlist, by their words: each is of the form that is due, and together they are the text. Assumes nothing.
-use Prim.Native.Nat.{ℕ, zero, suc, _+_, _/_, _%_, _<_}
-use native.Mathlib.Omega.{arith}
-use mathlib.Core.Path.{_≡_, refl, sym, _∙_, ap}
-use mathlib.Core.Bool.{Bool, true, false, cond, or-true}
-use mathlib.Core.List.{List, [], _∷_, _++_, map, append-assoc}
-use lib.Dec.{T, ltb, ltb→lt, lit<}
-use lib.ListN.{length}
-use borrow.Author.Tests.{eq-eqb, le-leb, lt-ltb}
-use Rattle.model.specs.Base.{all, each, same, from, below}
-use Rattle.model.specs.Text.{text, digits, decimal, fields, between}
-use Rattle.model.specs.Cells.{nameOf}
-use Rattle.model.specs.Graph.{Graph, literal, negated, varOf}
-use Rattle.model.specs.Netlist.{Net, ofPhase, ofPair, Gate, netName, label, outName, pinWords, gateLine, namesLine, wireLine, wireLines, netlistText}
-use Rattle.model.specs.Timing.{timingLines}
-use Rattle.model.specs.NetlistLines.{areDigits, isLabel, isPhaseNet, isInnerNet, isGateNet, isBound, ofForm, ofList, isNameList, gateForm, isWire, isFigures, isTiming}
+-- The lines of a printed netlist, by their words: each is of the form that is due, and together they are the text.
+use Rattle.base.specs.{ℕ, zero, suc, _+_, _/_, _%_, _<_, arith, _≡_, refl, sym, _∙_, ap, Bool, true, false, cond, or-true, List, [], _∷_}
+use Rattle.base.specs.{_++_, map, append-assoc, T, ltb, ltb→lt, lit<, length, eq-eqb, le-leb, lt-ltb, and-yes}
+use Rattle.model.specs.{all, each, same, from, below, text, digits, decimal, fields, between, nameOf, literal, negated, varOf, Net, ofPhase}
+use Rattle.model.specs.{ofPair, Gate, netName, label, outName, pinWords, gateLine, namesLine, wireLine, wireLines, netlistText, timingLines}
+use Rattle.model.specs.{areDigits, isLabel, isPhaseNet, isInnerNet, isGateNet, isBound, ofForm, ofList, isNameList, gateForm, isWire}
+use Rattle.model.specs.{isFigures, isTiming}
+use Rattle.model.specs.Graph.{Graph}
 use Rattle.model.specs.declared.Cell.{Cell}
 use Rattle.model.specs.declared.Figures.{Figures}
-use Rattle.theory_graph.proofs.Lists.{is-true, same-refl}
-use Rattle.theory_graph.proofs.Literals.{lit-neg}
-use Rattle.theory_text.proofs.Plain.{above, decimal-free, net-free, label-free, out-clear, Clear, Clears, clears-map}
-use mir.Facts.{and-yes}
-use Rattle.theory_text.proofs.ReadBack.{namesOf, body, bodyOf, gate-line, wireBody, wire-line, inputNames, outputNames}
+use Rattle.theory_graph.proofs.{is-true, same-refl, lit-neg, by-bool}
+use Rattle.theory_text.proofs.{above, decimal-free, net-free, label-free, out-clear, Clear, Clears, clears-map, namesOf, body, bodyOf}
+use Rattle.theory_text.proofs.{gate-line, wireBody, wire-line, inputNames, outputNames}
 use Rattle.theory_tally.proofs.Worded.{Whole, Wholes, names-whole, names-fields, names-ended, lined}
 use Rattle.theory_tally.proofs.DueMet.{Meets}
-use Rattle.theory_graph.proofs.Split.{by-bool}
 
 -- ---- words
 

@@ -1,32 +1,19 @@
--- The sums of a tally, and its figures: "a tally handed on by these calls from an empty one" is never refused for its figures. Assumes nothing.
-use Prim.Native.Nat.{ℕ, zero, suc, _+_, _*_, _^_, _≤_, _<_}
-use native.Mathlib.Nat.{mul-le-mul}
-use native.Mathlib.Omega.{arith}
-use mathlib.Core.Path.{_≡_, refl, sym, _∙_, ap, ap₂, subst}
-use mathlib.Core.Bool.{true}
-use mathlib.Core.Option.{Option}
-use mathlib.Core.List.{List, [], _∷_, _++_, map, List·Memᴰ, List·Memᴰ·head, List·Memᴰ·tail}
-use lib.Dec.{leb, ltb}
-use lib.ListN.{length, take, getD, replicate}
-use borrow.Author.Tests.{le-leb}
-use mir.Facts.{and-yes, ltb-yes, leb-yes}
-use Rattle.model.specs.Base.{all, each, one, from, below}
-use Rattle.model.specs.Text.{text}
-use Rattle.model.specs.Reading.{holds}
-use Rattle.model.specs.Cells.{cellAt}
-use Rattle.model.specs.LibraryText.{readLibrary, isRanged}
-use Rattle.model.specs.Netlist.{sum}
-use Rattle.model.specs.Tally.{emptyTally, inWidth, areaOf, readCounted, times, counted, countText, reportLine, cellLine, totalLine, reportText, reportOf}
+-- The sums of a tally, and its figures: "a tally handed on by these calls from an empty one" is never refused for its figures.
+use Rattle.base.specs.{ℕ, zero, suc, _+_, _*_, _^_, _≤_, _<_, mul-le-mul, arith, _≡_, refl, sym, _∙_, ap, ap₂, subst, true, Option, List}
+use Rattle.base.specs.{[], _∷_, _++_, map, List·Memᴰ, List·Memᴰ·head, List·Memᴰ·tail, leb, ltb, length, take, getD, replicate, le-leb}
+use Rattle.base.specs.{and-yes, ltb-yes, leb-yes}
+use Rattle.model.specs.{all, each, one, from, below, text, holds, cellAt, readLibrary, isRanged, sum, emptyTally, inWidth, areaOf}
+use Rattle.model.specs.{readCounted, times, counted, countText, reportLine, cellLine, totalLine, reportText, reportOf}
 use Rattle.model.specs.declared.Cell.{Cell}
 use Rattle.model.specs.declared.Tally.{Tally}
-use Rattle.theory_text.proofs.Steps.{holds-once, unless-out, next-out}
-use Rattle.theory_text.proofs.ReadLibrary.{library-few, library-written}
-use Rattle.theory_tally.specs.Sums.{Handed, GatesLine, gatesSum, areaSum, Counting, Sums, Reported, Grown, Added}
-use Rattle.theory_tally.specs.Sums as promised
+use Rattle.theory_graph.proofs.{one-le}
+use Rattle.theory_text.proofs.{holds-once, unless-out, next-out, library-few, library-written}
+use Rattle.theory_tally.specs.{Handed, GatesLine, gatesSum, areaSum, Counting, Reported, Grown, Added}
+use Rattle.theory_tally.specs.Sums.{Sums}
 use Rattle.theory_tally.proofs.Weights.{added-first, added-length, added-at, weights, ones, times-low}
 use Rattle.theory_tally.proofs.FiguresIn.{figures-in}
 use Rattle.theory_tally.proofs.Used.{used-is, counted-by}
-use Rattle.theory_graph.proofs.Literals.{one-le}
+use Rattle.theory_tally.specs.Sums as promised
 
 -- ---- the sums
 

@@ -1,37 +1,22 @@
--- A tally and its report say of the counted netlists what `specs.TallyDemands` asks. Assumes nothing.
-use Prim.Native.Nat.{ℕ, zero, suc, _+_, _*_, _<_}
-use native.Mathlib.Nat.{add-mul}
-use native.Mathlib.Omega.{arith}
-use mathlib.Core.Path.{_≡_, refl, sym, _∙_, ap, ap₂}
-use mathlib.Core.Option.{Option, some}
-use mathlib.Core.List.{List, [], _∷_, _++_, map, append-assoc, append-nil, List·Memᴰ, List·Memᴰ·head, List·Memᴰ·tail}
-use lib.Dec.{leb, ltb, lit<}
-use lib.ListN.{length, take, getD}
-use Rattle.model.specs.Base.{one, each, keep, andThen, only, from, below}
-use Rattle.model.specs.Text.{text, decimal, linesFrom}
-use Rattle.model.specs.Reading.{holds}
-use Rattle.model.specs.Cells.{nameOf, cellAt}
-use Rattle.model.specs.LibraryText.{readLibrary, isRanged}
-use Rattle.model.specs.Netlist.{sum, namesLine}
-use Rattle.model.specs.Tally.{emptyTally, inWidth, readCounted, times, counted, countText, reportLine, cellLine, totalLine, reportText, reportOf}
+-- A tally and its report say of the counted netlists what `specs.TallyDemands` asks.
+use Rattle.base.specs.{ℕ, zero, suc, _+_, _*_, _<_, add-mul, arith, _≡_, refl, sym, _∙_, ap, ap₂, Option, some, List, [], _∷_, _++_, map}
+use Rattle.base.specs.{append-assoc, append-nil, List·Memᴰ, List·Memᴰ·head, List·Memᴰ·tail, leb, ltb, lit<, length, take, getD}
+use Rattle.model.specs.{one, each, keep, andThen, only, from, below, text, decimal, linesFrom, holds, nameOf, cellAt, readLibrary, isRanged}
+use Rattle.model.specs.{sum, namesLine, emptyTally, inWidth, readCounted, times, counted, countText, reportLine, cellLine, totalLine}
+use Rattle.model.specs.{reportText, reportOf}
 use Rattle.model.specs.declared.Cell.{Cell}
 use Rattle.model.specs.declared.Tally.{Tally}
-use Rattle.theory_graph.proofs.Lists.{map-same, below-out}
-use Rattle.theory_text.proofs.Plain.{above, decimal-free, Clear, Clears, name-clear}
-use Rattle.theory_text.proofs.LineLaws.{lineOfBytes, line-first}
-use Rattle.theory_text.proofs.ReadBack.{namesOf}
-use Rattle.theory_text.proofs.ReadFigures.{figure-back}
-use Rattle.theory_text.proofs.ReadLibrary.{library-few, library-written}
-use Rattle.theory_text.proofs.Steps.{holds-once, unless-out, next-out}
-use Rattle.theory_tally.specs.Sums.{GatesLine, Counting}
-use Rattle.theory_tally.specs.Sums as promised
-use Rattle.theory_tally.specs.TallyDemands.{gatesNaming, gatesOf, occursIn, Tallied, Row, readRow, readRows, readReport, cellRow, totalRow, ReadsBack}
+use Rattle.theory_graph.proofs.{map-same, below-out, by-bool}
+use Rattle.theory_text.proofs.{above, decimal-free, Clear, Clears, name-clear, lineOfBytes, line-first, namesOf, figure-back, library-few}
+use Rattle.theory_text.proofs.{library-written, holds-once, unless-out, next-out}
+use Rattle.theory_tally.specs.{GatesLine, Counting, gatesNaming, gatesOf, occursIn, Tallied, Row, readRow, readRows, readReport}
+use Rattle.theory_tally.specs.{cellRow, totalRow, ReadsBack}
 use Rattle.theory_tally.proofs.Weights.{added-is, added-length}
 use Rattle.theory_tally.proofs.Used.{counted-by}
 use Rattle.theory_tally.proofs.Worded.{names-whole, names-fields, names-ended}
 use Rattle.theory_tally.proofs.Sums.{tally-sums, counted-adds, sum-first, none-at}
 use Rattle.theory_tally.proofs.Named.{at-listed, used-named}
-use Rattle.theory_graph.proofs.Split.{by-bool}
+use Rattle.theory_tally.specs.Sums as promised
 
 -- ---- one netlist more
 

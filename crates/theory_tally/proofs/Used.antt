@@ -1,22 +1,12 @@
--- The cells of a netlist that is counted: they are listed, and no more than the text has bytes. Assumes nothing.
-use Prim.Native.Nat.{ℕ, suc, _+_, _≤_, _<_}
-use native.Mathlib.Omega.{arith}
-use mathlib.Core.Path.{_≡_, refl, sym, ap, subst}
-use mathlib.Core.Bool.{Bool, true, false, cond, _&&_}
-use mathlib.Core.Option.{Option, none, some}
-use mathlib.Core.List.{List, [], _∷_, List·Memᴰ, List·Memᴰ·head, List·Memᴰ·tail, List·Memᴰ·not-nil}
-use lib.Dec.{T, eqb, leb, ltb}
-use lib.ListN.{length}
-use Rattle.model.specs.Text.{Line, endedByTen, linesFrom, fields}
-use Rattle.model.specs.Reading.{holds}
-use Rattle.model.specs.LibraryText.{readLibrary, isRanged}
-use Rattle.model.specs.NetlistLines.{ofForm, gateForm, gateOf}
-use Rattle.model.specs.Tally.{inWidth, dueLines, nothingLeft, gateIn, gatesIn, afterGates, areaOf, frame, behindGates, outputsOf, readCounted, counted, countText}
+-- The cells of a netlist that is counted: they are listed, and no more than the text has bytes.
+use Rattle.base.specs.{ℕ, suc, _+_, _≤_, _<_, arith, _≡_, refl, sym, ap, subst, Bool, true, false, cond, _&&_, Option, none, some, List, []}
+use Rattle.base.specs.{_∷_, List·Memᴰ, List·Memᴰ·head, List·Memᴰ·tail, List·Memᴰ·not-nil, T, eqb, leb, ltb, length}
+use Rattle.model.specs.{Line, endedByTen, linesFrom, fields, holds, readLibrary, isRanged, ofForm, gateForm, gateOf, inWidth, dueLines}
+use Rattle.model.specs.{nothingLeft, gateIn, gatesIn, afterGates, areaOf, frame, behindGates, outputsOf, readCounted, counted, countText}
 use Rattle.model.specs.declared.Cell.{Cell}
 use Rattle.model.specs.declared.Tally.{Tally}
-use Rattle.theory_text.proofs.LineLaws.{lines-step}
-use Rattle.theory_text.proofs.Steps.{holds-once, unless-out, next-out}
-use Rattle.theory_graph.proofs.Split.{by-bool}
+use Rattle.theory_graph.proofs.{by-bool}
+use Rattle.theory_text.proofs.{lines-step, holds-once, unless-out, next-out}
 
 -- ---- listed
 

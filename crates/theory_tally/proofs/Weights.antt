@@ -1,18 +1,8 @@
--- What is counted at the places is what is counted of the gates. Assumes nothing.
-use Prim.Native.Nat.{ℕ, zero, suc, _+_, _*_, _≤_, _<_}
-use native.Mathlib.Nat.{le-refl, zero-add}
-use native.Mathlib.Omega.{arith}
-use mathlib.Core.Path.{_≡_, refl, _∙_, ap}
-use mathlib.Core.Bool.{cond}
-use mathlib.Core.List.{List, [], _∷_, map, List·Memᴰ, List·Memᴰ·head, List·Memᴰ·tail}
-use lib.Dec.{eqb, eqb→eq, eqb-refl}
-use lib.ListN.{length, take, getD}
-use lib.Seq.{length-take-le}
-use Rattle.model.specs.Base.{from}
-use Rattle.model.specs.Netlist.{sum}
-use Rattle.model.specs.Tally.{times, addEach}
-use Rattle.theory_graph.proofs.Lists.{by-eqb, map-same}
-use Rattle.theory_graph.proofs.Split.{by-bool}
+-- What is counted at the places is what is counted of the gates.
+use Rattle.base.specs.{ℕ, zero, suc, _+_, _*_, _≤_, _<_, le-refl, zero-add, arith, _≡_, refl, _∙_, ap, cond, List, [], _∷_, map, List·Memᴰ}
+use Rattle.base.specs.{List·Memᴰ·head, List·Memᴰ·tail, eqb, eqb→eq, eqb-refl, length, take, getD, length-take-le}
+use Rattle.model.specs.{from, sum, times, addEach}
+use Rattle.theory_graph.proofs.{by-eqb, map-same, by-bool}
 
 -- ---- sums
 

@@ -1,15 +1,7 @@
--- A text by its lines, and a line by its words, as `linesFrom` and `fields` see them. Assumes nothing.
-use Prim.Native.Nat.{ℕ, suc, _+_}
-use mathlib.Core.Path.{_≡_, refl, _∙_, ap}
-use mathlib.Core.List.{List, [], _∷_, _++_, append-assoc, append-nil}
-use lib.Dec.{lit<}
-use lib.ListN.{length}
-use Rattle.model.specs.Base.{each}
-use Rattle.model.specs.Text.{Line, text, linesFrom, fields}
-use Rattle.model.specs.Netlist.{namesLine}
-use Rattle.theory_text.proofs.Plain.{Free, free-append, Clears, spaced-free}
-use Rattle.theory_text.proofs.LineLaws.{lineOfBytes, line-first, fields-word, fields-last}
-use Rattle.theory_text.proofs.ReadBack.{namesOf}
+-- A text by its lines, and a line by its words, as `linesFrom` and `fields` see them.
+use Rattle.base.specs.{ℕ, suc, _+_, _≡_, refl, _∙_, ap, List, [], _∷_, _++_, append-assoc, append-nil, lit<, length}
+use Rattle.model.specs.{each, Line, text, linesFrom, fields, namesLine}
+use Rattle.theory_text.proofs.{Free, free-append, Clears, spaced-free, lineOfBytes, line-first, fields-word, fields-last, namesOf}
 
 -- ---- words
 

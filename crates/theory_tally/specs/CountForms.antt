@@ -1,16 +1,9 @@
 -- The lines of a netlist that is counted, as relations over bytes, written from the documents' sentences: what nets, gate lines and the other lines that mapping
--- prints are, and which may stand behind which. Each says that bytes are such a thing and what they mean; no reader stands here. Assumes nothing.
-use Prim.Native.Nat.{ℕ, zero, suc, _<_}
-use mathlib.Core.Path.{_≡_}
-use mathlib.Core.Logic.{_⊎_}
-use mathlib.Core.Bool.{Bool, true, cond}
-use mathlib.Core.List.{List, [], _∷_, _++_, List·Memᴰ}
-use lib.ListN.{length}
-use Rattle.model.specs.Text.{text}
-use Rattle.model.specs.Cells.{nameOf, cellAt}
-use Rattle.model.specs.Tally.{areaOf}
+-- prints are, and which may stand behind which. Each says that bytes are such a thing and what they mean; no reader stands here.
+use Rattle.base.specs.{ℕ, zero, suc, _<_, _≡_, _⊎_, Bool, true, cond, List, [], _∷_, _++_, List·Memᴰ, length}
+use Rattle.model.specs.{text, nameOf, cellAt, areaOf}
 use Rattle.model.specs.declared.Cell.{Cell}
-use Rattle.promises.specs.Forms.{Within, Decimal, joined, LineOf}
+use Rattle.promises.specs.{Within, Decimal, joined, LineOf}
 
 -- ---- words
 

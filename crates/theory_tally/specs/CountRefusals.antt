@@ -1,15 +1,10 @@
 -- 1, the library's refusals, 28, 29 and 18 of a count and of a report as conditions over the bytes of library and netlist, by the forms of `CountForms`. No
--- reader's definition is used: a reader is named only where `Exactly` says what it does. Assumes nothing.
-use Prim.Native.Nat.{ℕ, zero, _^_, _≤_, _<_}
-use mathlib.Core.Path.{_≡_}
-use mathlib.Core.Bool.{Bool}
-use mathlib.Core.List.{List, [], _++_, List·Memᴰ}
-use lib.ListN.{length}
-use Rattle.model.specs.Tally.{counted, readCounted, reportText, countText, reportOf}
+-- reader's definition is used: a reader is named only where `Exactly` says what it does.
+use Rattle.base.specs.{ℕ, zero, _^_, _≤_, _<_, _≡_, Bool, List, [], _++_, List·Memᴰ, length}
+use Rattle.model.specs.{counted, readCounted, reportText, countText, reportOf}
 use Rattle.model.specs.declared.Cell.{Cell}
 use Rattle.model.specs.declared.Tally.{Tally}
-use Rattle.promises.specs.Forms.{BeginsNone}
-use Rattle.promises.specs.Refusals.{Exactly, CellsIn, LibraryFault}
+use Rattle.promises.specs.{BeginsNone, Exactly, CellsIn, LibraryFault}
 use Rattle.theory_tally.specs.CountForms.{Due, timingDue, NextLine, Reached}
 
 -- ---- the netlist: 29

@@ -1,18 +1,7 @@
--- What is promised of a tally "handed on by these calls from an empty one". Assumes nothing.
-use Prim.Native.Nat.{ℕ, _+_, _≤_, _<_}
-use mathlib.Core.Path.{_≡_}
-use mathlib.Core.Bool.{Bool, true, cond, _&&_}
-use mathlib.Core.Option.{Option, some}
-use mathlib.Core.List.{List, [], _∷_, _++_, map}
-use lib.ListN.{length, take, getD}
-use Rattle.model.specs.Base.{each, same, andThen, only, below}
-use Rattle.model.specs.Text.{text, parts, fields}
-use Rattle.model.specs.Reading.{holds}
-use Rattle.model.specs.LibraryText.{readLibrary}
-use Rattle.model.specs.Blif.{figure}
-use Rattle.model.specs.Netlist.{sum, mapped}
-use Rattle.model.specs.Mapper.{Call, mapTexts}
-use Rattle.model.specs.Tally.{emptyTally, inWidth, countText, reportLine, cellLine}
+-- What is promised of a tally "handed on by these calls from an empty one".
+use Rattle.base.specs.{ℕ, _+_, _≤_, _<_, _≡_, Bool, true, cond, _&&_, Option, some, List, [], _∷_, _++_, map, length, take, getD}
+use Rattle.model.specs.{each, same, andThen, only, below, text, parts, fields, holds, readLibrary, figure, sum, mapped, Call, mapTexts}
+use Rattle.model.specs.{emptyTally, inWidth, countText, reportLine, cellLine}
 use Rattle.model.specs.declared.Cell.{Cell}
 use Rattle.model.specs.declared.Tally.{Tally}
 use Rattle.model.specs.declared.Figures.{Figures}

@@ -1,18 +1,7 @@
 -- What is promised of a tally and of its report, by the bytes of the netlists that were counted: apart from the definitions that count and that print. A cell's
 -- gates are the gate lines that name it, its netlists those with such a line, and the report's bytes are read back, line by line and word by word.
--- Assumes nothing.
-use Prim.Native.Nat.{ℕ, suc, _*_, _<_}
-use mathlib.Core.Path.{_≡_}
-use mathlib.Core.Bool.{Bool, cond, _&&_}
-use mathlib.Core.Option.{Option, some}
-use mathlib.Core.List.{List, [], _∷_, _++_, map}
-use lib.Dec.{eqb, ltb}
-use lib.ListN.{length, getD}
-use Rattle.model.specs.Base.{same, andThen, only, keep}
-use Rattle.model.specs.Text.{Line, endedByTen, text, parts, linesFrom, fields}
-use Rattle.model.specs.Cells.{nameOf, cellAt}
-use Rattle.model.specs.Blif.{figure}
-use Rattle.model.specs.Netlist.{sum}
+use Rattle.base.specs.{ℕ, suc, _*_, _<_, _≡_, Bool, cond, _&&_, Option, some, List, [], _∷_, _++_, map, eqb, ltb, length, getD}
+use Rattle.model.specs.{same, andThen, only, keep, Line, endedByTen, text, parts, linesFrom, fields, nameOf, cellAt, figure, sum}
 use Rattle.model.specs.declared.Cell.{Cell}
 use Rattle.model.specs.declared.Tally.{Tally}
 use Rattle.model.specs.declared.Verdict.{Verdict}

@@ -3,36 +3,22 @@
 --     arrivals-back       and such lines that are written read back
 --     texts-listed        each listed input arrives as its line says, and the others at 0
 --     reads-untimed       with an empty arrivals' text a call reads what the library and the graph hold
--- Assumes nothing.
-use Prim.Native.Nat.{ℕ, suc, _+_, _≤_, _<_, zero-le}
-use native.Mathlib.Omega.{arith}
-use mathlib.Core.Path.{_≡_, refl, sym, _∙_, ap, ap₂, subst, fun-ext}
-use mathlib.Core.Bool.{Bool, true, false, not, _&&_}
-use mathlib.Core.Option.{Option, some}
-use mathlib.Core.List.{List, [], _∷_, map, List·Memᴰ, List·Memᴰ·head, List·Memᴰ·tail, List·Memᴰ·not-nil, Memᴰ·cast}
-use lib.Dec.{T, eqb, leb, ltb, le→leb, lit<}
-use lib.ListN.{length, getD}
-use mir.Facts.{and-yes, ltb-yes, yes-and, yes-ltb}
-use Rattle.model.specs.Base.{all, each, elem, same, andThen, only}
-use Rattle.model.specs.Text.{Line, ended, text, decimal, linesFrom, fields, numbers}
-use Rattle.model.specs.Limits.{need}
-use Rattle.model.specs.Reading.{Read, holds, fault, next, unless, from?}
-use Rattle.model.specs.Graph.{Graph, andVars}
-use Rattle.model.specs.GraphText.{readHeader, readGraph, numbersLine}
-use Rattle.model.specs.ArrivalsText.{Late, lateNumbers, readLate, readLateLines, readArrivals, arrivalsText, timedBy}
-use Rattle.model.specs.Mapper.{Call, Design, designOf, readListed, readTexts}
-use Rattle.model.specs.Demands.{Distinct, readUntimed, Lists, ListedFor, Listed}
+use Rattle.base.specs.{ℕ, suc, _+_, _≤_, _<_, zero-le, arith, _≡_, refl, sym, _∙_, ap, ap₂, subst, fun-ext, Bool, true, false, not, _&&_}
+use Rattle.base.specs.{Option, some, List, [], _∷_, map, List·Memᴰ, List·Memᴰ·head, List·Memᴰ·tail, List·Memᴰ·not-nil, Memᴰ·cast, T, eqb}
+use Rattle.base.specs.{leb, ltb, le→leb, lit<, length, getD, and-yes, ltb-yes, yes-and, yes-ltb}
+use Rattle.model.specs.{all, each, elem, same, andThen, only, Line, ended, text, decimal, linesFrom, fields, numbers, need, Read, holds}
+use Rattle.model.specs.{fault, next, unless, from?, andVars, readHeader, readGraph, numbersLine, Late, lateNumbers, readLate, readLateLines}
+use Rattle.model.specs.{readArrivals, arrivalsText, timedBy, Call, Design, designOf, readListed, readTexts, Distinct, readUntimed, Lists}
+use Rattle.model.specs.{ListedFor, Listed}
+use Rattle.model.specs.Graph.{Graph}
 use Rattle.model.specs.declared.Cell.{Cell}
-use Rattle.theory_graph.proofs.Lists.{is-true, elem-T, elem-out}
-use Rattle.theory_graph.proofs.Distinct.{front-distinct}
-use Rattle.theory_graph.proofs.Timed.{timed-none, listed-for}
+use Rattle.theory_graph.proofs.{is-true, elem-T, elem-out, front-distinct, timed-none, listed-for, by-bool, by-list, by-member}
 use Rattle.theory_text.proofs.Steps.{holds-once, unless-out, from-out, next-out, then-out, numbers-small}
 use Rattle.theory_text.proofs.Plain.{decimal-free}
 use Rattle.theory_text.proofs.LineLaws.{lineOfBytes, line-first}
 use Rattle.theory_text.proofs.DueBack.{numbers-back, words, fields-numbers, numbers-first}
 use Rattle.theory_text.proofs.ReadGraph.{graph-known, graph-counted, graph-untimed}
 use Rattle.theory_text.proofs.ReadTexts.{texts-read}
-use Rattle.theory_graph.proofs.Split.{by-bool, by-list, by-member}
 
 -- ---- the lines that are read
 

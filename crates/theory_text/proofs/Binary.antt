@@ -1,27 +1,17 @@
 -- The binary form of a graph's text: its inputs, output lines and ANDs are as lawful as due lines, define 1 to I + A in sequence, and use nothing else.
--- Assumes nothing.
-use Prim.Native.Nat.{ℕ, zero, suc, _+_, _-_, _*_, _/_, _≤_, _<_}
-use native.Mathlib.Nat.{le-of-eq}
-use native.Mathlib.Omega.{arith}
-use mathlib.Core.Path.{_≡_, refl, sym, _∙_, ap, ap₂, subst}
-use mathlib.Core.Logic.{_⊎_, inl, inr, ⊎-elim}
-use mathlib.Core.Bool.{Bool, true, false, not, _&&_}
-use mathlib.Core.List.{List, [], _∷_, _++_, map, List·Memᴰ, List·Memᴰ·head, List·Memᴰ·tail, List·Memᴰ·not-nil, List·Memᴰ·cases-cons, List·Memᴰ·append-cases, Memᴰ·append-left, Memᴰ·append-right, map-append, cons≢nil, head-eq-of-cons-eq, tail-eq-of-cons-eq}
-use lib.Dec.{T, eqb, leb, leb→le, le→leb, ltb, ltb→lt, nltb→le}
-use lib.ListN.{length, getD, drop, replicate}
-use mir.Facts.{and-yes, yes-and, eqb-no, leb-yes}
-use Rattle.model.specs.Base.{from, all, elem}
-use Rattle.model.specs.Text.{linesFrom}
-use Rattle.model.specs.Reading.{Read, holds, next, unless}
-use Rattle.model.specs.Graph.{varOf}
-use Rattle.model.specs.GraphText.{closed, Kind, anInput, anOutput, anAnd, howMany, defines, due, Item, readDue, Passed, difference, lessBy, readAnds, behindLines, inputItems, readBinary, uses, definedBy, checkUses}
-use Rattle.model.specs.Demands.{Distinct}
+use Rattle.base.specs.{ℕ, zero, suc, _+_, _-_, _*_, _/_, _≤_, _<_, le-of-eq, arith, _≡_, refl, sym, _∙_, ap, ap₂, subst, _⊎_, inl, inr}
+use Rattle.base.specs.{⊎-elim, Bool, true, false, not, _&&_, List, [], _∷_, _++_, map, List·Memᴰ, List·Memᴰ·head, List·Memᴰ·tail}
+use Rattle.base.specs.{List·Memᴰ·not-nil, List·Memᴰ·cases-cons, List·Memᴰ·append-cases, Memᴰ·append-left, Memᴰ·append-right, map-append}
+use Rattle.base.specs.{cons≢nil, head-eq-of-cons-eq, tail-eq-of-cons-eq, T, eqb, leb, leb→le, le→leb, ltb, ltb→lt, nltb→le, length, getD}
+use Rattle.base.specs.{drop, replicate, and-yes, yes-and, eqb-no, leb-yes}
+use Rattle.model.specs.{from, all, elem, linesFrom, Read, holds, next, unless, varOf, closed, Kind, anInput, anOutput, anAnd, howMany}
+use Rattle.model.specs.{defines, due, Item, readDue, Passed, difference, lessBy, readAnds, behindLines, inputItems, readBinary, uses}
+use Rattle.model.specs.{definedBy, checkUses, Distinct}
 use Rattle.model.specs.declared.Header.{Header}
-use Rattle.theory_graph.proofs.Lists.{from-in, from-high, map-out, elem-T, all-of, all-in, is-true}
-use Rattle.theory_graph.proofs.Distinct.{from-low, from-distinct, append-distinct}
+use Rattle.theory_graph.proofs.{from-in, from-high, map-out, elem-T, all-of, all-in, is-true, from-low, from-distinct, append-distinct}
+use Rattle.theory_graph.proofs.{by-bool, by-list}
 use Rattle.theory_text.proofs.Steps.{holds-once, unless-out, next-out}
 use Rattle.theory_text.proofs.Items.{head, Good, due-kinds, due-good, Fresh, defined-cons, kindsOf, Lawful}
-use Rattle.theory_graph.proofs.Split.{by-bool, by-list}
 
 -- lines whose uses are all known pass
 pub uses-in : (known : List ℕ) (is : List Item) → ((i : Item) → List·Memᴰ i is → T (all (λ (l : ℕ). elem (varOf l) (0 ∷ known)) (uses i))) → checkUses known is ≡ holds is

@@ -1,24 +1,13 @@
 -- The cells of an accepted library are those of its cell lines, each by its own bytes alone: the same lines in any orders give the same
--- cells. Assumes nothing.
-use Prim.Native.Nat.{ℕ, suc}
-use native.Mathlib.Omega.{arith}
-use mathlib.Core.Path.{_≡_, refl, sym, _∙_, ap, subst}
-use mathlib.Core.Bool.{Bool, not, cond, _&&_, _||_}
-use mathlib.Core.Option.{Option, some}
-use mathlib.Core.List.{List, [], _∷_, List·Memᴰ, List·Memᴰ·head, List·Memᴰ·tail, List·Memᴰ·not-nil}
-use lib.Dec.{eqb, ltb}
-use lib.ListN.{length, getD}
-use mir.Facts.{and-yes, eqb-yes}
-use Rattle.model.specs.Base.{any, same, only}
-use Rattle.model.specs.Text.{Line, ended, linesFrom, fields, isName}
-use Rattle.model.specs.Reading.{holds, from?}
-use Rattle.model.specs.Cells.{nameOf}
-use Rattle.model.specs.LibraryText.{cellOfFields, cellOfLine, isClean, noLower, isShorter, isLonger, readCells, readLibraryLines, rangedLines, readLibrary}
-use Rattle.model.specs.ShuffleDemands.{behindFirst, cellLines, SameLines, SameCells}
+-- cells.
+use Rattle.base.specs.{ℕ, suc, arith, _≡_, refl, sym, _∙_, ap, subst, Bool, not, cond, _&&_, _||_, Option, some, List, [], _∷_, List·Memᴰ}
+use Rattle.base.specs.{List·Memᴰ·head, List·Memᴰ·tail, List·Memᴰ·not-nil, eqb, ltb, length, getD, and-yes, eqb-yes}
+use Rattle.model.specs.{any, same, only, Line, ended, linesFrom, fields, isName, holds, from?, nameOf, cellOfFields, cellOfLine, isClean}
+use Rattle.model.specs.{noLower, isShorter, isLonger, readCells, readLibraryLines, rangedLines, readLibrary, behindFirst, cellLines}
+use Rattle.model.specs.{SameLines, SameCells}
 use Rattle.model.specs.declared.Cell.{Cell}
-use Rattle.theory_graph.proofs.Lists.{map-in, map-out}
+use Rattle.theory_graph.proofs.{map-in, map-out, by-bool, by-member}
 use Rattle.theory_text.proofs.Steps.{holds-once, fault-never, unless-out, next-out, from-out, then-out, only-out}
-use Rattle.theory_graph.proofs.Split.{by-bool, by-member}
 
 -- the cell of a line's bytes
 abbrev cellOfBytes : Bool → List ℕ → Option Cell

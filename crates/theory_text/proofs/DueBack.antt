@@ -1,26 +1,15 @@
 -- Due lines that are written read back: a line of numbers gives its numbers, and lines that define nothing twice give their items.
--- Assumes nothing.
-use Prim.Native.Nat.{ℕ, suc, _+_, _*_, _%_, _≤_, _<_}
-use native.Mathlib.Omega.{arith}
-use mathlib.Core.Path.{_≡_, refl, sym, _∙_, ap, subst}
-use mathlib.Core.Bool.{Bool, true, false, not, cond, _&&_, _||_}
-use mathlib.Core.Option.{Option, some}
-use mathlib.Core.List.{List, [], _∷_, _++_, map, append-assoc, append-nil, List·Memᴰ, List·Memᴰ·head, List·Memᴰ·tail, List·Memᴰ·not-nil, Memᴰ·cast}
-use lib.Dec.{T, eqb, leb, leb→le, le→leb, not-T, lit<}
-use lib.ListN.{length, getD, drop}
-use mir.Facts.{yes-and, yes-eqb}
-use Rattle.model.specs.Base.{all, elem, keep, each, same, andThen, only}
-use Rattle.model.specs.Text.{decimal, linesFrom, fields, number, numbers}
-use Rattle.model.specs.Reading.{Read, holds, next, unless, from?}
-use Rattle.model.specs.Graph.{varOf}
-use Rattle.model.specs.GraphText.{closed, Kind, howMany, defines, Item, itemLiterals, readDue, uses, definedBy, isKind, sameKind, numbersLine}
-use Rattle.model.specs.Demands.{Distinct}
-use Rattle.theory_graph.proofs.Lists.{is-true, same-refl, all-of, all-in, elem-out}
+use Rattle.base.specs.{ℕ, suc, _+_, _*_, _%_, _≤_, _<_, arith, _≡_, refl, sym, _∙_, ap, subst, Bool, true, false, not, cond, _&&_, _||_}
+use Rattle.base.specs.{Option, some, List, [], _∷_, _++_, map, append-assoc, append-nil, List·Memᴰ, List·Memᴰ·head, List·Memᴰ·tail}
+use Rattle.base.specs.{List·Memᴰ·not-nil, Memᴰ·cast, T, eqb, leb, leb→le, le→leb, not-T, lit<, length, getD, drop, yes-and, yes-eqb}
+use Rattle.model.specs.{all, elem, keep, each, same, andThen, only, decimal, linesFrom, fields, number, numbers, Read, holds, next, unless}
+use Rattle.model.specs.{from?, varOf, closed, Kind, howMany, defines, Item, itemLiterals, readDue, uses, definedBy, isKind, sameKind}
+use Rattle.model.specs.{numbersLine, Distinct}
+use Rattle.theory_graph.proofs.{is-true, same-refl, all-of, all-in, elem-out, by-bool}
 use Rattle.theory_text.proofs.Plain.{Free, above, free-append, decimal-free}
 use Rattle.theory_text.proofs.LineLaws.{lineOfBytes, line-first, fields-word, fields-last}
 use Rattle.theory_text.proofs.Names.{decimal-value}
 use Rattle.theory_text.proofs.Items.{head, kindsOf, defined-cons}
-use Rattle.theory_graph.proofs.Split.{by-bool}
 
 -- ---- a line of numbers
 

@@ -6,37 +6,25 @@
 --     same-arrivals  so with alike arrivals' texts
 --     same-texts     so with the texts of two calls
 --     demand-ends    which is what is promised of them
--- Assumes nothing.
-use Prim.Native.Nat.{ℕ, suc, _+_, _*_, _%_}
-use native.Mathlib.Omega.{arith}
-use mathlib.Core.Path.{_≡_, refl, sym, _∙_, ap, subst}
-use mathlib.Core.Logic.{inl, inr}
-use mathlib.Core.Bool.{Bool, true, false, not, cond, true≢false, _&&_, _||_}
-use mathlib.Core.Option.{Option, none, some}
-use mathlib.Core.List.{List, [], _∷_, map, reverse, cons≢nil, nil≢cons, head-eq-of-cons-eq, tail-eq-of-cons-eq}
-use lib.Dec.{eqb, ltb, leb}
-use lib.ListN.{length, getD, drop, length-reverse}
-use borrow.Author.Tests.{le-leb}
-use Rattle.model.specs.Base.{all, any, elem, keep, same, andThen, only}
-use Rattle.model.specs.Text.{Line, ended, nextOf, closing, linesFrom, shown, fields, numbers, text}
-use Rattle.model.specs.Reading.{Read, holds, fault, next, unless, from?}
-use Rattle.model.specs.Limits.{need}
-use Rattle.model.specs.Cells.{nameOf}
-use Rattle.model.specs.LibraryText.{cellOfFields, cellOfLine, isClean, noLower, isShorter, isLonger, readCells, readLibraryLines, readLibrary, rangedLines, isRanged}
-use Rattle.model.specs.Pairs.{cellsFor}
-use Rattle.model.specs.Graph.{And, Graph, varOf}
-use Rattle.model.specs.GraphText.{closed, headerOfNumbers, headerOf, inLimits, inSequence, readHeader, Kind, anInput, anOutput, anAnd, howMany, defines, due, Item, itemLiterals, readDue, readItems, uses, definedBy, checkUses, sameKind, isKind, graphOf, readGraph}
-use Rattle.model.specs.ArrivalsText.{Late, lateNumbers, readLate, readLateLines, readArrivals, timedBy}
-use Rattle.model.specs.Netlist.{Outcome, refused, mapped}
-use Rattle.model.specs.Mapper.{Call, Design, short, readListed, readTexts, mapDesign, mapTexts, returnedBy}
-use Rattle.model.specs.Demands.{Alike, firstWord, isBinaryText, AlikeTexts, lineStart, SamePlace, ofLibrary, ofArrivals, atFault, SameButEnds, EitherEnd}
+use Rattle.base.specs.{ℕ, suc, _+_, _*_, _%_, arith, _≡_, refl, sym, _∙_, ap, subst, inl, inr, Bool, true, false, not, cond, true≢false}
+use Rattle.base.specs.{_&&_, _||_, Option, none, some, List, [], _∷_, map, reverse, cons≢nil, nil≢cons, head-eq-of-cons-eq}
+use Rattle.base.specs.{tail-eq-of-cons-eq, eqb, ltb, leb, length, getD, drop, length-reverse, le-leb}
+use Rattle.model.specs.{all, any, elem, keep, same, andThen, only, Line, ended, nextOf, closing, linesFrom, shown, fields, numbers, text}
+use Rattle.model.specs.{Read, holds, fault, next, unless, from?, need, nameOf, cellOfFields, cellOfLine, isClean, noLower, isShorter}
+use Rattle.model.specs.{isLonger, readCells, readLibraryLines, readLibrary, rangedLines, isRanged, cellsFor, And, varOf, closed}
+use Rattle.model.specs.{headerOfNumbers, headerOf, inLimits, inSequence, readHeader, Kind, anInput, anOutput, anAnd, howMany, defines, due}
+use Rattle.model.specs.{Item, itemLiterals, readDue, readItems, uses, definedBy, checkUses, sameKind, isKind, graphOf, readGraph, Late}
+use Rattle.model.specs.{lateNumbers, readLate, readLateLines, readArrivals, timedBy, Outcome, refused, mapped, Call, Design, short}
+use Rattle.model.specs.{readListed, readTexts, mapDesign, mapTexts, returnedBy, Alike, firstWord, isBinaryText, AlikeTexts, lineStart}
+use Rattle.model.specs.{SamePlace, ofLibrary, ofArrivals, atFault, SameButEnds, EitherEnd}
+use Rattle.model.specs.Graph.{Graph}
 use Rattle.model.specs.declared.Cell.{Cell}
 use Rattle.model.specs.declared.Header.{Header}
 use Rattle.model.specs.declared.Figures.{Figures}
+use Rattle.theory_graph.proofs.{by-bool, by-option, by-read}
 use Rattle.theory_text.proofs.Steps.{fault-never}
 use Rattle.theory_text.proofs.LineLaws.{lines-step, closing-next}
 use Rattle.theory_text.proofs.Faults.{Faults, in-holds, in-fault, header-faults, graph-faults}
-use Rattle.theory_graph.proofs.Split.{by-bool, by-option, by-read}
 
 -- ---- lines
 

@@ -1,27 +1,18 @@
--- Which numbers and places a reader's refusals have. Assumes nothing.
-use Prim.Native.Nat.{ℕ, zero, suc, _+_, _-_, _*_, _%_, _≤_}
-use native.Mathlib.Omega.{arith}
-use mathlib.Core.Path.{_≡_, refl, sym, ap, subst}
-use mathlib.Core.Bool.{Bool, true, false, cond, not, false≢true, _&&_, _||_}
-use mathlib.Core.Option.{Option, none, some}
-use mathlib.Core.List.{List, [], _∷_, _++_, reverse, List·Memᴰ, List·Memᴰ·head, List·Memᴰ·tail, List·Memᴰ·not-nil}
-use lib.Dec.{eqb, ltb, leb}
-use lib.ListN.{length, getD, drop, replicate, length-drop, length-reverse}
-use Rattle.model.specs.Base.{all, any, elem, same, only}
-use Rattle.model.specs.Text.{Line, ended, nextOf, text, closing, linesFrom, fields, numbers}
-use Rattle.model.specs.Reading.{Read, holds, fault, next, unless, from?}
-use Rattle.model.specs.Cells.{nameOf}
-use Rattle.model.specs.Graph.{varOf}
-use Rattle.model.specs.LibraryText.{cellOfLine, isClean, noLower, isShorter, isLonger, readCells, readLibraryLines, readLibrary}
-use Rattle.model.specs.Pairs.{cellsFor}
-use Rattle.model.specs.Mapper.{readListed}
-use Rattle.model.specs.GraphText.{closed, headerOfNumbers, headerOf, inLimits, inSequence, readHeader, Kind, anOutput, anAnd, defines, due, Item, itemLiterals, readDue, Passed, difference, lessBy, readAnds, behindLines, inputItems, readBinary, readItems, uses, definedBy, checkUses, graphOf, readGraph}
-use Rattle.model.specs.ArrivalsText.{Late, lateNumbers, readLate, readLateLines, readArrivals}
+-- Which numbers and places a reader's refusals have.
+use Rattle.base.specs.{ℕ, zero, suc, _+_, _-_, _*_, _%_, _≤_, arith, _≡_, refl, sym, ap, subst, Bool, true, false, cond, not, false≢true}
+use Rattle.base.specs.{_&&_, _||_, Option, none, some, List, [], _∷_, _++_, reverse, List·Memᴰ, List·Memᴰ·head, List·Memᴰ·tail}
+use Rattle.base.specs.{List·Memᴰ·not-nil, eqb, ltb, leb, length, getD, drop, replicate, length-drop, length-reverse}
+use Rattle.model.specs.{all, any, elem, same, only, Line, ended, nextOf, text, closing, linesFrom, fields, numbers, Read, holds, fault}
+use Rattle.model.specs.{next, unless, from?, nameOf, varOf, cellOfLine, isClean, noLower, isShorter, isLonger, readCells, readLibraryLines}
+use Rattle.model.specs.{readLibrary, cellsFor, readListed, closed, headerOfNumbers, headerOf, inLimits, inSequence, readHeader, Kind}
+use Rattle.model.specs.{anOutput, anAnd, defines, due, Item, itemLiterals, readDue, Passed, difference, lessBy, readAnds, behindLines}
+use Rattle.model.specs.{inputItems, readBinary, readItems, uses, definedBy, checkUses, graphOf, readGraph, Late, lateNumbers, readLate}
+use Rattle.model.specs.{readLateLines, readArrivals}
 use Rattle.model.specs.declared.Cell.{Cell}
 use Rattle.model.specs.declared.Header.{Header}
+use Rattle.theory_graph.proofs.{by-bool, by-list, by-member}
 use Rattle.theory_text.proofs.Steps.{holds-once, fault-never, unless-out, from-out, next-out, then-out}
 use Rattle.theory_text.proofs.LineLaws.{lines-step, closing-next}
-use Rattle.theory_graph.proofs.Split.{by-bool, by-list, by-member}
 
 -- the number and the place of a refusal, if there is one
 pub record Faults {A : Type 0} (P : ℕ → ℕ → Type 0) (r : Read A) : Type 0 where

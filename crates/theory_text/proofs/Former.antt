@@ -1,35 +1,18 @@
--- Under the shorter names line a library's text is read as it was before there were ranges, and so is a call. Assumes nothing.
-use Prim.Native.Nat.{ℕ, zero, suc, _^_, _≤_}
-use native.Mathlib.Nat.{le-refl, le-of-suc-le-suc, not-suc-le-zero}
-use native.Mathlib.Omega.{arith}
-use mathlib.Core.Path.{_≡_, refl, _∙_, ap, ap₂, subst}
-use mathlib.Core.Bool.{Bool, true, false, not, _&&_, _||_}
-use mathlib.Core.Option.{Option, some}
-use mathlib.Core.List.{List, [], _∷_}
-use lib.Dec.{T, eqb, leb, ltb, le→leb}
-use lib.ListN.{length, getD, take, drop, length-drop}
-use mir.Facts.{and-yes, eqb-yes}
-use Rattle.model.specs.Base.{all, any, same, andThen, only}
-use Rattle.model.specs.Limits.{need}
-use Rattle.model.specs.Text.{Line, ended, linesFrom, fields, numbers, hexTable, isName}
-use Rattle.model.specs.Reading.{Read, holds, next, unless, from?}
-use Rattle.model.specs.Cells.{nameOf}
+-- Under the shorter names line a library's text is read as it was before there were ranges, and so is a call.
+use Rattle.base.specs.{ℕ, zero, suc, _^_, _≤_, le-refl, le-of-suc-le-suc, not-suc-le-zero, arith, _≡_, refl, _∙_, ap, ap₂, subst, Bool}
+use Rattle.base.specs.{true, false, not, _&&_, _||_, Option, some, List, [], _∷_, T, eqb, leb, ltb, le→leb, length, getD, take, drop}
+use Rattle.base.specs.{length-drop, and-yes, eqb-yes}
+use Rattle.model.specs.{all, any, same, andThen, only, need, Line, ended, linesFrom, fields, numbers, hexTable, isName, Read, holds, next}
+use Rattle.model.specs.{unless, from?, nameOf, nameBytes, cellOfFields, cellOfLine, isClean, noLower, isShorter, readCells}
+use Rattle.model.specs.{readLibraryLines, rangedLines, readLibrary, isRanged, cellsFor, formerFields, formerLine, formerClean, formerCells}
+use Rattle.model.specs.{formerLines, formerLibrary, readHeader, readGraph, readArrivals, timedBy, Outcome, refused, mapped, mapGraph}
+use Rattle.model.specs.{followed, Call, Design, short, readListed, readTexts, mapDesign, mapTexts, readFormer, formerOutcome, Former}
 use Rattle.model.specs.Graph.{Graph}
-use Rattle.model.specs.LibraryText.{nameBytes, cellOfFields, cellOfLine, isClean, noLower, isShorter, readCells, readLibraryLines, rangedLines, readLibrary, isRanged}
-use Rattle.model.specs.Pairs.{cellsFor}
-use Rattle.model.specs.FormerLibrary.{formerFields, formerLine, formerClean, formerCells, formerLines, formerLibrary}
-use Rattle.model.specs.GraphText.{readHeader, readGraph}
-use Rattle.model.specs.ArrivalsText.{readArrivals, timedBy}
-use Rattle.model.specs.Netlist.{Outcome, refused, mapped, mapGraph}
-use Rattle.model.specs.Timing.{followed}
-use Rattle.model.specs.Mapper.{Call, Design, short, readListed, readTexts, mapDesign, mapTexts}
-use Rattle.model.specs.Demands.{readFormer, formerOutcome, Former}
 use Rattle.model.specs.declared.Cell.{Cell}
-use Rattle.theory_graph.proofs.Lists.{is-true}
+use Rattle.theory_graph.proofs.{is-true, by-bool, by-option, by-read}
 use Rattle.theory_text.proofs.Steps.{from-out, then-out, only-out, numbers-length}
 use Rattle.theory_text.proofs.ReadTexts.{texts-read, listed-plain}
 use Rattle.theory_text.proofs.Arrivals.{next-same}
-use Rattle.theory_graph.proofs.Split.{by-bool, by-option, by-read}
 
 -- ---- a line
 

@@ -1,16 +1,8 @@
 -- A number written in groups of seven bits is the difference that is read, if it takes two bytes at most; a longer one is refusal 20.
--- Assumes nothing.
-use Prim.Native.Nat.{ℕ, zero, suc, _+_, _-_, _*_, _/_, _%_, _≤_, _<_}
-use native.Mathlib.Omega.{arith}
-use mathlib.Core.Path.{_≡_, sym, _∙_, ap, subst}
-use mathlib.Core.Bool.{Bool, true, false, cond}
-use mathlib.Core.List.{List, [], _∷_, _++_}
-use lib.Dec.{ltb, ltb→lt, nltb→le}
-use lib.ListN.{length}
-use Rattle.model.specs.Reading.{holds, fault, unless}
-use Rattle.model.specs.GraphText.{difference}
-use Rattle.theory_graph.proofs.Split.{by-bool}
-use borrow.Author.Tests.{le-ltb, lt-ltb}
+use Rattle.base.specs.{ℕ, zero, suc, _+_, _-_, _*_, _/_, _%_, _≤_, _<_, arith, _≡_, sym, _∙_, ap, subst, Bool, true, false, cond, List, []}
+use Rattle.base.specs.{_∷_, _++_, ltb, ltb→lt, nltb→le, length, le-ltb, lt-ltb}
+use Rattle.model.specs.{holds, fault, unless, difference}
+use Rattle.theory_graph.proofs.{by-bool}
 
 -- "groups of seven bits, lowest first, the top bit set on all but the last byte"; each step takes one group
 groupsFrom : ℕ → ℕ → List ℕ

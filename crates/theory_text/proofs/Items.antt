@@ -1,21 +1,11 @@
--- The due lines of a graph's text that are read, and what is known of lines however they were read. Assumes nothing.
-use Prim.Native.Nat.{ℕ, _+_, _*_, _/_, _%_, _≤_, _<_}
-use native.Mathlib.Omega.{arith}
-use mathlib.Core.Path.{_≡_, refl, sym, _∙_, ap, ap₂, subst}
-use mathlib.Core.Logic.{_⊎_, inl, inr, ⊎-elim}
-use mathlib.Core.Bool.{Bool, true, false, not, cond, _&&_, _||_}
-use mathlib.Core.List.{List, [], _∷_, map, List·Memᴰ, List·Memᴰ·head, List·Memᴰ·tail, List·Memᴰ·not-nil, List·Memᴰ·cases-cons}
-use lib.Dec.{T, eqb, leb, leb→le, T-not}
-use lib.ListN.{length, getD}
-use mir.Facts.{and-yes, eqb-yes, eqb-no}
-use Rattle.model.specs.Base.{all, elem, only}
-use Rattle.model.specs.Text.{Line, fields, numbers}
-use Rattle.model.specs.Reading.{holds, from?}
-use Rattle.model.specs.Graph.{varOf}
-use Rattle.model.specs.GraphText.{Kind, anInput, anOutput, anAnd, howMany, defines, due, Item, itemLiterals, readDue, definedBy}
-use Rattle.model.specs.Demands.{Distinct}
+-- The due lines of a graph's text that are read, and what is known of lines however they were read.
+use Rattle.base.specs.{ℕ, _+_, _*_, _/_, _%_, _≤_, _<_, arith, _≡_, refl, sym, _∙_, ap, ap₂, subst, _⊎_, inl, inr, ⊎-elim, Bool, true}
+use Rattle.base.specs.{false, not, cond, _&&_, _||_, List, [], _∷_, map, List·Memᴰ, List·Memᴰ·head, List·Memᴰ·tail, List·Memᴰ·not-nil}
+use Rattle.base.specs.{List·Memᴰ·cases-cons, T, eqb, leb, leb→le, T-not, length, getD, and-yes, eqb-yes, eqb-no}
+use Rattle.model.specs.{all, elem, only, Line, fields, numbers, holds, from?, varOf, Kind, anInput, anOutput, anAnd, howMany, defines, due}
+use Rattle.model.specs.{Item, itemLiterals, readDue, definedBy, Distinct}
 use Rattle.model.specs.declared.Header.{Header}
-use Rattle.theory_graph.proofs.Lists.{elem-T, getD-in, all-of}
+use Rattle.theory_graph.proofs.{elem-T, getD-in, all-of}
 use Rattle.theory_text.proofs.Steps.{holds-once, fault-never, unless-out, from-out, next-out, then-out, only-out, numbers-length}
 
 -- the first literal's variable

@@ -1,14 +1,9 @@
--- Lines as `linesFrom` sees them, byte by byte, and one that byte 10 ends; its words as `fields` sees them. Assumes nothing.
-use Prim.Native.Nat.{ℕ, suc, _+_}
-use native.Mathlib.Omega.{arith}
-use mathlib.Core.Path.{_≡_, refl, sym, _∙_, ap, ap₂}
-use mathlib.Core.Bool.{Bool, cond}
-use mathlib.Core.List.{List, [], _∷_, _++_, reverse, reverse-cons, append-assoc, append-nil}
-use lib.Dec.{eqb}
-use lib.ListN.{length, length-reverse}
-use Rattle.model.specs.Text.{Line, nextOf, closing, linesFrom, onto, split, fields}
+-- Lines as `linesFrom` sees them, byte by byte, and one that byte 10 ends; its words as `fields` sees them.
+use Rattle.base.specs.{ℕ, suc, _+_, arith, _≡_, refl, sym, _∙_, ap, ap₂, Bool, cond, List, [], _∷_, _++_, reverse, reverse-cons}
+use Rattle.base.specs.{append-assoc, append-nil, eqb, length, length-reverse}
+use Rattle.model.specs.{Line, nextOf, closing, linesFrom, onto, split, fields}
+use Rattle.theory_graph.proofs.{by-bool}
 use Rattle.theory_text.proofs.Plain.{Free}
-use Rattle.theory_graph.proofs.Split.{by-bool}
 
 -- one byte more: byte 10 closes the line
 pub lines-step : (at : ℕ) (held : List ℕ) (b : ℕ) (l : List ℕ)

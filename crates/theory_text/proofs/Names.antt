@@ -1,26 +1,13 @@
 -- Names: the library finds a cell by its name again, a gate line of a listed cell binds its nets, and no two nets share a name.
--- Assumes nothing.
-use Prim.Native.Nat.{ℕ, zero, suc, _+_, _-_, _*_, _/_, _%_, _^_, _≤_, _<_}
-use native.Mathlib.Nat.{le-refl, not-suc-le-zero}
-use native.Mathlib.Omega.{arith}
-use mathlib.Core.Path.{_≡_, refl, sym, _∙_, ap, ap₂, subst}
-use mathlib.Core.Bool.{Bool, true, false, not, cond, _&&_}
-use mathlib.Core.List.{List, [], _∷_, _++_, map, List·Memᴰ, List·Memᴰ·head, List·Memᴰ·tail, head-eq-of-cons-eq, tail-eq-of-cons-eq}
-use lib.Dec.{T, eqb, leb, ltb, nltb→le}
-use lib.ListN.{length}
-use mir.Facts.{and-yes, ltb-yes, leb-yes, eqb-yes}
-use Rattle.model.specs.Base.{all, same}
-use Rattle.model.specs.Text.{digits, decimal, asDigits, isName}
-use Rattle.model.specs.Cells.{nameOf}
-use Rattle.model.specs.Graph.{varOf, negated, literal}
-use Rattle.model.specs.Netlist.{Net, ofPhase, ofPair, Gate, netName, label}
-use Rattle.model.specs.Blif.{Binding, named, drives, fedBy, pinNames, outputName}
+use Rattle.base.specs.{ℕ, zero, suc, _+_, _-_, _*_, _/_, _%_, _^_, _≤_, _<_, le-refl, not-suc-le-zero, arith, _≡_, refl, sym, _∙_, ap, ap₂}
+use Rattle.base.specs.{subst, Bool, true, false, not, cond, _&&_, List, [], _∷_, _++_, map, List·Memᴰ, List·Memᴰ·head, List·Memᴰ·tail}
+use Rattle.base.specs.{head-eq-of-cons-eq, tail-eq-of-cons-eq, T, eqb, leb, ltb, nltb→le, length, and-yes, ltb-yes, leb-yes, eqb-yes}
+use Rattle.model.specs.{all, same, digits, decimal, asDigits, isName, nameOf, varOf, negated, literal, Net, ofPhase, ofPair, Gate, netName}
+use Rattle.model.specs.{label, Binding, named, drives, fedBy, pinNames, outputName}
 use Rattle.model.specs.declared.Cell.{Cell}
-use Rattle.theory_graph.proofs.Lists.{same-refl, all-of}
-use Rattle.theory_graph.proofs.Literals.{lit-whole}
-use Rattle.theory_graph.specs.Accepted.{cellFits, libraryFits}
+use Rattle.theory_graph.proofs.{same-refl, all-of, lit-whole, by-bool}
+use Rattle.theory_graph.specs.{cellFits, libraryFits}
 use Rattle.theory_text.proofs.ReadBack.{lineOf, line-drives, line-fed, line-pins}
-use Rattle.theory_graph.proofs.Split.{by-bool}
 
 -- ---- the library finds a cell by its name
 

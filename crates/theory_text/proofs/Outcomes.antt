@@ -1,25 +1,15 @@
 -- What a printed netlist says of the texts: the graph is accepted, no AND has too many cuts, every output is chosen a source, and the text
--- and its figures are those of the chosen gates. Assumes nothing.
-use Prim.Native.Nat.{ℕ, suc}
-use mathlib.Core.Path.{_≡_, refl, sym, _∙_, ap, subst}
-use mathlib.Core.Bool.{Bool, true, false, cond, false≢true}
-use mathlib.Core.Option.{Option, none, some}
-use mathlib.Core.List.{List, [], _∷_, _++_, cons≢nil, List·Memᴰ, List·Memᴰ·head, List·Memᴰ·tail}
-use lib.Dec.{leb}
-use lib.ListN.{length}
-use Rattle.model.specs.Base.{lowest, smaller}
-use Rattle.model.specs.Reading.{holds}
-use Rattle.model.specs.Graph.{Graph, unplaced}
-use Rattle.model.specs.Cuts.{crowded}
-use Rattle.model.specs.Choice.{absent, chosen}
-use Rattle.model.specs.Netlist.{Outcome, refused, mapped, mapGraph, mapPlaced, mapCut, mapChosen, printed, uncovered}
-use Rattle.model.specs.Mapper.{Call, Design, readTexts, mapTexts, mapDesign, within}
-use Rattle.model.specs.Timing.{lowOf, timingLines, followed}
-use Rattle.model.specs.Demands.{choiceText, choiceFigures, printedText}
+-- and its figures are those of the chosen gates.
+use Rattle.base.specs.{ℕ, suc, _≡_, refl, sym, _∙_, ap, subst, Bool, true, false, cond, false≢true, Option, none, some, List, [], _∷_, _++_}
+use Rattle.base.specs.{cons≢nil, List·Memᴰ, List·Memᴰ·head, List·Memᴰ·tail, leb, length}
+use Rattle.model.specs.{lowest, smaller, holds, unplaced, crowded, absent, chosen, Outcome, refused, mapped, mapGraph, mapPlaced, mapCut}
+use Rattle.model.specs.{mapChosen, printed, uncovered, Call, Design, readTexts, mapTexts, mapDesign, within, lowOf, timingLines, followed}
+use Rattle.model.specs.{choiceText, choiceFigures, printedText}
+use Rattle.model.specs.Graph.{Graph}
 use Rattle.model.specs.declared.Cell.{Cell}
 use Rattle.model.specs.declared.Phase.{Phase}
 use Rattle.model.specs.declared.Figures.{Figures}
-use Rattle.theory_graph.proofs.Split.{by-bool, by-list}
+use Rattle.theory_graph.proofs.{by-bool, by-list}
 
 isMapped : Outcome → Bool
 isMapped (refused n k) = false

@@ -1,19 +1,9 @@
--- Bytes that separate fields and lines stand in no number, no net's name and no cell's name. Assumes nothing.
-use Prim.Native.Nat.{ℕ, zero, suc, _+_, _/_, _%_, _≤_, _<_}
-use native.Mathlib.Omega.{arith}
-use mathlib.Core.Path.{_≡_}
-use mathlib.Core.Logic.{⊎-elim}
-use mathlib.Core.Bool.{false, _&&_, _||_}
-use mathlib.Core.List.{List, [], _∷_, _++_, map, reverse, reverse-cons}
-use lib.Dec.{T, eqb, leb, leb→le, ltb, lit<}
-use lib.ListN.{length}
-use mir.Facts.{and-yes, or-yes, eqb-yes, no-eqb}
-use Rattle.theory_graph.proofs.Lists.{is-false}
-use Rattle.model.specs.Base.{all, each}
-use Rattle.model.specs.Text.{digits, decimal, between, isLetter, isNameByte, isName}
-use Rattle.model.specs.Graph.{negated, varOf}
-use Rattle.model.specs.Netlist.{Net, ofPhase, ofPair, netName, label, outName}
-use Rattle.theory_graph.proofs.Split.{by-bool}
+-- Bytes that separate fields and lines stand in no number, no net's name and no cell's name.
+use Rattle.base.specs.{ℕ, zero, suc, _+_, _/_, _%_, _≤_, _<_, arith, _≡_, ⊎-elim, false, _&&_, _||_, List, [], _∷_, _++_, map, reverse}
+use Rattle.base.specs.{reverse-cons, T, eqb, leb, leb→le, ltb, lit<, length, and-yes, or-yes, eqb-yes, no-eqb}
+use Rattle.model.specs.{all, each, digits, decimal, between, isLetter, isNameByte, isName, negated, varOf, Net, ofPhase, ofPair, netName}
+use Rattle.model.specs.{label, outName}
+use Rattle.theory_graph.proofs.{is-false, by-bool}
 
 -- the byte s is not in the list
 abbrev pub Free : ℕ → List ℕ → Type 0

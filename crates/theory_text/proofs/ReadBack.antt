@@ -1,23 +1,16 @@
--- The printed netlist reads back as what was printed, and its gate lines say which nets they bind. Assumes nothing.
-use Prim.Native.Nat.{ℕ, suc, _+_, _≤_, _<_}
-use native.Mathlib.Omega.{arith}
-use mathlib.Core.Path.{_≡_, refl, sym, _∙_, ap, ap₂}
-use mathlib.Core.Bool.{Bool, true, false, cond, _&&_}
-use mathlib.Core.Option.{Option, none, some}
-use mathlib.Core.List.{List, [], _∷_, _++_, map, append-assoc, append-nil, List·Memᴰ, List·Memᴰ·head, List·Memᴰ·tail}
-use lib.Dec.{T, eqb, eqb-refl, lit<}
-use lib.ListN.{length}
-use mir.Facts.{yes-eqb, no-eqb}
-use Rattle.model.specs.Base.{each, same, andThen, only, from, below}
-use Rattle.model.specs.Text.{text, decimal, onto, split, parts, isName}
-use Rattle.model.specs.Cells.{nameOf}
-use Rattle.model.specs.Graph.{Graph, literal}
-use Rattle.model.specs.Netlist.{Net, Gate, netName, label, outName, pinWords, gateLine, namesLine, wireLine, wireLines, netlistText}
-use Rattle.model.specs.Blif.{Binding, GateLine, Wire, Blif, Body, longer, binding, bindingsOf, afterWord, wordsAfter, gateOf, readGate, wireOf, readWire, readWires, bodyFrom, readBody, readLines, readBlif, named, netAt, pinNames, outputName, drives, fedBy}
+-- The printed netlist reads back as what was printed, and its gate lines say which nets they bind.
+use Rattle.base.specs.{ℕ, suc, _+_, _≤_, _<_, arith, _≡_, refl, sym, _∙_, ap, ap₂, Bool, true, false, cond, _&&_, Option, none, some, List}
+use Rattle.base.specs.{[], _∷_, _++_, map, append-assoc, append-nil, List·Memᴰ, List·Memᴰ·head, List·Memᴰ·tail, T, eqb, eqb-refl, lit<}
+use Rattle.base.specs.{length, yes-eqb, no-eqb}
+use Rattle.model.specs.{each, same, andThen, only, from, below, text, decimal, onto, split, parts, isName, nameOf, literal, Net, Gate}
+use Rattle.model.specs.{netName, label, outName, pinWords, gateLine, namesLine, wireLine, wireLines, netlistText, Binding, GateLine, Wire}
+use Rattle.model.specs.{Body, longer, binding, bindingsOf, afterWord, wordsAfter, readGate, wireOf, readWire, readWires, bodyFrom, readBody}
+use Rattle.model.specs.{readLines, readBlif, named, netAt, pinNames, outputName, drives, fedBy}
+use Rattle.model.specs.Graph.{Graph}
+use Rattle.model.specs.Blif.{Blif, gateOf}
 use Rattle.model.specs.declared.Cell.{Cell}
 use Rattle.model.specs.declared.Figures.{Figures}
-use Rattle.theory_graph.proofs.Lists.{map-map, map-same, is-true, is-false}
-use Rattle.theory_graph.proofs.Distinct.{from-low}
+use Rattle.theory_graph.proofs.{map-map, map-same, is-true, is-false, from-low}
 use Rattle.theory_text.proofs.Plain.{Free, above, free-append, decimal-free, net-free, label-free, Plain, plain, name-plain}
 
 -- ---- parts

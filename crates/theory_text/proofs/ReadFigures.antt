@@ -1,23 +1,16 @@
--- The `# gates` line of the printed netlist says the figures that were printed. Assumes nothing.
-use Prim.Native.Nat.{ℕ, zero, suc, _+_, _-_, _*_, _/_, _%_, _≤_, _<_}
-use native.Mathlib.Nat.{le-refl, not-suc-le-zero}
-use native.Mathlib.Omega.{arith}
-use mathlib.Core.Path.{_≡_, refl, sym, _∙_, ap, ap₂}
-use mathlib.Core.Bool.{Bool, true, false, not, cond, _&&_}
-use mathlib.Core.Option.{none, some}
-use mathlib.Core.List.{List, [], _∷_, _++_, map, List·Memᴰ}
-use lib.Dec.{T, ltb, ltb→lt, leb, le→leb, nltb→le, lit<}
-use Rattle.model.specs.Base.{same, andThen, only}
-use Rattle.model.specs.Text.{text, digits, decimal, parts, fields, split, onto, between, isName}
-use Rattle.model.specs.Cells.{nameOf}
+-- The `# gates` line of the printed netlist says the figures that were printed.
+use Rattle.base.specs.{ℕ, zero, suc, _+_, _-_, _*_, _/_, _%_, _≤_, _<_, le-refl, not-suc-le-zero, arith, _≡_, refl, sym, _∙_, ap, ap₂, Bool}
+use Rattle.base.specs.{true, false, not, cond, _&&_, none, some, List, [], _∷_, _++_, map, List·Memᴰ, T, ltb, ltb→lt, leb, le→leb, nltb→le}
+use Rattle.base.specs.{lit<}
+use Rattle.model.specs.{same, andThen, only, text, digits, decimal, parts, fields, split, onto, between, isName, nameOf, Gate, netlistText}
+use Rattle.model.specs.{digitsFrom, figure, behindEnd, readFigureWords, readFigures}
 use Rattle.model.specs.Graph.{Graph}
-use Rattle.model.specs.Netlist.{Gate, netlistText}
-use Rattle.model.specs.Blif.{digitsFrom, figure, behindEnd, readFigureWords, readFigures}
 use Rattle.model.specs.declared.Figures.{Figures}
-use Rattle.theory_graph.proofs.Lists.{is-true}
+use Rattle.theory_graph.proofs.{is-true}
 use Rattle.theory_text.proofs.Plain.{above, decimal-free}
 use Rattle.theory_text.proofs.LineLaws.{fields-word, fields-last}
-use Rattle.theory_text.proofs.ReadBack.{body, bodyOf, figuresLine, namesOf, inputNames, outputNames, wireBody, wireBodies, linesOf, text-lines}
+use Rattle.theory_text.proofs.ReadBack.{body, bodyOf, figuresLine, namesOf, inputNames, outputNames, wireBody, wireBodies, linesOf}
+use Rattle.theory_text.proofs.ReadBack.{text-lines}
 
 -- ---- a number
 

@@ -1,28 +1,22 @@
--- A graph that is read is in the limits, and accepted if all its ANDs can be placed. Assumes nothing.
-use Prim.Native.Nat.{ℕ, zero, suc, _+_, _*_, _≤_, _<_}
-use native.Mathlib.Nat.{le-of-suc-le-suc, not-suc-le-zero}
-use native.Mathlib.Omega.{arith}
-use mathlib.Core.Path.{_≡_, refl, sym, _∙_, ap, ap₂, subst}
-use mathlib.Core.Logic.{⊎-elim}
-use mathlib.Core.Bool.{Bool, true, false, not, cond, _&&_, _||_, false≢true}
-use mathlib.Core.List.{List, [], _∷_, _++_, map, List·Memᴰ, List·Memᴰ·not-nil, List·Memᴰ·cases-cons, List·Memᴰ·append-cases, List·Memᴰ·eq-of-singleton, Memᴰ·cast, cons≢nil, nil≢cons, head-eq-of-cons-eq, tail-eq-of-cons-eq}
-use lib.Dec.{T, eqb, leb, leb→le, le→leb, lit<, not-T}
-use lib.ListN.{length, getD, drop, replicate, length-append, length-map}
-use mir.Facts.{and-yes, yes-and, eqb-yes, leb-yes}
-use Rattle.model.specs.Base.{all, elem, keep, each}
-use Rattle.model.specs.Text.{linesFrom}
-use Rattle.model.specs.Reading.{holds, next, from?}
-use Rattle.model.specs.Graph.{And, Graph, varOf, unplaced, andVars}
-use Rattle.model.specs.GraphText.{closed, headerOf, inLimits, inSequence, readHeader, Kind, anInput, anOutput, anAnd, howMany, defines, due, Item, readItems, uses, definedBy, checkUses, sameKind, isKind, graphOf, readGraph}
-use Rattle.model.specs.Demands.{Distinct}
+-- A graph that is read is in the limits, and accepted if all its ANDs can be placed.
+use Rattle.base.specs.{ℕ, zero, suc, _+_, _*_, _≤_, _<_, le-of-suc-le-suc, not-suc-le-zero, arith, _≡_, refl, sym, _∙_, ap, ap₂, subst}
+use Rattle.base.specs.{⊎-elim, Bool, true, false, not, cond, _&&_, _||_, false≢true, List, [], _∷_, _++_, map, List·Memᴰ, List·Memᴰ·not-nil}
+use Rattle.base.specs.{List·Memᴰ·cases-cons, List·Memᴰ·append-cases, List·Memᴰ·eq-of-singleton, Memᴰ·cast, cons≢nil, nil≢cons}
+use Rattle.base.specs.{head-eq-of-cons-eq, tail-eq-of-cons-eq, T, eqb, leb, leb→le, le→leb, lit<, not-T, length, getD, drop, replicate}
+use Rattle.base.specs.{length-append, length-map, and-yes, yes-and, eqb-yes, leb-yes}
+use Rattle.model.specs.{all, elem, keep, each, linesFrom, holds, next, from?, And, varOf, unplaced, andVars, closed, headerOf, inLimits}
+use Rattle.model.specs.{inSequence, readHeader, Kind, anInput, anOutput, anAnd, howMany, defines, due, Item, readItems, uses, definedBy}
+use Rattle.model.specs.{checkUses, sameKind, isKind, graphOf, readGraph, Distinct}
+use Rattle.model.specs.Graph.{Graph}
 use Rattle.model.specs.declared.Header.{Header}
-use Rattle.theory_graph.proofs.Lists.{map-out, keep-out, each-out, elem-out, map-map, getD-in, all-of, all-in, is-true, keep-append}
-use Rattle.theory_graph.specs.Accepted.{Accepted, distinct}
-use Rattle.theory_text.specs.Fits.{LowLiterals, GraphFits}
+use Rattle.theory_graph.proofs.{map-out, keep-out, each-out, elem-out, map-map, getD-in, all-of, all-in, is-true, keep-append, by-bool}
+use Rattle.theory_graph.proofs.{by-list, by-nat, by-member}
+use Rattle.theory_graph.specs.Accepted.{Accepted}
+use Rattle.theory_graph.specs.{distinct}
+use Rattle.theory_text.specs.{LowLiterals, GraphFits}
 use Rattle.theory_text.proofs.Steps.{holds-once, unless-out, next-out}
 use Rattle.theory_text.proofs.Items.{head, Good, defined-cons, kindsOf, Lawful, due-lawful}
 use Rattle.theory_text.proofs.Binary.{binary-parts, binary-lawful}
-use Rattle.theory_graph.proofs.Split.{by-bool, by-list, by-nat, by-member}
 
 -- the AND of a line
 abbrev pub andOf : Item → And

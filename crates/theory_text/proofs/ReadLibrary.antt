@@ -1,25 +1,17 @@
--- A library that is read fits: its cells are of the form, no name is repeated, and there are at most 32. Assumes nothing.
-use Prim.Native.Nat.{ℕ, suc, _+_, _-_, _^_, _≤_, _<_}
-use native.Mathlib.Omega.{arith}
-use mathlib.Core.Path.{_≡_, refl, sym, ap, subst}
-use mathlib.Core.Bool.{Bool, true, false, cond, not, _&&_, _||_}
-use mathlib.Core.Option.{some}
-use mathlib.Core.List.{List, [], _∷_, List·Memᴰ, List·Memᴰ·head, List·Memᴰ·tail, List·Memᴰ·not-nil, Memᴰ·append-left, Memᴰ·append-right}
-use lib.Dec.{T, eqb, leb, ltb, ltb→lt, lit≤, T-not, not-T}
-use lib.ListN.{length, getD, take, drop, replicate, length-drop, length-take, take-append-drop}
-use lib.Seq.{take-append-seam}
-use mir.Facts.{and-yes, yes-and, eqb-yes, yes-eqb, leb-yes, yes-leb}
-use Rattle.model.specs.Base.{all, any, same, andThen, only}
-use Rattle.model.specs.Text.{Line, ended, linesFrom, fields, numbers, hexTable, isName}
-use Rattle.model.specs.Reading.{holds, from?}
-use Rattle.model.specs.Cells.{nameOf}
-use Rattle.model.specs.LibraryText.{nameBytes, cellOfFields, cellOfLine, isClean, noLower, isShorter, isLonger, readCells, readLibraryLines, readLibrary}
+-- A library that is read fits: its cells are of the form, no name is repeated, and there are at most 32.
+use Rattle.base.specs.{ℕ, suc, _+_, _-_, _^_, _≤_, _<_, arith, _≡_, refl, sym, ap, subst, Bool, true, false, cond, not, _&&_, _||_, some}
+use Rattle.base.specs.{List, [], _∷_, List·Memᴰ, List·Memᴰ·head, List·Memᴰ·tail, List·Memᴰ·not-nil, Memᴰ·append-left, Memᴰ·append-right, T}
+use Rattle.base.specs.{eqb, leb, ltb, ltb→lt, lit≤, T-not, not-T, length, getD, take, drop, replicate, length-drop, length-take}
+use Rattle.base.specs.{take-append-drop, take-append-seam, and-yes, yes-and, eqb-yes, yes-eqb, leb-yes, yes-leb}
+use Rattle.model.specs.{all, any, same, andThen, only, Line, ended, linesFrom, fields, numbers, hexTable, isName, holds, from?, nameOf}
+use Rattle.model.specs.{nameBytes, cellOfFields, cellOfLine, isClean, noLower, isShorter, isLonger, readCells, readLibraryLines}
+use Rattle.model.specs.{readLibrary}
 use Rattle.model.specs.declared.Cell.{Cell}
-use Rattle.theory_graph.proofs.Lists.{same-eq, same-refl, any-each, getD-in, all-in, is-false}
-use Rattle.theory_graph.specs.Accepted.{cellFits, libraryFits}
-use Rattle.theory_text.proofs.Steps.{holds-once, fault-never, unless-out, from-out, next-out, then-out, only-out, numbers-length, numbers-small}
+use Rattle.theory_graph.proofs.{same-eq, same-refl, any-each, getD-in, all-in, is-false, by-member, by-bool}
+use Rattle.theory_graph.specs.{cellFits, libraryFits}
+use Rattle.theory_text.proofs.Steps.{holds-once, fault-never, unless-out, from-out, next-out, then-out, only-out, numbers-length}
+use Rattle.theory_text.proofs.Steps.{numbers-small}
 use Rattle.theory_text.proofs.Plain.{name-short}
-use Rattle.theory_graph.proofs.Split.{by-member, by-bool}
 
 -- ---- a cell
 

@@ -1,30 +1,18 @@
--- Texts that are read give a library that fits and a graph that is in the limits, and accepted if all its ANDs can be placed. Assumes nothing.
-use Prim.Native.Nat.{ℕ, _≤_}
-use native.Mathlib.Omega.{arith}
-use mathlib.Core.Path.{_≡_, refl, sym, _∙_, ap, subst}
-use mathlib.Core.Bool.{Bool, false, _&&_}
-use mathlib.Core.List.{List, [], List·Memᴰ}
-use lib.Dec.{T, leb, le→leb}
-use lib.ListN.{length}
-use mir.Facts.{and-yes, leb-yes}
-use Rattle.model.specs.Limits.{need}
-use Rattle.model.specs.Reading.{holds, next, unless}
-use Rattle.model.specs.LibraryText.{readLibrary, isRanged, isClean, noLower}
-use Rattle.model.specs.Pairs.{cellsFor}
-use Rattle.model.specs.GraphText.{readHeader, readGraph}
-use Rattle.model.specs.ArrivalsText.{Late, readArrivals, timedBy}
-use Rattle.model.specs.Graph.{Graph, unplaced}
-use Rattle.model.specs.Mapper.{Call, Design, designOf, short, readListed, readTexts}
+-- Texts that are read give a library that fits and a graph that is in the limits, and accepted if all its ANDs can be placed.
+use Rattle.base.specs.{ℕ, _≤_, arith, _≡_, refl, sym, _∙_, ap, subst, Bool, false, _&&_, List, [], List·Memᴰ, T, leb, le→leb, length}
+use Rattle.base.specs.{and-yes, leb-yes}
+use Rattle.model.specs.{need, holds, next, unless, readLibrary, isRanged, isClean, noLower, cellsFor, readHeader, readGraph, Late}
+use Rattle.model.specs.{readArrivals, timedBy, unplaced, Call, Design, designOf, short, readListed, readTexts}
+use Rattle.model.specs.Graph.{Graph}
 use Rattle.model.specs.declared.Cell.{Cell}
 use Rattle.model.specs.declared.Header.{Header}
-use Rattle.theory_graph.proofs.Lists.{is-true}
-use Rattle.theory_graph.specs.Accepted.{Accepted, libraryFits}
-use Rattle.theory_graph.proofs.Timed.{timed-accepted, timed-unplaced}
+use Rattle.theory_graph.proofs.{is-true, timed-accepted, timed-unplaced, by-read}
+use Rattle.theory_graph.specs.Accepted.{Accepted}
+use Rattle.theory_graph.specs.{libraryFits}
 use Rattle.theory_text.proofs.Steps.{holds-once, unless-out, next-out}
 use Rattle.theory_text.proofs.ReadLibrary.{Written, library-fits, library-few, library-written, library-ranged}
-use Rattle.theory_text.specs.Fits.{GraphFits}
+use Rattle.theory_text.specs.{GraphFits}
 use Rattle.theory_text.proofs.ReadGraph.{graph-accepted, graph-fits}
-use Rattle.theory_graph.proofs.Split.{by-read}
 
 -- the listed cells were read, and with their pairs, where these are wanted, they are few enough
 pub listed-read : (paired : Bool) (s : List ℕ) (cells : List Cell) → readListed paired s ≡ holds cells → (readLibrary s ≡ holds cells) × (length (cellsFor paired cells) ≤ 256)

@@ -1,21 +1,13 @@
--- The `# timing` lines behind the printed netlist say the arrivals that were printed. Assumes nothing.
-use Prim.Native.Nat.{ℕ, suc, _<_}
-use mathlib.Core.Path.{_≡_, refl, sym, _∙_, ap}
-use mathlib.Core.Option.{some}
-use mathlib.Core.List.{List, [], _∷_, _++_, map, List·Memᴰ, append-assoc}
-use native.Mathlib.Omega.{arith}
-use lib.Dec.{T, lit<}
-use Rattle.model.specs.Base.{same, andThen, only}
-use Rattle.model.specs.Text.{text, decimal, parts, fields, split, onto, isName}
-use Rattle.model.specs.Cells.{nameOf}
+-- The `# timing` lines behind the printed netlist say the arrivals that were printed.
+use Rattle.base.specs.{ℕ, suc, _<_, _≡_, refl, sym, _∙_, ap, some, List, [], _∷_, _++_, map, List·Memᴰ, append-assoc, arith, T, lit<}
+use Rattle.model.specs.{same, andThen, only, text, decimal, parts, fields, split, onto, isName, nameOf, Gate, outName, netlistText}
+use Rattle.model.specs.{timingLines, TimingLine, readTimingWords, readTimingLines, behindFigures, readTimings}
 use Rattle.model.specs.Graph.{Graph}
-use Rattle.model.specs.Netlist.{Gate, outName, netlistText}
-use Rattle.model.specs.Timing.{timingLines}
-use Rattle.model.specs.Blif.{TimingLine, readTimingWords, readTimingLines, behindFigures, readTimings}
 use Rattle.model.specs.declared.Figures.{Figures}
 use Rattle.theory_text.proofs.Plain.{Free, above, free-append, decimal-free}
 use Rattle.theory_text.proofs.LineLaws.{fields-word, fields-last}
-use Rattle.theory_text.proofs.ReadBack.{parts-line, body, bodyOf, figuresLine, namesOf, inputNames, outputNames, wireBody, wireBodies, linesOf, text-lines}
+use Rattle.theory_text.proofs.ReadBack.{parts-line, body, bodyOf, figuresLine, namesOf, inputNames, outputNames, wireBody}
+use Rattle.theory_text.proofs.ReadBack.{wireBodies, linesOf, text-lines}
 use Rattle.theory_text.proofs.ReadFigures.{figure-back}
 
 -- ---- a line

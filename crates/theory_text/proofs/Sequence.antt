@@ -1,21 +1,17 @@
 -- A binary text is refused by 11, 12, 20 and 21 alone behind its header, the last two at places in the text or at its end; and its ANDs' operands have
--- lower literals than the ANDs themselves. Assumes nothing.
-use Prim.Native.Nat.{ℕ, zero, suc, _+_, _*_, _≤_, _<_}
-use native.Mathlib.Omega.{arith}
-use mathlib.Core.Path.{_≡_, refl, sym, _∙_, ap, subst}
-use mathlib.Core.Logic.{⊎-elim}
-use mathlib.Core.Bool.{true, false≢true}
-use mathlib.Core.List.{List, [], _∷_, _++_, map, List·Memᴰ, List·Memᴰ·head, List·Memᴰ·tail, List·Memᴰ·not-nil, List·Memᴰ·append-cases}
-use lib.ListN.{length, getD, drop, replicate, length-drop}
-use Rattle.model.specs.Base.{from, keep}
-use Rattle.model.specs.Text.{linesFrom}
-use Rattle.model.specs.Reading.{holds, fault, next}
-use Rattle.model.specs.Graph.{And, Graph}
-use Rattle.model.specs.GraphText.{closed, readHeader, Kind, anInput, anOutput, anAnd, defines, Item, readDue, readAnds, behindLines, inputItems, readBinary, readItems, definedBy, checkUses, sameKind, isKind, graphOf, readGraph}
+-- lower literals than the ANDs themselves.
+use Rattle.base.specs.{ℕ, zero, suc, _+_, _*_, _≤_, _<_, arith, _≡_, refl, sym, _∙_, ap, subst, ⊎-elim, true, false≢true, List, [], _∷_}
+use Rattle.base.specs.{_++_, map, List·Memᴰ, List·Memᴰ·head, List·Memᴰ·tail, List·Memᴰ·not-nil, List·Memᴰ·append-cases, length, getD, drop}
+use Rattle.base.specs.{replicate, length-drop}
+use Rattle.model.specs.{from, keep, linesFrom, holds, fault, next, And, closed, readHeader, Kind, anInput, anOutput, anAnd, defines, Item}
+use Rattle.model.specs.{readDue, readAnds, behindLines, inputItems, readBinary, readItems, definedBy, checkUses, sameKind, isKind, graphOf}
+use Rattle.model.specs.{readGraph}
+use Rattle.model.specs.Graph.{Graph}
 use Rattle.model.specs.declared.Header.{Header}
-use Rattle.theory_graph.proofs.Lists.{map-in, map-out, keep-out}
+use Rattle.theory_graph.proofs.{map-in, map-out, keep-out}
 use Rattle.theory_text.proofs.Steps.{holds-once, next-out}
-use Rattle.theory_text.proofs.Faults.{Faults, in-holds, in-next, less-inside, lines-inside, behind-inside, header-inside, due-faults, ands-faults}
+use Rattle.theory_text.proofs.Faults.{Faults, in-holds, in-next, less-inside, lines-inside, behind-inside, header-inside, due-faults}
+use Rattle.theory_text.proofs.Faults.{ands-faults}
 use Rattle.theory_text.proofs.Items.{head}
 use Rattle.theory_text.proofs.Binary.{InTurn, turn-head, Binary, binary-parts, binary-turns, binary-used, outs-kinds}
 use Rattle.theory_text.proofs.ReadGraph.{andOf, kind-is, uses-out, header-fits}

@@ -1,16 +1,8 @@
--- Backwards through the steps of a reader: what holds where a step was passed. Assumes nothing.
-use Prim.Native.Nat.{ℕ, suc, _≤_}
-use mathlib.Core.Path.{_≡_, refl, sym, _∙_, ap, subst}
-use mathlib.Core.Bool.{Bool, true, false, _&&_, false≢true}
-use mathlib.Core.Option.{Option, none, some}
-use mathlib.Core.List.{List, [], _∷_, List·Memᴰ, List·Memᴰ·not-nil}
-use lib.Dec.{T, leb}
-use lib.ListN.{length}
-use mir.Facts.{and-yes, leb-yes}
-use Rattle.model.specs.Base.{same, andThen, only}
-use Rattle.model.specs.Text.{asDigits, decimal, number, numbers}
-use Rattle.model.specs.Reading.{Read, holds, fault, next, unless, from?}
-use Rattle.theory_graph.proofs.Split.{by-member}
+-- Backwards through the steps of a reader: what holds where a step was passed.
+use Rattle.base.specs.{ℕ, suc, _≤_, _≡_, refl, sym, _∙_, ap, subst, Bool, true, false, _&&_, false≢true, Option, none, some, List, [], _∷_}
+use Rattle.base.specs.{List·Memᴰ, List·Memᴰ·not-nil, T, leb, length, and-yes, leb-yes}
+use Rattle.model.specs.{same, andThen, only, asDigits, decimal, number, numbers, Read, holds, fault, next, unless, from?}
+use Rattle.theory_graph.proofs.{by-member}
 
 module _ {A : Type 0} where
   isHeld : Read A → Bool

@@ -1,37 +1,28 @@
 -- Texts that mean the same graph: a graph's ASCII twin means it again, and the outcome of a call hangs on the graph that its text means.
 --     ascii-means         a graph that some text means is meant by its ASCII twin too
 --     means-outcome       two texts that mean the same graph have the same outcome
--- Assumes nothing.
-use Prim.Native.Nat.{ℕ, suc, _+_, _*_, _%_, _≤_}
-use native.Mathlib.Omega.{arith}
-use mathlib.Core.Path.{_≡_, refl, sym, _∙_, ap, ap₂, subst, fun-ext}
-use mathlib.Core.Logic.{_⊎_, inl, inr, ⊎-elim}
-use mathlib.Core.Bool.{Bool, true, false, not, cond, _&&_, _||_}
-use mathlib.Core.Option.{Option, some}
-use mathlib.Core.List.{List, [], _∷_, _++_, map, append-assoc, append-nil, map-append, List·Memᴰ, List·Memᴰ·not-nil, List·Memᴰ·append-cases, Memᴰ·append-left, Memᴰ·append-right, Memᴰ·cast}
-use lib.Dec.{T, eqb, leb, le→leb, lit<}
-use lib.ListN.{length, getD, drop, replicate}
-use mir.Facts.{yes-and, yes-eqb, no-eqb}
-use Rattle.model.specs.Base.{all, elem, keep, each, same, andThen, only}
-use Rattle.model.specs.Text.{Line, nextOf, text, decimal, linesFrom, numbers}
-use Rattle.model.specs.Reading.{Read, holds, next, unless, from?}
-use Rattle.model.specs.Graph.{And, Graph, varOf, andVars}
-use Rattle.model.specs.GraphText.{closed, headerOfNumbers, headerOf, inLimits, inSequence, readHeader, Kind, anInput, anOutput, anAnd, howMany, defines, due, Item, readDue, readItems, uses, definedBy, checkUses, isKind, sameKind, graphOf, readGraph, numbersLine, asciiText}
-use Rattle.model.specs.ArrivalsText.{readArrivals, timedBy}
-use Rattle.model.specs.Mapper.{Call, Design, designOf, readListed, readTexts, mapDesign, mapTexts}
-use Rattle.model.specs.Demands.{Distinct, Means, onGraph}
-use Rattle.model.specs.Limits.{need}
+use Rattle.base.specs.{ℕ, suc, _+_, _*_, _%_, _≤_, arith, _≡_, refl, sym, _∙_, ap, ap₂, subst, fun-ext, _⊎_, inl, inr, ⊎-elim, Bool, true}
+use Rattle.base.specs.{false, not, cond, _&&_, _||_, Option, some, List, [], _∷_, _++_, map, append-assoc, append-nil, map-append}
+use Rattle.base.specs.{List·Memᴰ, List·Memᴰ·not-nil, List·Memᴰ·append-cases, Memᴰ·append-left, Memᴰ·append-right, Memᴰ·cast, T, eqb, leb}
+use Rattle.base.specs.{le→leb, lit<, length, getD, drop, replicate, yes-and, yes-eqb, no-eqb}
+use Rattle.model.specs.{all, elem, keep, each, same, andThen, only, Line, nextOf, text, decimal, linesFrom, numbers, Read, holds, next}
+use Rattle.model.specs.{unless, from?, And, varOf, andVars, closed, headerOfNumbers, headerOf, inLimits, inSequence, readHeader, Kind}
+use Rattle.model.specs.{anInput, anOutput, anAnd, howMany, defines, due, Item, readDue, readItems, uses, definedBy, checkUses, isKind}
+use Rattle.model.specs.{sameKind, graphOf, readGraph, numbersLine, asciiText, readArrivals, timedBy, Call, Design, designOf, readListed}
+use Rattle.model.specs.{readTexts, mapDesign, mapTexts, Distinct, onGraph, need}
+use Rattle.model.specs.Graph.{Graph}
+use Rattle.model.specs.Demands.{Means}
 use Rattle.model.specs.declared.Cell.{Cell}
 use Rattle.model.specs.declared.Header.{Header}
-use Rattle.theory_graph.proofs.Lists.{is-true, all-in, elem-T, map-map, map-in, map-out, each-in, keep-append}
+use Rattle.theory_graph.proofs.{is-true, all-in, elem-T, map-map, map-in, map-out, each-in, keep-append, by-bool, by-member}
 use Rattle.theory_text.proofs.Plain.{decimal-free}
 use Rattle.theory_text.proofs.LineLaws.{lineOfBytes, line-first, fields-word}
 use Rattle.theory_text.proofs.Items.{head, kindsOf, defined-cons}
 use Rattle.theory_text.proofs.Binary.{defined-append, uses-in}
-use Rattle.theory_text.specs.Fits.{GraphFits}
+use Rattle.theory_text.specs.{GraphFits}
 use Rattle.theory_text.proofs.ReadGraph.{Known, graph-known, graph-fits, graph-counted, graph-untimed, keep-of}
-use Rattle.theory_text.proofs.DueBack.{numbers-back, words, fields-numbers, words-free, line-ends, itemLine, itemsAt, Row, rows-back, kept-anywhere, defined-anywhere, found-anywhere}
-use Rattle.theory_graph.proofs.Split.{by-bool, by-member}
+use Rattle.theory_text.proofs.DueBack.{numbers-back, words, fields-numbers, words-free, line-ends, itemLine, itemsAt, Row, rows-back}
+use Rattle.theory_text.proofs.DueBack.{kept-anywhere, defined-anywhere, found-anywhere}
 
 -- ---- the lines of a graph
 

@@ -3,21 +3,13 @@
 --     either-end     texts that are the same by bytes but for ends are alike
 --     same-by-bytes  and texts that are alike are so
 --     ..-apart       texts that are not alike
--- Assumes nothing.
-use Prim.Native.Nat.{ℕ, zero, suc, _+_}
-use mathlib.Core.Path.{_≡_, refl, sym, _∙_, ap, subst}
-use mathlib.Core.Bool.{Bool, true, false, cond, false≢true}
-use mathlib.Core.List.{List, [], _∷_, _++_, map, reverse, reverse-cons, append-nil, append-assoc, cons≢nil, nil≢cons, head-eq-of-cons-eq, tail-eq-of-cons-eq}
-use lib.Dec.{eqb}
-use lib.ListN.{length, getD}
-use lib.Seq.{append-snoc}
-use borrow.Author.Tests.{eqb-true}
-use Rattle.model.specs.Base.{each}
-use Rattle.model.specs.Text.{Line, closing, linesFrom, shown, fields}
-use Rattle.model.specs.Demands.{Alike, firstWord}
+use Rattle.base.specs.{ℕ, zero, suc, _+_, _≡_, refl, sym, _∙_, ap, subst, Bool, true, false, cond, false≢true, List, [], _∷_, _++_, map}
+use Rattle.base.specs.{reverse, reverse-cons, append-nil, append-assoc, cons≢nil, nil≢cons, head-eq-of-cons-eq, tail-eq-of-cons-eq, eqb}
+use Rattle.base.specs.{length, getD, append-snoc, eqb-true}
+use Rattle.model.specs.{each, Line, closing, linesFrom, shown, fields, Alike, firstWord}
+use Rattle.theory_graph.proofs.{by-bool}
 use Rattle.theory_text.proofs.Plain.{Free, free-append}
 use Rattle.theory_text.proofs.LineLaws.{lines-step}
-use Rattle.theory_graph.proofs.Split.{by-bool}
 
 -- ---- a text is its lines with their ends
 

@@ -1,8 +1,7 @@
--- A graph that is read is in the limits. Assumes nothing.
-use Prim.Native.Nat.{ℕ, _+_, _*_, _≤_}
-use mathlib.Core.List.{List·Memᴰ}
-use lib.ListN.{length}
-use Rattle.model.specs.Graph.{And, Graph}
+-- A graph that is read is in the limits.
+use Rattle.base.specs.{ℕ, _+_, _*_, _≤_, List·Memᴰ, length}
+use Rattle.model.specs.{And}
+use Rattle.model.specs.Graph.{Graph}
 
 -- "A literal exceeds 2M+1": none does
 pub record LowLiterals (g : Graph) : Type 0 where

@@ -1,2 +1,3 @@
 -- `Fits`: a graph in the limits.
 pub mod Fits
+pub use Fits.{GraphFits, LowLiterals}

@@ -1,6 +1,6 @@
--- `base_marks::add` meets its contract, by those of the two bits. Assumes nothing.
-use borrow.Author.Needs.{needs}
-use Rattle.base_marks.specs.Marks.{added}
+-- `base_marks::add` meets its contract, by those of the two bits.
+use Rattle.base.specs.{needs}
+use Rattle.base_marks.specs.{added}
 use Rattle.base_marks.proofs.add.Statement.{statement}
 use Rattle.base_marks.proofs.add.Tie as tie
 

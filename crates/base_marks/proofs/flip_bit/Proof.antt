@@ -1,8 +1,5 @@
--- `base_marks::flip_bit` meets its contract: the shift loses nothing. Assumes nothing.
-use mathlib.Core.Path.{ap}
-use Prim.Native.Nat.{ℕ}
-use lib.Bits.{bitXor}
-use borrow.Author.Needs.{needs}
+-- `base_marks::flip_bit` meets its contract: the shift loses nothing.
+use Rattle.base.specs.{ap, ℕ, bitXor, needs}
 use Rattle.base_marks.proofs.Bits.{power}
 use Rattle.base_marks.proofs.flip_bit.Statement.{statement}
 use Rattle.base_marks.proofs.flip_bit.Tie as tie

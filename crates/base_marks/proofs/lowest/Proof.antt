@@ -1,9 +1,5 @@
--- `base_marks::lowest` meets its contract: the lowest bit of the first word that has any. Assumes nothing.
-use mathlib.Core.Path.{sym}
-use native.Mathlib.Omega.{arith}
-use lib.Count.{trailing-le}
-use lib.ListN.{getD}
-use borrow.Author.Needs.{needs}
+-- `base_marks::lowest` meets its contract: the lowest bit of the first word that has any.
+use Rattle.base.specs.{sym, arith, trailing-le, getD, needs}
 use Rattle.base_marks.proofs.Marks.{lowest-zero, lowest-sum}
 use Rattle.base_marks.proofs.lowest.Statement.{statement}
 use Rattle.base_marks.proofs.lowest.Tie as tie

@@ -1,8 +1,6 @@
--- `base_marks::remove` meets its contract, whether v was the last of its word or not. Assumes nothing.
-use mathlib.Core.Path.{sym}
-use borrow.Author.Needs.{needs}
-use borrow.Author.Tests.{eq-eqb, ne-eqb}
-use Rattle.base_marks.specs.Marks.{removed}
+-- `base_marks::remove` meets its contract, whether v was the last of its word or not.
+use Rattle.base.specs.{sym, needs, eq-eqb, ne-eqb}
+use Rattle.base_marks.specs.{removed}
 use Rattle.base_marks.proofs.remove.Statement.{statement}
 use Rattle.base_marks.proofs.remove.Tie as tie
 

@@ -1,8 +1,5 @@
--- `base_marks::with_bit` meets its contract: the shift loses nothing. Assumes nothing.
-use mathlib.Core.Path.{ap}
-use Prim.Native.Nat.{ℕ}
-use lib.Bits.{bitOr}
-use borrow.Author.Needs.{needs}
+-- `base_marks::with_bit` meets its contract: the shift loses nothing.
+use Rattle.base.specs.{ap, ℕ, bitOr, needs}
 use Rattle.base_marks.proofs.Bits.{power}
 use Rattle.base_marks.proofs.with_bit.Statement.{statement}
 use Rattle.base_marks.proofs.with_bit.Tie as tie

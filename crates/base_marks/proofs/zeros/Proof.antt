@@ -1,7 +1,5 @@
--- `base_marks::zeros` meets its contract: a count of 64 bits is at most 64. Assumes nothing.
-use native.Mathlib.Omega.{arith}
-use lib.Count.{trailing-le}
-use borrow.Author.Needs.{needs}
+-- `base_marks::zeros` meets its contract: a count of 64 bits is at most 64.
+use Rattle.base.specs.{arith, trailing-le, needs}
 use Rattle.base_marks.proofs.zeros.Statement.{statement}
 use Rattle.base_marks.proofs.zeros.Tie as tie
 

@@ -1,16 +1,13 @@
 -- The proof of the cycle of calls {number_len}. The measure is the number; each call takes its last digit off.
--- Assumes nothing.
-use mathlib.Core.Path.{sym}
-use native.Mathlib.Omega.{arith}
-use Prim.Native.Nat.{ℕ, _/_, _<_}
-use Rattle.base_text.proofs.Decimal.{dec-length, dec-small-length, dec-big-length}
 use borrow.Fn.Kinds.{In}
 use borrow.Fn.PlainCycle.{Measures, is, falls, and}
+use Rattle.base.specs.{sym, arith, ℕ, _/_, _<_}
+use Rattle.base_text.proofs.Decimal.{dec-length, dec-small-length, dec-big-length}
+use Rattle.base_text.proofs.+number_len.{statement}
+use Rattle.base_text.proofs.+number_len.Tie.{close}
 use Rattle.base_text.proofs.number_len.Reads as number
 use Rattle.base_text.proofs.number_len.Kinds as kinds
 use Rattle.base_text.proofs.+number_len.Lts-number_len as lts
-use Rattle.base_text.proofs.+number_len.{statement}
-use Rattle.base_text.proofs.+number_len.Tie.{close}
 
 abbrev μ : Measures 0 kinds.ps ℕ
 μ κs a = a .0

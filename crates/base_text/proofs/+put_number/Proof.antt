@@ -1,23 +1,17 @@
 -- The proof of the cycle of calls {put_number}. The measure is the number; the call writes all digits but the last two, and those go behind them.
--- Assumes nothing.
-use mathlib.Core.Path.{sym, ap, _∙_}
-use native.Mathlib.Omega.{arith}
-use Prim.Native.Nat.{ℕ, _+_, _/_, _%_, _<_}
-use mathlib.Core.List.{List, [], _∷_}
-use lib.ListN.{length-set}
-use Rattle.base_words.specs.Put.{putAt}
-use Rattle.base_words.proofs.Putting.{put-one, put-append}
-use Rattle.model.specs.Text.{decimal}
-use Rattle.base_text.proofs.Decimal.{dec-small, dec-pair, dec-pairs, dec-small-length, dec-pair-length, dec-pairs-length}
 use borrow.Fn.Kinds.{In}
 use borrow.Fn.PlainCycle.{Measures, is, falls, and}
-use borrow.Author.Needs.{needs}
+use Rattle.base.specs.{sym, ap, _∙_, arith, ℕ, _+_, _/_, _%_, _<_, List, [], _∷_, length-set, needs}
+use Rattle.model.specs.{decimal}
+use Rattle.base_words.specs.{putAt}
+use Rattle.base_words.proofs.{put-one, put-append}
+use Rattle.base_text.proofs.Decimal.{dec-small, dec-pair, dec-pairs, dec-small-length, dec-pair-length, dec-pairs-length}
+use Rattle.base_text.proofs.+put_number.{statement}
+use Rattle.base_text.proofs.+put_number.Tie.{close}
 use Rattle.base_text.proofs.put_number.Reads as number
 use Rattle.base_text.proofs.put_number.Kinds as kinds
 use Rattle.base_text.proofs.+put_number.Lts-put_number as lts
 use Rattle.base_text.proofs.put_pair.Reads as pair
-use Rattle.base_text.proofs.+put_number.{statement}
-use Rattle.base_text.proofs.+put_number.Tie.{close}
 
 abbrev μ : Measures 1 kinds.ps ℕ
 μ κs a = a .1 .1 .0

@@ -1,7 +1,5 @@
 -- `base_text::closed` meets its contract: each return knows what stands behind the digits.
--- Assumes nothing.
-use borrow.Author.Needs.{needs}
-use mathlib.Core.Path.{sym, _∙_}
+use Rattle.base.specs.{needs, sym, _∙_}
 use Rattle.base_text.proofs.Words.{word-step, word-space, word-line, word-out}
 use Rattle.base_text.proofs.Runs.{closed-none, closed-some}
 use Rattle.base_text.proofs.closed.Statement.{statement}
@@ -22,7 +20,4 @@ returns-4 : tie.Need-returns-4
 returns-4 c = sym (closed-none _ _ _ (word-line _ _ (λ e. c .if3 .left (c .before .ends-at .ensures ∙ e))))
 
 pub closed-spec : {M : Type 1} → statement M
-closed-spec =
-    tie.close
-    (tie.spec
-    returns (λ c. search needs) returns-2 (λ c κs. search needs) returns-3 returns-4)
+closed-spec = tie.close (tie.spec returns (λ c. search needs) returns-2 (λ c κs. search needs) returns-3 returns-4)

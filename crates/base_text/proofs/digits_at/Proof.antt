@@ -1,9 +1,5 @@
 -- `base_text::digits_at` meets its contract. The invariant: the bytes so far are digits, of value n, to which the rest adds; the measure is what is left.
--- Assumes nothing.
-use borrow.Author.Needs.{needs}
-use mathlib.Core.Path.{sym, _∙_}
-use Prim.Native.Nat.{_-_}
-use lib.ListN.{length}
+use Rattle.base.specs.{needs, sym, _∙_, _-_, length}
 use Rattle.base_text.proofs.Runs.{Run, run-first, run-on, run-large, run-other, run-closed, run-end}
 use Rattle.base_text.proofs.digits_at.Statement.{statement}
 use Rattle.base_text.proofs.digits_at.Tie as tie
@@ -44,9 +40,7 @@ returns-4 c =
     sym (run-end _ _ _ _ (at-loop .loop .inv) (at-loop .before .before .pre .0) (at-loop .before .before .pre .1) (c .loop-test .left))
 
 pub digits-at-spec : {M : Type 1} → statement M
-digits-at-spec =
-    tie.close
-    (tie.spec
+digits-at-spec = tie.close (tie.spec
     Inv-loop μ-loop loop-holds (λ c. search needs) (λ c. search needs) (λ c κs. search needs) returns returns-2 (λ c. search needs)
-    (λ c. search needs) (λ c. search needs) (λ c. search needs) returns-3 (λ c. search needs) (λ c. search needs) loop-again (λ c. search needs)
-    returns-4)
+    (λ c. search needs) (λ c. search needs) (λ c. search needs) returns-3 (λ c. search needs) (λ c. search needs) loop-again
+    (λ c. search needs) returns-4)

@@ -1,8 +1,5 @@
 -- `base_text::ends_at` meets its contract: each return knows the bytes that stand there.
--- Assumes nothing.
-use borrow.Author.Needs.{needs}
-use native.Mathlib.Omega.{arith}
-use mathlib.Core.Path.{sym}
+use Rattle.base.specs.{needs, arith, sym}
 use Rattle.base_text.proofs.Words.{end-out, end-ten, end-other, end-last, end-alone, end-both}
 use Rattle.base_text.proofs.ends_at.Statement.{statement}
 use Rattle.base_text.proofs.ends_at.Tie as tie
@@ -26,7 +23,6 @@ returns-6 : tie.Need-returns-6
 returns-6 c = sym (end-alone (c .before .before .before .before .before .before .before .args .s .now) (c .before .before .before .before .before .before .before .args .at) (omega arith) (c .before .before .before .before .if2 .left) (c .if5 .left))
 
 pub ends-at-spec : {M : Type 1} → statement M
-ends-at-spec =
-    tie.close
-    (tie.spec
-    returns (λ c. search needs) returns-2 returns-3 (λ c. search needs) returns-4 (λ c. search needs) (λ c. search needs) returns-5 returns-6)
+ends-at-spec = tie.close (tie.spec
+    returns (λ c. search needs) returns-2 returns-3 (λ c. search needs) returns-4 (λ c. search needs) (λ c. search needs) returns-5
+    returns-6)

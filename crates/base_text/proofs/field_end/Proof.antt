@@ -1,10 +1,6 @@
 -- `base_text::field_end` meets its contract. The invariant: the field from here on ends where that from the start does; the measure is what is left of the text.
--- Assumes nothing.
-use borrow.Author.Needs.{needs}
-use mathlib.Core.Path.{_≡_, refl, sym, _∙_}
-use Prim.Native.Nat.{_-_}
-use lib.ListN.{length}
-use Rattle.base_text.specs.Fields.{endAt}
+use Rattle.base.specs.{needs, _≡_, refl, sym, _∙_, _-_, length}
+use Rattle.base_text.specs.{endAt}
 use Rattle.base_text.proofs.Words.{word-space, word-line, word-out, end-none, end-step}
 use Rattle.base_text.proofs.field_end.Statement.{statement}
 use Rattle.base_text.proofs.field_end.Tie as tie
@@ -33,8 +29,6 @@ returns-3 : tie.Need-returns-3 Inv-loop μ-loop
 returns-3 c = sym (c .before .loop .inv ∙ end-none _ _ (word-out _ _ (c .loop-test .left)))
 
 pub field-end-spec : {M : Type 1} → statement M
-field-end-spec =
-    tie.close
-    (tie.spec
-    Inv-loop μ-loop (λ c. refl) (λ c. search needs) returns (λ c κs. search needs) returns-2 (λ c. search needs) (λ c. search needs) loop-again
-    returns-3)
+field-end-spec = tie.close (tie.spec
+    Inv-loop μ-loop (λ c. refl) (λ c. search needs) returns (λ c κs. search needs) returns-2 (λ c. search needs) (λ c. search needs)
+    loop-again returns-3)

@@ -1,11 +1,6 @@
 -- `base_text::hex_digit` meets its contract: each way out of the `match` knows the tests that `hexDigit` picks by.
--- Assumes nothing.
-use borrow.Author.Needs.{needs}
-use native.Mathlib.Omega.{arith}
-use borrow.Author.Tests.{le-leb, lt-leb}
-use Prim.Native.Nat.{_+_, _-_}
-use mathlib.Core.Path.{_≡_}
-use Rattle.model.specs.Text.{hexDigit, between}
+use Rattle.base.specs.{needs, arith, le-leb, lt-leb, _+_, _-_, _≡_}
+use Rattle.model.specs.{hexDigit, between}
 use Rattle.base_text.proofs.hex_digit.Statement.{statement}
 use Rattle.base_text.proofs.hex_digit.Tie as tie
 
@@ -33,6 +28,5 @@ unfolding hexDigit between
 returns-5 c = let b = c .before .before .before .before .args .b in simp (le-leb 48 b (omega arith), lt-leb b 57 (omega arith), le-leb 97 b (omega arith), lt-leb b 102 (omega arith))
 
 pub hex-digit-spec : {M : Type 1} → statement M
-hex-digit-spec = tie.close
-    (tie.spec
+hex-digit-spec = tie.close (tie.spec
     (λ c. search needs) (λ c. search needs) (λ c. search needs) returns returns-2 returns-3 returns-4 returns-5)

@@ -1,9 +1,6 @@
 -- `base_text::hex_of` meets its contract: four digits, by two pairs that are each below 256.
--- Assumes nothing.
-use borrow.Author.Needs.{needs}
-use mathlib.Core.Path.{sym, ap}
-use native.Mathlib.Omega.{arith}
-use Rattle.base_text.specs.Fields.{valueOf}
+use Rattle.base.specs.{needs, sym, ap, arith}
+use Rattle.base_text.specs.{valueOf}
 use Rattle.base_text.proofs.Hex.{value-is, value-none, pair-small, table-length, table-is, table-first, table-second}
 use Rattle.base_text.proofs.hex_of.Statement.{statement}
 use Rattle.base_text.proofs.hex_of.Tie as tie
@@ -40,8 +37,6 @@ returns-4 : tie.Need-returns-4
 returns-4 c = sym (ap valueOf (table-first _ (c .before .before .before .before .before .if1 .left) (value-none _ _ (c .before .before .hex-pair .ensures) (c .enum-told2 .given .1))))
 
 pub hex-of-spec : {M : Type 1} → statement M
-hex-of-spec =
-    tie.close
-    (tie.spec
+hex-of-spec = tie.close (tie.spec
     returns (λ c. search needs) (λ c. search needs) (λ c κs. search needs) (λ c. search needs) (λ c. search needs) (λ c. search needs)
     (λ c κs. search needs) (λ c. search needs) mul-t18 add-t19 (λ c. search needs) (λ c. search needs) returns-2 returns-3 returns-4)

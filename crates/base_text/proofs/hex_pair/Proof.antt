@@ -1,9 +1,6 @@
 -- `base_text::hex_pair` meets its contract: two digits, each by its own, and below 16.
--- Assumes nothing.
-use borrow.Author.Needs.{needs}
-use mathlib.Core.Path.{sym, ap}
-use native.Mathlib.Omega.{arith}
-use Rattle.base_text.specs.Fields.{valueOf}
+use Rattle.base.specs.{needs, sym, ap, arith}
+use Rattle.base_text.specs.{valueOf}
 use Rattle.base_text.proofs.Hex.{value-is, value-none, digit-small, pair-is, two-first, two-second}
 use Rattle.base_text.proofs.hex_pair.Statement.{statement}
 use Rattle.base_text.proofs.hex_pair.Tie as tie
@@ -24,8 +21,6 @@ returns-3 : tie.Need-returns-3
 returns-3 c = sym (ap valueOf (two-first 0 _ _ (value-none _ _ (c .before .before .hex-digit .ensures) (c .enum-told2 .given .1))))
 
 pub hex-pair-spec : {M : Type 1} → statement M
-hex-pair-spec =
-    tie.close
-    (tie.spec
-    (λ c κs. search needs) (λ c. search needs) (λ c κs. search needs) (λ c. search needs) mul-t9 add-t10 (λ c. search needs) (λ c. search needs)
-    returns returns-2 returns-3)
+hex-pair-spec = tie.close (tie.spec
+    (λ c κs. search needs) (λ c. search needs) (λ c κs. search needs) (λ c. search needs) mul-t9 add-t10 (λ c. search needs)
+    (λ c. search needs) returns returns-2 returns-3)

@@ -1,8 +1,6 @@
 -- `base_text::is_letter` meets its contract: each way out of the `match` knows the tests that `isLetter` asks.
--- Assumes nothing.
-use native.Mathlib.Omega.{arith}
-use borrow.Author.Tests.{le-leb, lt-leb}
-use Rattle.model.specs.Text.{isLetter, between}
+use Rattle.base.specs.{arith, le-leb, lt-leb}
+use Rattle.model.specs.{isLetter, between}
 use Rattle.base_text.proofs.is_letter.Statement.{statement}
 use Rattle.base_text.proofs.is_letter.Tie as tie
 

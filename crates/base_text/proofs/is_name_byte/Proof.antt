@@ -1,11 +1,7 @@
 -- `base_text::is_name_byte` meets its contract, by what `is_letter` says and the tests of the `match`.
--- Assumes nothing.
-use borrow.Author.Needs.{needs}
-use mathlib.Core.Path.{sym, _∙_}
-use native.Mathlib.Omega.{arith}
-use borrow.Author.Tests.{le-leb, lt-leb, eq-eqb, ne-eqb}
+use Rattle.base.specs.{needs, sym, _∙_, arith, le-leb, lt-leb, eq-eqb, ne-eqb}
+use Rattle.model.specs.{isNameByte, between}
 use Rattle.base_text.proofs.Bytes.{or-true}
-use Rattle.model.specs.Text.{isNameByte, between}
 use Rattle.base_text.proofs.is_name_byte.Statement.{statement}
 use Rattle.base_text.proofs.is_name_byte.Tie as tie
 
@@ -30,7 +26,4 @@ unfolding isNameByte between
 returns-5 c = let b = c .before .before .before .before .before .args .b in rw (sym (c .before .before .before .before .is-letter .ensures) ∙ c .before .before .before .if1 .left, le-leb 48 b (omega arith), lt-leb b 57 (omega arith), ne-eqb b 95 (c .before .before .match .rest .1))
 
 pub is-name-byte-spec : {M : Type 1} → statement M
-is-name-byte-spec =
-    tie.close
-    (tie.spec
-    (λ c κs. search needs) returns returns-2 returns-3 returns-4 returns-5)
+is-name-byte-spec = tie.close (tie.spec (λ c κs. search needs) returns returns-2 returns-3 returns-4 returns-5)

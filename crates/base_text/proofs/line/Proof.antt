@@ -1,11 +1,6 @@
 -- `base_text::line` meets its contract. The invariant: the line from here on stops where that from the start does; the measure is what is left of the text.
--- Assumes nothing.
-use borrow.Author.Needs.{needs}
-use mathlib.Core.Path.{_≡_, refl, sym, ap, _∙_}
-use Prim.Native.Nat.{ℕ, _+_, _-_}
-use native.Mathlib.Omega.{arith}
-use lib.ListN.{length}
-use Rattle.base_text.specs.Lines.{spanAt}
+use Rattle.base.specs.{needs, _≡_, refl, sym, ap, _∙_, ℕ, _+_, _-_, arith, length}
+use Rattle.base_text.specs.{spanAt}
 use Rattle.base_text.proofs.Words.{end-fits}
 use Rattle.base_text.proofs.Spans.{span-stop, span-out, span-step}
 use Rattle.base_text.proofs.line.Statement.{statement}
@@ -39,7 +34,5 @@ returns-2 : tie.Need-returns-2 Inv-loop μ-loop
 returns-2 c = sym (c .before .loop .inv ∙ span-out _ _ (c .loop-test .left))
 
 pub line-spec : {M : Type 1} → statement M
-line-spec =
-    tie.close
-    (tie.spec
+line-spec = tie.close (tie.spec
     Inv-loop μ-loop (λ c. refl) (λ c κs. search needs) add-t7 returns (λ c. search needs) (λ c. search needs) loop-again returns-2)

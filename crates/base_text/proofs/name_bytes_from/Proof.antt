@@ -1,12 +1,6 @@
 -- `base_text::name_bytes_from` meets its contract. The invariant: all bytes pass where all that are left do; the measure is what is left.
--- Assumes nothing.
-use borrow.Author.Needs.{needs}
-use mathlib.Core.Path.{_≡_, refl, sym, _∙_}
-use Prim.Native.Nat.{_-_}
-use borrow.Author.Tests.{not-true, not-false}
-use lib.ListN.{length, drop}
-use Rattle.model.specs.Base.{all}
-use Rattle.model.specs.Text.{isNameByte}
+use Rattle.base.specs.{needs, _≡_, refl, sym, _∙_, _-_, not-true, not-false, length, drop}
+use Rattle.model.specs.{all, isNameByte}
 use Rattle.base_text.proofs.Bytes.{all-step, all-end}
 use Rattle.base_text.proofs.name_bytes_from.Statement.{statement}
 use Rattle.base_text.proofs.name_bytes_from.Tie as tie
@@ -27,7 +21,6 @@ returns-2 : tie.Need-returns-2 Inv-loop μ-loop
 returns-2 c = sym (c .before .loop .inv ∙ all-end isNameByte _ _ (c .loop-test .left))
 
 pub name-bytes-from-spec : {M : Type 1} → statement M
-name-bytes-from-spec =
-    tie.close
-    (tie.spec
-    Inv-loop μ-loop (λ c. refl) (λ c. search needs) (λ c κs. search needs) returns (λ c. search needs) (λ c. search needs) loop-again returns-2)
+name-bytes-from-spec = tie.close (tie.spec
+    Inv-loop μ-loop (λ c. refl) (λ c. search needs) (λ c κs. search needs) returns (λ c. search needs) (λ c. search needs) loop-again
+    returns-2)

@@ -1,8 +1,6 @@
 -- `base_text::number_of` meets its contract: each return knows what number was found, and whether its field is all of the text.
--- Assumes nothing.
-use borrow.Author.Needs.{needs}
-use mathlib.Core.Path.{sym, ap, _∙_}
-use Rattle.base_text.specs.Fields.{valueOf}
+use Rattle.base.specs.{needs, sym, ap, _∙_}
+use Rattle.base_text.specs.{valueOf}
 use Rattle.base_text.proofs.Runs.{whole-is, whole-not, whole-none}
 use Rattle.base_text.proofs.number_of.Statement.{statement}
 use Rattle.base_text.proofs.number_of.Tie as tie
@@ -21,7 +19,4 @@ returns-3 : tie.Need-returns-3
 returns-3 c = sym (ap valueOf (whole-none _ (sym (c .before .before .number .ensures) ∙ c .enum-told .given .1)))
 
 pub number-of-spec : {M : Type 1} → statement M
-number-of-spec =
-    tie.close
-    (tie.spec
-    (λ c κs. search needs) (λ c. search needs) (λ c. search needs) returns returns-2 returns-3)
+number-of-spec = tie.close (tie.spec (λ c κs. search needs) (λ c. search needs) (λ c. search needs) returns returns-2 returns-3)

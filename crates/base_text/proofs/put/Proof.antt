@@ -1,13 +1,7 @@
 -- `base_text::put` meets its contract. The invariant: the first i bytes of `from` stand from `at` on, and the others as they were; the length stays. The measure is what is left of `from`.
--- Assumes nothing.
-use mathlib.Core.Path.{_≡_, refl, sym, ap, _∙_}
-use mathlib.Core.List.{List}
-use Prim.Native.Nat.{ℕ, _+_, _-_, _≤_}
-use native.Mathlib.Omega.{arith}
-use lib.ListN.{length, getD, set, take, length-set}
-use lib.Seq.{take-all}
-use Rattle.base_words.specs.Put.{putAt}
-use Rattle.base_words.proofs.Putting.{put-none, put-taken}
+use Rattle.base.specs.{_≡_, refl, sym, ap, _∙_, List, ℕ, _+_, _-_, _≤_, arith, length, getD, set, take, length-set, take-all}
+use Rattle.base_words.specs.{putAt}
+use Rattle.base_words.proofs.{put-none, put-taken}
 use Rattle.base_text.proofs.put.Statement.{statement}
 use Rattle.base_text.proofs.put.Tie as tie
 
@@ -38,8 +32,6 @@ returns c =
     ∙ ap (putAt (c .before .before .args .out .now) (c .before .before .args .at)) (take-all (c .before .loop .i) (c .before .before .args .from .now) (c .loop-test .left))
 
 pub put-spec : {M : Type 1} → statement M
-put-spec =
-    tie.close
-    (tie.spec
+put-spec = tie.close (tie.spec
     Inv-loop μ-loop loop-holds (λ c. omega arith) (λ c. omega arith) (λ c. omega arith) (λ c. omega arith) (λ c. omega arith) loop-again
     (λ c. omega arith) returns)

@@ -1,12 +1,6 @@
 -- `base_text::put_pair` meets its contract.
--- Assumes nothing.
-use borrow.Author.Needs.{needs}
-use mathlib.Core.Path.{ap, _∙_}
-use mathlib.Core.List.{List, [], _∷_}
-use Prim.Native.Nat.{ℕ, _+_, _/_, _%_}
-use native.Mathlib.Omega.{arith}
-use lib.ListN.{set, length-set}
-use Rattle.base_words.proofs.Putting.{put-one, put-more}
+use Rattle.base.specs.{needs, ap, _∙_, List, [], _∷_, ℕ, _+_, _/_, _%_, arith, set, length-set}
+use Rattle.base_words.proofs.{put-one, put-more}
 use Rattle.base_text.proofs.put_pair.Statement.{statement}
 use Rattle.base_text.proofs.put_pair.Tie as tie
 
@@ -22,8 +16,6 @@ returns c =
     )
 
 pub put-pair-spec : {M : Type 1} → statement M
-put-pair-spec =
-    tie.close
-    (tie.spec
-    (λ c. search needs) (λ c. search needs) (λ c. search needs) (λ c. search needs) (λ c. search needs) (λ c. search needs) slice-write-out-2
-    (λ c. search needs) (λ c. search needs) returns)
+put-pair-spec = tie.close (tie.spec
+    (λ c. search needs) (λ c. search needs) (λ c. search needs) (λ c. search needs) (λ c. search needs) (λ c. search needs)
+    slice-write-out-2 (λ c. search needs) (λ c. search needs) returns)

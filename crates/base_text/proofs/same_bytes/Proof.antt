@@ -1,12 +1,6 @@
 -- `base_text::same_bytes` meets its contract. The invariant: what is left of the two is the same where the two are; the measure is what is left.
--- Assumes nothing.
-use borrow.Author.Needs.{needs}
-use mathlib.Core.Path.{_≡_, refl, sym, _∙_}
-use Prim.Native.Nat.{_-_, _≤_}
-use native.Mathlib.Omega.{arith}
-use lib.ListN.{length, drop}
-use borrow.Author.Tests.{eq-eqb, ne-eqb}
-use Rattle.model.specs.Base.{same}
+use Rattle.base.specs.{needs, _≡_, refl, sym, _∙_, _-_, _≤_, arith, length, drop, eq-eqb, ne-eqb}
+use Rattle.model.specs.{same}
 use Rattle.base_text.proofs.Bytes.{same-length, same-step, same-end}
 use Rattle.base_text.proofs.same_bytes.Statement.{statement}
 use Rattle.base_text.proofs.same_bytes.Tie as tie
@@ -39,7 +33,6 @@ returns-3 c =
     sym (l .loop .inv .2 ∙ same-end (l .before .before .args .a .now) (l .before .before .args .b .now) (l .loop .i) (omega arith) (omega arith))
 
 pub same-bytes-spec : {M : Type 1} → statement M
-same-bytes-spec =
-    tie.close
-    (tie.spec
-    Inv-loop μ-loop returns loop-holds (λ c. search needs) (λ c. search needs) returns-2 (λ c. search needs) (λ c. search needs) loop-again returns-3)
+same-bytes-spec = tie.close (tie.spec
+    Inv-loop μ-loop returns loop-holds (λ c. search needs) (λ c. search needs) returns-2 (λ c. search needs) (λ c. search needs) loop-again
+    returns-3)

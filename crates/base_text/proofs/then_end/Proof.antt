@@ -1,8 +1,6 @@
 -- `base_text::then_end` meets its contract: each return knows what was found before it.
--- Assumes nothing.
-use borrow.Author.Needs.{needs}
-use mathlib.Core.Path.{sym, _∙_}
-use Rattle.base_text.specs.Fields.{thenEnd}
+use Rattle.base.specs.{needs, sym, _∙_}
+use Rattle.base_text.specs.{thenEnd}
 use Rattle.base_text.proofs.then_end.Statement.{statement}
 use Rattle.base_text.proofs.then_end.Tie as tie
 
@@ -19,7 +17,5 @@ unfolding thenEnd
 returns-3 c = rw (c .enum-told2 .given .1)
 
 pub then-end-spec : {M : Type 1} → statement M
-then-end-spec =
-    tie.close
-    (tie.spec
+then-end-spec = tie.close (tie.spec
     (λ c. search needs) (λ c κs. search needs) (λ c. search needs) (λ c. search needs) (λ c. search needs) returns returns-2 returns-3)

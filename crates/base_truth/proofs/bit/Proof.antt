@@ -1,6 +1,5 @@
--- `base_truth::bit` meets its contract: a row by a shift. Assumes nothing.
-use mathlib.Core.Path.{sym}
-use borrow.Author.Needs.{needs}
+-- `base_truth::bit` meets its contract: a row by a shift.
+use Rattle.base.specs.{sym, needs}
 use Rattle.base_truth.proofs.Tables.{value-shift}
 use Rattle.base_truth.proofs.bit.Statement.{statement}
 use Rattle.base_truth.proofs.bit.Tie as tie

@@ -1,7 +1,6 @@
--- `base_truth::complement` meets its contract. Assumes nothing.
-use mathlib.Core.Path.{refl}
-use borrow.Author.Needs.{needs}
-use Rattle.model.specs.Matching.{phaseTable}
+-- `base_truth::complement` meets its contract.
+use Rattle.base.specs.{refl, needs}
+use Rattle.model.specs.{phaseTable}
 use Rattle.base_truth.proofs.complement.Statement.{statement}
 use Rattle.base_truth.proofs.complement.Tie as tie
 

@@ -1,15 +1,9 @@
 -- `base_truth::crossed` meets its contract: a shift by 2 ^ k, at most 8, loses no row.
--- Assumes nothing.
-use mathlib.Core.Path.{_≡_, ap, _∙_}
-use Prim.Native.Nat.{ℕ, _-_, _*_, _/_, _%_, _^_, _<_}
-use native.Mathlib.Omega.{arith}
-use lib.Bits.{bitAnd, bitOr}
-use lib.Pow.{pow-mono}
-use Rattle.model.specs.Matching.{phaseTable}
-use Rattle.base_truth.specs.Variant.{leafTable, crossed}
+use Rattle.base.specs.{_≡_, ap, _∙_, ℕ, _-_, _*_, _/_, _%_, _^_, _<_, arith, bitAnd, bitOr, pow-mono, needs}
+use Rattle.model.specs.{phaseTable}
+use Rattle.base_truth.specs.{leafTable, crossed}
 use Rattle.base_truth.proofs.Tables.{power}
 use Rattle.base_truth.proofs.Turning.{shifted, kept, crossed-rows}
-use borrow.Author.Needs.{needs}
 use Rattle.base_truth.proofs.crossed.Statement.{statement}
 use Rattle.base_truth.proofs.crossed.Tie as tie
 
@@ -46,7 +40,5 @@ returns c =
     ∙ crossed-rows t k (s .pre) (omega (arith, s .fits .t))
 
 pub crossed-spec : {M : Type 1} → statement M
-crossed-spec =
-    tie.close
-    (tie.spec
+crossed-spec = tie.close (tie.spec
     (λ c κs. search needs) (λ c. search needs) cast-result shr-result (λ c κs. search needs) cast-result-2 shl-result returns)

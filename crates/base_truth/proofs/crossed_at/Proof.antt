@@ -1,17 +1,9 @@
--- `base_truth::crossed_at` meets its contract: by the mask's bit. Assumes nothing.
-use mathlib.Core.Path.{_≡_, sym, ap, _∙_}
-use mathlib.Core.Bool.{Bool, cond}
-use Prim.Native.Nat.{ℕ, _/_, _%_, _^_}
-use native.Mathlib.Omega.{arith}
-use lib.ListN.{getD}
-use lib.Dec.{eqb}
-use borrow.Author.Tests.{eq-eqb, ne-eqb}
-use Rattle.model.specs.Base.{bit}
-use Rattle.base_truth.specs.Variant.{placesOf, crossed, crossedAt}
+-- `base_truth::crossed_at` meets its contract: by the mask's bit.
+use Rattle.base.specs.{_≡_, sym, ap, _∙_, Bool, cond, ℕ, _/_, _%_, _^_, arith, getD, eqb, eq-eqb, ne-eqb, needs}
+use Rattle.model.specs.{bit, value}
+use Rattle.base_truth.specs.{placesOf, crossed, crossedAt}
 use Rattle.base_truth.proofs.Tables.{value-shift}
 use Rattle.base_truth.proofs.Variants.{place-small}
-use Rattle.model.specs.Table.{value}
-use borrow.Author.Needs.{needs}
 use Rattle.base_truth.proofs.crossed_at.Statement.{statement}
 use Rattle.base_truth.proofs.crossed_at.Tie as tie
 

@@ -1,16 +1,8 @@
--- `base_truth::first_table` meets its contract. The invariant: t has the rows from r on. The measure is r. Assumes nothing.
-use mathlib.Core.Path.{_≡_, refl, sym, ap, _∙_}
-use mathlib.Core.Bool.{Bool}
-use mathlib.Core.List.{List, map}
-use Prim.Native.Nat.{ℕ, zero, suc, _+_, _-_, _*_, _%_, _^_, _≤_, _<_}
-use native.Mathlib.Nat.{add-zero, zero-add, add-suc, suc-add}
-use native.Mathlib.Omega.{arith}
-use lib.Bits.{xor-zero-r}
-use lib.ListN.{getD}
-use Rattle.model.specs.Base.{one, from, below}
-use Rattle.model.specs.Table.{value, rowMap, pinRow}
-use Rattle.model.specs.Cuts.{tabulate}
-use Rattle.base_truth.specs.Variant.{placesOf, variantTable}
+-- `base_truth::first_table` meets its contract. The invariant: t has the rows from r on. The measure is r.
+use Rattle.base.specs.{_≡_, refl, sym, ap, _∙_, Bool, List, map, ℕ, zero, suc, _+_, _-_, _*_, _%_, _^_, _≤_, _<_, add-zero, zero-add}
+use Rattle.base.specs.{add-suc, suc-add, arith, xor-zero-r, getD}
+use Rattle.model.specs.{one, from, below, value, rowMap, pinRow, tabulate}
+use Rattle.base_truth.specs.{placesOf, variantTable}
 use Rattle.base_truth.proofs.Downward.{rowsFrom, down, rows-small, rows-whole}
 use Rattle.base_truth.proofs.Variants.{pin-row, places-four}
 use Rattle.base_truth.proofs.first_table.Statement.{statement}

@@ -1,6 +1,6 @@
--- `base_truth::in_phase` meets its contract, by the phase. Assumes nothing.
-use borrow.Author.Needs.{needs}
-use Rattle.model.specs.Matching.{phaseTable}
+-- `base_truth::in_phase` meets its contract, by the phase.
+use Rattle.base.specs.{needs}
+use Rattle.model.specs.{phaseTable}
 use Rattle.base_truth.proofs.in_phase.Statement.{statement}
 use Rattle.base_truth.proofs.in_phase.Tie as tie
 

@@ -1,9 +1,8 @@
--- `base_truth::masked` meets its contract: a bit by a shift. Assumes nothing.
-use native.Mathlib.Omega.{arith}
-use Rattle.model.specs.Base.{bit}
+-- `base_truth::masked` meets its contract: a bit by a shift.
+use Rattle.base.specs.{arith, needs}
+use Rattle.model.specs.{bit}
 use Rattle.base_truth.proofs.Tables.{one-bit}
 use Rattle.base_truth.proofs.Nets.{literal-one}
-use borrow.Author.Needs.{needs}
 use Rattle.base_truth.proofs.masked.Statement.{statement}
 use Rattle.base_truth.proofs.masked.Tie as tie
 

@@ -1,12 +1,7 @@
 -- `base_truth::ones_of` meets its contract: that the number holds the leaves' tables antt computes.
--- Assumes nothing.
-use mathlib.Core.Bool.{Bool}
-use Prim.Native.Nat.{ℕ, _*_, _/_, _%_, _^_}
-use lib.Dec.{T, eqb, eqb→eq}
-use borrow.Author.Needs.{needs}
-use Rattle.model.specs.Base.{all, below, bit}
-use Rattle.model.specs.Cuts.{tabulate}
-use Rattle.base_truth.specs.Variant.{leafTable}
+use Rattle.base.specs.{Bool, ℕ, _*_, _/_, _%_, _^_, T, eqb, eqb→eq, needs}
+use Rattle.model.specs.{all, below, bit, tabulate}
+use Rattle.base_truth.specs.{leafTable}
 use Rattle.base_truth.proofs.Tested.{at}
 use Rattle.base_truth.proofs.ones_of.Statement.{statement}
 use Rattle.base_truth.proofs.ones_of.Tie as tie

@@ -1,8 +1,6 @@
--- `base_truth::opposite` meets its contract: by the literal's phase. Assumes nothing.
-use native.Mathlib.Omega.{arith}
-use borrow.Author.Tests.{eq-eqb, ne-eqb}
-use Rattle.model.specs.Graph.{opposite, literal, negated, varOf}
-use borrow.Author.Needs.{needs}
+-- `base_truth::opposite` meets its contract: by the literal's phase.
+use Rattle.base.specs.{arith, eq-eqb, ne-eqb, needs}
+use Rattle.model.specs.{opposite, literal, negated, varOf}
 use Rattle.base_truth.proofs.opposite.Statement.{statement}
 use Rattle.base_truth.proofs.opposite.Tie as tie
 

@@ -1,12 +1,6 @@
--- `base_truth::pair_table` meets its contract. The invariant: t has the rows from r on. The measure is r. Assumes nothing.
-use mathlib.Core.Path.{_≡_, sym, ap, _∙_}
-use mathlib.Core.Bool.{Bool}
-use mathlib.Core.List.{map}
-use Prim.Native.Nat.{ℕ, _+_, _-_, _*_, _%_, _^_, _≤_}
-use native.Mathlib.Omega.{arith}
-use lib.Pow.{pow-mono, shl-exact}
-use Rattle.model.specs.Base.{one, bit, below}
-use Rattle.model.specs.Pairs.{pairPins, pairValue, pairTable}
+-- `base_truth::pair_table` meets its contract. The invariant: t has the rows from r on. The measure is r.
+use Rattle.base.specs.{_≡_, sym, ap, _∙_, Bool, map, ℕ, _+_, _-_, _*_, _%_, _^_, _≤_, arith, pow-mono, shl-exact}
+use Rattle.model.specs.{one, bit, below, pairPins, pairValue, pairTable}
 use Rattle.model.specs.declared.Cell.{Cell}
 use Rattle.base_truth.proofs.Downward.{rowsFrom, down, rows-small, rows-none, rows-whole}
 use Rattle.base_truth.proofs.Pairs.{pair-row}

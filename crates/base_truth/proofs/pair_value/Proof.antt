@@ -1,8 +1,7 @@
--- `base_truth::pair_value` meets its contract: the inner's value, and the root's with it. Assumes nothing.
-use mathlib.Core.Path.{ap, _∙_}
-use borrow.Author.Needs.{needs}
-use Rattle.model.specs.Table.{value}
-use Rattle.base_truth.specs.Pair.{rootRow}
+-- `base_truth::pair_value` meets its contract: the inner's value, and the root's with it.
+use Rattle.base.specs.{ap, _∙_, needs}
+use Rattle.model.specs.{value}
+use Rattle.base_truth.specs.{rootRow}
 use Rattle.base_truth.proofs.pair_value.Statement.{statement}
 use Rattle.base_truth.proofs.pair_value.Tie as tie
 

@@ -1,14 +1,7 @@
--- `base_truth::pattern` meets its contract: that the four words are the leaves' tables antt computes. Assumes nothing.
-use mathlib.Core.Path.{_≡_}
-use mathlib.Core.Bool.{Bool}
-use mathlib.Core.List.{List, map}
-use Prim.Native.Nat.{ℕ, _<_}
-use lib.Dec.{T, eqb, eqb→eq}
-use lib.ListN.{getD}
-use borrow.Author.Needs.{needs}
-use Rattle.model.specs.Base.{all, below, bit}
-use Rattle.model.specs.Cuts.{tabulate}
-use Rattle.base_truth.specs.Variant.{leafTable}
+-- `base_truth::pattern` meets its contract: that the four words are the leaves' tables antt computes.
+use Rattle.base.specs.{_≡_, Bool, List, map, ℕ, _<_, T, eqb, eqb→eq, getD, needs}
+use Rattle.model.specs.{all, below, bit, tabulate}
+use Rattle.base_truth.specs.{leafTable}
 use Rattle.base_truth.proofs.Tested.{at}
 use Rattle.base_truth.proofs.pattern.Statement.{statement}
 use Rattle.base_truth.proofs.pattern.Tie as tie

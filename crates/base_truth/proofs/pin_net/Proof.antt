@@ -1,12 +1,7 @@
--- `base_truth::pin_net` meets its contract. Assumes nothing.
-use mathlib.Core.Path.{ap, _∙_}
-use Prim.Native.Nat.{ℕ}
-use native.Mathlib.Omega.{arith}
-use lib.ListN.{getD}
-use Rattle.model.specs.Base.{bit}
-use Rattle.model.specs.Graph.{literal}
+-- `base_truth::pin_net` meets its contract.
+use Rattle.base.specs.{ap, _∙_, ℕ, arith, getD, needs}
+use Rattle.model.specs.{bit, literal}
 use Rattle.base_truth.proofs.Variants.{place-small}
-use borrow.Author.Needs.{needs}
 use Rattle.base_truth.proofs.pin_net.Statement.{statement}
 use Rattle.base_truth.proofs.pin_net.Tie as tie
 

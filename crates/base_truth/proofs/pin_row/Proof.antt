@@ -1,10 +1,5 @@
--- `base_truth::pin_row` meets its contract: the row modulo 2 ^ pins. Assumes nothing.
-use mathlib.Core.Path.{ap}
-use Prim.Native.Nat.{ℕ, _%_}
-use native.Mathlib.Nat.{mod-lt}
-use native.Mathlib.Omega.{arith}
-use lib.Pow.{pow-pos, pow-mono}
-use borrow.Author.Needs.{needs}
+-- `base_truth::pin_row` meets its contract: the row modulo 2 ^ pins.
+use Rattle.base.specs.{ap, ℕ, _%_, mod-lt, arith, pow-pos, pow-mono, needs}
 use Rattle.base_truth.proofs.Tables.{power}
 use Rattle.base_truth.proofs.pin_row.Statement.{statement}
 use Rattle.base_truth.proofs.pin_row.Tie as tie

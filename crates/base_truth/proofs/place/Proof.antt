@@ -1,6 +1,5 @@
 -- `base_truth::place` meets its contract: by the number of the place.
--- Assumes nothing.
-use borrow.Author.Needs.{needs}
+use Rattle.base.specs.{needs}
 use Rattle.base_truth.proofs.place.Statement.{statement}
 use Rattle.base_truth.proofs.place.Tie as tie
 

@@ -1,14 +1,7 @@
 -- `base_truth::places` meets its contract: that each number holds the places antt computes.
--- Assumes nothing.
-use mathlib.Core.Path.{_≡_, subst, sym}
-use mathlib.Core.Bool.{Bool}
-use Prim.Native.Nat.{ℕ, _*_, _/_, _%_, _^_, _<_}
-use native.Mathlib.Omega.{arith}
-use lib.Dec.{T, eqb, eqb→eq}
-use lib.ListN.{getD}
-use Rattle.model.specs.Base.{all, below}
-use Rattle.model.specs.Table.{orders}
-use Rattle.base_truth.specs.Variant.{placesOf}
+use Rattle.base.specs.{_≡_, subst, sym, Bool, ℕ, _*_, _/_, _%_, _^_, _<_, arith, T, eqb, eqb→eq, getD}
+use Rattle.model.specs.{all, below, orders}
+use Rattle.base_truth.specs.{placesOf}
 use Rattle.base_truth.proofs.Tested.{at}
 use Rattle.base_truth.proofs.places.Statement.{statement}
 use Rattle.base_truth.proofs.places.Tie as tie

@@ -1,11 +1,7 @@
--- `base_truth::root_row` meets its contract: four bits, each put below those above it. Assumes nothing.
-use mathlib.Core.Path.{ap, ap₂, _∙_}
-use mathlib.Core.Bool.{Bool}
-use Prim.Native.Nat.{ℕ, _+_, _*_}
-use native.Mathlib.Omega.{arith}
-use borrow.Author.Needs.{needs}
-use Rattle.model.specs.Base.{one}
-use Rattle.base_truth.specs.Pair.{rootRow}
+-- `base_truth::root_row` meets its contract: four bits, each put below those above it.
+use Rattle.base.specs.{ap, ap₂, _∙_, Bool, ℕ, _+_, _*_, arith, needs}
+use Rattle.model.specs.{one}
+use Rattle.base_truth.specs.{rootRow}
 use Rattle.base_truth.proofs.Tables.{one-small}
 use Rattle.base_truth.proofs.root_row.Statement.{statement}
 use Rattle.base_truth.proofs.root_row.Tie as tie

@@ -1,13 +1,7 @@
--- `base_truth::rows` meets its contract. That the table of `src/lib.rt` holds the rows of the orders antt computes. Assumes nothing.
-use mathlib.Core.Path.{_≡_, refl}
-use mathlib.Core.List.{List, [], _∷_, map}
-use Prim.Native.Nat.{ℕ, zero, suc, _<_}
-use native.Mathlib.Omega.{arith}
-use lib.ListN.{length, getD}
-use Rattle.model.specs.Base.{below}
-use Rattle.model.specs.Table.{rowMap, orders}
-use Rattle.base_truth.specs.Variant.{placesOf}
-use borrow.Author.Needs.{needs}
+-- `base_truth::rows` meets its contract. That the table of `src/lib.rt` holds the rows of the orders antt computes.
+use Rattle.base.specs.{_≡_, refl, List, [], _∷_, map, ℕ, zero, suc, _<_, arith, length, getD, needs}
+use Rattle.model.specs.{below, rowMap, orders}
+use Rattle.base_truth.specs.{placesOf}
 use Rattle.base_truth.proofs.rows.Statement.{statement}
 use Rattle.base_truth.proofs.rows.Tie as tie
 

@@ -1,7 +1,6 @@
--- `base_truth::turned` meets its contract, by that of `crossed_at` at each pin. Assumes nothing.
-use mathlib.Core.Path.{ap, _∙_}
-use Rattle.base_truth.specs.Variant.{placesOf, crossedAt, turned}
-use borrow.Author.Needs.{needs}
+-- `base_truth::turned` meets its contract, by that of `crossed_at` at each pin.
+use Rattle.base.specs.{ap, _∙_, needs}
+use Rattle.base_truth.specs.{placesOf, crossedAt, turned}
 use Rattle.base_truth.proofs.turned.Statement.{statement}
 use Rattle.base_truth.proofs.turned.Tie as tie
 

@@ -1,7 +1,6 @@
--- `base_truth::value_at` meets its contract: the row of the pins is a row of the table. Assumes nothing.
-use mathlib.Core.Path.{ap, _∙_}
-use Rattle.model.specs.Table.{value}
-use borrow.Author.Needs.{needs}
+-- `base_truth::value_at` meets its contract: the row of the pins is a row of the table.
+use Rattle.base.specs.{ap, _∙_, needs}
+use Rattle.model.specs.{value}
 use Rattle.base_truth.proofs.value_at.Statement.{statement}
 use Rattle.base_truth.proofs.value_at.Tie as tie
 

@@ -1,7 +1,6 @@
--- `base_truth::with_row` meets its contract, by the row's value. Assumes nothing.
-use native.Mathlib.Omega.{arith}
-use borrow.Author.Needs.{needs}
-use Rattle.model.specs.Base.{one}
+-- `base_truth::with_row` meets its contract, by the row's value.
+use Rattle.base.specs.{arith, needs}
+use Rattle.model.specs.{one}
 use Rattle.base_truth.proofs.with_row.Statement.{statement}
 use Rattle.base_truth.proofs.with_row.Tie as tie
 

@@ -1,12 +1,7 @@
--- `base_words::clear_all` meets its contract: zeros put from the first word to the last are all there is. Assumes nothing.
-use mathlib.Core.Path.{_≡_, ap, _∙_}
-use mathlib.Core.List.{List}
-use Prim.Native.Nat.{ℕ, _-_}
-use native.Mathlib.Omega.{arith}
-use lib.ListN.{length, length-replicate}
-use Rattle.base_words.specs.Put.{putAt, zeros}
+-- `base_words::clear_all` meets its contract: zeros put from the first word to the last are all there is.
+use Rattle.base.specs.{_≡_, ap, _∙_, List, ℕ, _-_, arith, length, length-replicate, needs}
+use Rattle.base_words.specs.{putAt, zeros}
 use Rattle.base_words.proofs.Parts.{put-whole}
-use borrow.Author.Needs.{needs}
 use Rattle.base_words.proofs.clear_all.Statement.{statement}
 use Rattle.base_words.proofs.clear_all.Tie as tie
 

@@ -1,10 +1,6 @@
--- `base_words::clear_columns` meets its contract: as many words as there are before the cut lists. Assumes nothing.
-use mathlib.Core.Path.{_≡_, ap, _∙_}
-use Prim.Native.Nat.{ℕ, _-_, _+_, _*_}
-use native.Mathlib.Omega.{arith}
-use Rattle.base_words.specs.Put.{putAt, zeros}
-use Rattle.base_words.specs.Layout.{listsFrom}
-use borrow.Author.Needs.{needs}
+-- `base_words::clear_columns` meets its contract: as many words as there are before the cut lists.
+use Rattle.base.specs.{_≡_, ap, _∙_, ℕ, _-_, _+_, _*_, arith, needs}
+use Rattle.base_words.specs.{putAt, zeros, listsFrom}
 use Rattle.base_words.proofs.clear_columns.Statement.{statement}
 use Rattle.base_words.proofs.clear_columns.Tie as tie
 

@@ -1,9 +1,6 @@
--- `base_words::cut_size` meets its contract: the size of a cut is its word in the first column. Assumes nothing.
-use borrow.Author.Needs.{needs}
-use mathlib.Core.Path.{ap, _∙_}
-use Prim.Native.Nat.{ℕ}
-use lib.ListN.{getD}
-use Rattle.base_words.specs.Record.{cutOf, cutBy}
+-- `base_words::cut_size` meets its contract: the size of a cut is its word in the first column.
+use Rattle.base.specs.{needs, ap, _∙_, ℕ, getD}
+use Rattle.base_words.specs.{cutOf, cutBy}
 use Rattle.base_words.proofs.cut_size.Statement.{statement}
 use Rattle.base_words.proofs.cut_size.Tie as tie
 

@@ -1,6 +1,6 @@
--- `base_words::function` meets its contract: where the function of cut k of v lies. Assumes nothing.
-use borrow.Author.Needs.{needs}
-use Rattle.base_words.specs.Record.{functionOf}
+-- `base_words::function` meets its contract: where the function of cut k of v lies.
+use Rattle.base.specs.{needs}
+use Rattle.base_words.specs.{functionOf}
 use Rattle.base_words.proofs.function.Statement.{statement}
 use Rattle.base_words.proofs.function.Tie as tie
 

@@ -1,7 +1,6 @@
--- `base_words::is_absent` meets its contract: in each arm the source is known to be that arm's. Assumes nothing.
-use mathlib.Core.Path.{sym, ap}
-use Rattle.model.specs.Choice.{absent}
-use borrow.Author.Needs.{needs}
+-- `base_words::is_absent` meets its contract: in each arm the source is known to be that arm's.
+use Rattle.base.specs.{sym, ap, needs}
+use Rattle.model.specs.{absent}
 use Rattle.base_words.proofs.is_absent.Statement.{statement}
 use Rattle.base_words.proofs.is_absent.Tie as tie
 

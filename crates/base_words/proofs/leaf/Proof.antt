@@ -1,8 +1,5 @@
--- `base_words::leaf` meets its contract: as many columns past the size as the leaf's number, and one. Assumes nothing.
-use borrow.Author.Needs.{needs}
-use native.Mathlib.Omega.{arith}
-use native.Mathlib.Nat.{mul-le-mul-right}
-use Prim.Native.Nat.{ℕ, _+_, _*_, _≤_}
+-- `base_words::leaf` meets its contract: as many columns past the size as the leaf's number, and one.
+use Rattle.base.specs.{needs, arith, mul-le-mul-right, ℕ, _+_, _*_, _≤_}
 use Rattle.base_words.proofs.Stored.{leaf-word}
 use Rattle.base_words.proofs.leaf.Statement.{statement}
 use Rattle.base_words.proofs.leaf.Tie as tie

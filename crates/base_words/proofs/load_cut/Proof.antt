@@ -1,12 +1,6 @@
--- `base_words::load_cut` meets its contract: the size of cut k of v, and each leaf a column further. Assumes nothing.
-use borrow.Author.Needs.{needs}
-use native.Mathlib.Omega.{arith}
-use mathlib.Core.Path.{_≡_, ap, _∙_}
-use mathlib.Core.List.{List, [], _∷_}
-use Prim.Native.Nat.{ℕ, _+_}
-use lib.ListN.{getD}
-use Rattle.base_words.specs.Layout.{cutAddr}
-use Rattle.base_words.specs.Record.{cutOf, cutBy}
+-- `base_words::load_cut` meets its contract: the size of cut k of v, and each leaf a column further.
+use Rattle.base.specs.{needs, arith, _≡_, ap, _∙_, List, [], _∷_, ℕ, _+_, getD}
+use Rattle.base_words.specs.{cutAddr, cutOf, cutBy}
 use Rattle.base_words.proofs.load_cut.Statement.{statement}
 use Rattle.base_words.proofs.load_cut.Tie as tie
 

@@ -1,7 +1,5 @@
--- `base_words::low` meets its contract: neither half of the number exceeds a word. Assumes nothing.
-use Prim.Native.Nat.{_+_, _*_}
-use native.Mathlib.Omega.{arith}
-use borrow.Author.Needs.{needs}
+-- `base_words::low` meets its contract: neither half of the number exceeds a word.
+use Rattle.base.specs.{_+_, _*_, arith, needs}
 use Rattle.base_words.proofs.low.Statement.{statement}
 use Rattle.base_words.proofs.low.Tie as tie
 

@@ -1,9 +1,7 @@
--- `base_words::makes_gate` meets its contract. Assumes nothing.
-use mathlib.Core.Path.{sym, ap, _∙_}
-use mathlib.Core.Bool.{Bool, not, _&&_}
-use Rattle.model.specs.Netlist.{isOwn}
-use Rattle.base_words.specs.Phases.{makesGate}
-use borrow.Author.Needs.{needs}
+-- `base_words::makes_gate` meets its contract.
+use Rattle.base.specs.{sym, ap, _∙_, Bool, not, _&&_, needs}
+use Rattle.model.specs.{isOwn}
+use Rattle.base_words.specs.{makesGate}
 use Rattle.base_words.proofs.makes_gate.Statement.{statement}
 use Rattle.base_words.proofs.makes_gate.Tie as tie
 

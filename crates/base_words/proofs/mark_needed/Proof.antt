@@ -1,7 +1,6 @@
--- `base_words::mark_needed` meets its contract: by the literal's phase. Assumes nothing.
-use borrow.Author.Tests.{eq-eqb, ne-eqb}
-use Rattle.base_words.specs.Phases.{putNeeded}
-use borrow.Author.Needs.{needs}
+-- `base_words::mark_needed` meets its contract: by the literal's phase.
+use Rattle.base.specs.{eq-eqb, ne-eqb, needs}
+use Rattle.base_words.specs.{putNeeded}
 use Rattle.base_words.proofs.mark_needed.Statement.{statement}
 use Rattle.base_words.proofs.mark_needed.Tie as tie
 

@@ -1,7 +1,6 @@
--- `base_words::need_words` meets its contract: the numbers of `need`, closed. Assumes nothing.
-use native.Mathlib.Omega.{arith}
-use Rattle.model.specs.Limits.{need}
-use borrow.Author.Needs.{needs}
+-- `base_words::need_words` meets its contract: the numbers of `need`, closed.
+use Rattle.base.specs.{arith, needs}
+use Rattle.model.specs.{need}
 use Rattle.base_words.proofs.need_words.Statement.{statement}
 use Rattle.base_words.proofs.need_words.Tie as tie
 

@@ -1,8 +1,6 @@
--- `base_words::phase` meets its contract: by the literal's phase. Assumes nothing.
-use Rattle.model.specs.Graph.{varOf, negated}
-use Rattle.model.specs.Choice.{phaseOf}
-use borrow.Author.Tests.{eq-eqb, ne-eqb}
-use borrow.Author.Needs.{needs}
+-- `base_words::phase` meets its contract: by the literal's phase.
+use Rattle.base.specs.{eq-eqb, ne-eqb, needs}
+use Rattle.model.specs.{varOf, negated, phaseOf}
 use Rattle.base_words.proofs.phase.Statement.{statement}
 use Rattle.base_words.proofs.phase.Tie as tie
 

@@ -1,9 +1,7 @@
 -- `base_words::phase_in` meets its contract: the four words, one after the other. That each is below 65,536 is
--- said of both halves of the arrival at once, whichever is the low one. Assumes nothing.
-use Prim.Native.Nat.{_+_}
-use native.Mathlib.Omega.{arith}
-use Rattle.base_words.specs.Phases.{phaseIn}
-use borrow.Author.Needs.{needs}
+-- said of both halves of the arrival at once, whichever is the low one.
+use Rattle.base.specs.{_+_, arith, needs}
+use Rattle.base_words.specs.{phaseIn}
 use Rattle.base_words.proofs.phase_in.Statement.{statement}
 use Rattle.base_words.proofs.phase_in.Tie as tie
 

@@ -1,12 +1,7 @@
 -- `base_words::phase_words` meets its contract: in each arm the source is known to be that arm's variant, at which `phaseWords` computes, and what fits is known.
--- Assumes nothing.
-use mathlib.Core.Path.{sym, ap, subst}
-use mathlib.Core.List.{_++_}
-use Prim.Native.Nat.{_<_}
-use native.Mathlib.Omega.{arith}
+use Rattle.base.specs.{sym, ap, subst, _++_, _<_, arith, needs}
 use Rattle.model.specs.declared.Source.{Source}
-use Rattle.base_words.specs.Phases.{SourceFits, sourceWords, arrivalWords, phaseWords}
-use borrow.Author.Needs.{needs}
+use Rattle.base_words.specs.{SourceFits, sourceWords, arrivalWords, phaseWords}
 use Rattle.base_words.proofs.phase_words.Statement.{statement}
 use Rattle.base_words.proofs.phase_words.Tie as tie
 

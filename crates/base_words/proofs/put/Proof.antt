@@ -1,12 +1,6 @@
 -- `base_words::put` meets its contract. The invariant: the first i words of `from` stand from `at` on, and the others as they were; the length stays. The measure is what is left of `from`.
--- Assumes nothing.
-use mathlib.Core.Path.{_≡_, refl, sym, ap, _∙_}
-use mathlib.Core.List.{List}
-use Prim.Native.Nat.{ℕ, _+_, _-_, _≤_}
-use native.Mathlib.Omega.{arith}
-use lib.ListN.{length, getD, set, take, length-set}
-use lib.Seq.{take-all}
-use Rattle.base_words.specs.Put.{putAt}
+use Rattle.base.specs.{_≡_, refl, sym, ap, _∙_, List, ℕ, _+_, _-_, _≤_, arith, length, getD, set, take, length-set, take-all}
+use Rattle.base_words.specs.{putAt}
 use Rattle.base_words.proofs.Putting.{put-none, put-taken}
 use Rattle.base_words.proofs.put.Statement.{statement}
 use Rattle.base_words.proofs.put.Tie as tie

@@ -1,6 +1,6 @@
--- `base_words::set_function` meets its contract: where the function of cut k of v lies. Assumes nothing.
-use borrow.Author.Needs.{needs}
-use Rattle.base_words.specs.Record.{putFunctions}
+-- `base_words::set_function` meets its contract: where the function of cut k of v lies.
+use Rattle.base.specs.{needs}
+use Rattle.base_words.specs.{putFunctions}
 use Rattle.base_words.proofs.set_function.Statement.{statement}
 use Rattle.base_words.proofs.set_function.Tie as tie
 

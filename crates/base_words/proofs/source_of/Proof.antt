@@ -1,5 +1,5 @@
--- `base_words::source_of` meets its contract: in each arm the kind is known, at which `kindSource` computes. Assumes nothing.
-use borrow.Author.Tests.{ne-eqb}
+-- `base_words::source_of` meets its contract: in each arm the kind is known, at which `kindSource` computes.
+use Rattle.base.specs.{ne-eqb}
 use Rattle.base_words.proofs.source_of.Statement.{statement}
 use Rattle.base_words.proofs.source_of.Tie as tie
 

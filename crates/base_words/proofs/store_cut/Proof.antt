@@ -1,10 +1,6 @@
--- `base_words::store_cut` meets its contract: the size of cut k of v, and each leaf a column further. Assumes nothing.
-use borrow.Author.Needs.{needs}
-use mathlib.Core.Path.{_≡_, ap, _∙_}
-use mathlib.Core.List.{List, [], _∷_}
-use Prim.Native.Nat.{ℕ, _+_, _*_}
-use lib.ListN.{length, getD}
-use Rattle.base_words.specs.Put.{putAt}
+-- `base_words::store_cut` meets its contract: the size of cut k of v, and each leaf a column further.
+use Rattle.base.specs.{needs, _≡_, ap, _∙_, List, [], _∷_, ℕ, _+_, _*_, length, getD}
+use Rattle.base_words.specs.{putAt}
 use Rattle.base_words.proofs.Stored.{five-stores}
 use Rattle.base_words.proofs.store_cut.Statement.{statement}
 use Rattle.base_words.proofs.store_cut.Tie as tie

@@ -1,11 +1,6 @@
--- `base_words::store_node` meets its contract: one word after the other. Assumes nothing.
-use mathlib.Core.Path.{ap, _∙_}
-use mathlib.Core.List.{List, _∷_, []}
-use Prim.Native.Nat.{ℕ}
-use Rattle.base_words.specs.Put.{putAt}
-use Rattle.base_words.specs.Layout.{leftAddr, rightAddr}
-use Rattle.base_words.specs.Record.{putNode}
-use borrow.Author.Needs.{needs}
+-- `base_words::store_node` meets its contract: one word after the other.
+use Rattle.base.specs.{ap, _∙_, List, _∷_, [], ℕ, needs}
+use Rattle.base_words.specs.{putAt, leftAddr, rightAddr, putNode}
 use Rattle.base_words.proofs.store_node.Statement.{statement}
 use Rattle.base_words.proofs.store_node.Tie as tie
 

@@ -1,7 +1,6 @@
--- `base_words::store_phase` meets its contract: what `put` leaves, at what `phase_words` gives. Assumes nothing.
-use mathlib.Core.Path.{ap, _∙_}
-use Rattle.base_words.specs.Put.{putAt}
-use borrow.Author.Needs.{needs}
+-- `base_words::store_phase` meets its contract: what `put` leaves, at what `phase_words` gives.
+use Rattle.base.specs.{ap, _∙_, needs}
+use Rattle.base_words.specs.{putAt}
 use Rattle.base_words.proofs.store_phase.Statement.{statement}
 use Rattle.base_words.proofs.store_phase.Tie as tie
 

@@ -1,9 +1,8 @@
--- `capi::answer` meets its contract: the five values of each case of an answer. Assumes nothing.
-use mathlib.Core.Path.{sym, ap, _∙_}
-use Rattle.model.specs.Mapper.{returned}
+-- `capi::answer` meets its contract: the five values of each case of an answer.
+use Rattle.base.specs.{sym, ap, _∙_, needs}
+use Rattle.model.specs.{returned}
 use Rattle.model.specs.declared.Answer.{Answer}
-use Rattle.capi.specs.Answers.{answered}
-use borrow.Author.Needs.{needs}
+use Rattle.capi.specs.{answered}
 use Rattle.capi.proofs.answer.Statement.{statement}
 use Rattle.capi.proofs.answer.Tie as tie
 
@@ -16,6 +15,4 @@ unfolding returned
 returns-2 c = c .plain .ensures ∙ sym (ap (λ (x : Answer). answered (returned x)) (c .before .before .a2 .given .1))
 
 pub answer-spec : {M : Type 1} → statement M
-answer-spec = tie.close
-    (tie.spec
-    (λ c. search needs) (λ c. search needs) (λ c κs. search needs) returns returns-2)
+answer-spec = tie.close (tie.spec (λ c. search needs) (λ c. search needs) (λ c κs. search needs) returns returns-2)

@@ -1,9 +1,8 @@
--- `capi::checked_answer` meets its contract: the three values of each case of an answer. Assumes nothing.
-use mathlib.Core.Path.{sym, ap, _∙_}
-use Rattle.model.specs.Check.{toldOf}
+-- `capi::checked_answer` meets its contract: the three values of each case of an answer.
+use Rattle.base.specs.{sym, ap, _∙_, needs}
+use Rattle.model.specs.{toldOf}
 use Rattle.model.specs.declared.Checked.{Checked}
-use Rattle.capi.specs.Answers.{checkedAnswer}
-use borrow.Author.Needs.{needs}
+use Rattle.capi.specs.{checkedAnswer}
 use Rattle.capi.proofs.checked_answer.Statement.{statement}
 use Rattle.capi.proofs.checked_answer.Tie as tie
 
@@ -23,8 +22,6 @@ unfolding toldOf
 returns-3 c = c .checked3 .ensures ∙ sym (ap (λ (x : Checked). checkedAnswer (toldOf x)) (c .before .before .c2 .given .1))
 
 pub checked-answer-spec : {M : Type 1} → statement M
-checked-answer-spec =
-    tie.close
-    (tie.spec
+checked-answer-spec = tie.close (tie.spec
     enum-told (λ c κs. search needs) (λ c. search needs) (λ c κs. search needs) (λ c. search needs) (λ c κs. search needs) returns returns-2
     returns-3)

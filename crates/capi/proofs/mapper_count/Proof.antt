@@ -1,12 +1,11 @@
--- `capi::mapper_count` meets its contract, thin over `tally_call::count`. Assumes nothing.
-use mathlib.Core.Path.{_≡_, refl, sym, ap, subst, _∙_}
+-- `capi::mapper_count` meets its contract, thin over `tally_call::count`.
+use Rattle.base.specs.{_≡_, refl, sym, ap, subst, _∙_, needs}
 use Rattle.model.specs.declared.Verdict.{Verdict}
 use Rattle.model.specs.declared.Verdict.the-variants.{Accepted, Refused}
-use Rattle.tally_call.specs.Demands.{CountReturned, numberOf}
-use Rattle.tally_call.proofs.Returned.{count-returned}
-use Rattle.capi.specs.Answers.{answeredText, verdictPair}
+use Rattle.tally_call.specs.{CountReturned, numberOf}
+use Rattle.tally_call.proofs.{count-returned}
+use Rattle.capi.specs.{answeredText, verdictPair}
 use Rattle.capi.specs.declared.MapperAnswer.{MapperAnswer}
-use borrow.Author.Needs.{needs}
 use Rattle.capi.proofs.mapper_count.Statement.{statement}
 use Rattle.capi.proofs.mapper_count.Tie as tie
 
@@ -33,6 +32,4 @@ returns c =
     )
 
 pub mapper-count-spec : {M : Type 1} → statement M
-mapper-count-spec = tie.close
-    (tie.spec
-    (λ c κs. search needs) (λ c κs. search needs) (λ c. search needs) returns)
+mapper-count-spec = tie.close (tie.spec (λ c κs. search needs) (λ c κs. search needs) (λ c. search needs) returns)

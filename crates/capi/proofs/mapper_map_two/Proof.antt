@@ -1,7 +1,6 @@
--- `capi::mapper_map_two` meets its contract, thin over `mapper_two::map_two`. Assumes nothing.
-use mathlib.Core.Path.{ap, _∙_}
-use Rattle.capi.specs.Answers.{answered}
-use borrow.Author.Needs.{needs}
+-- `capi::mapper_map_two` meets its contract, thin over `mapper_two::map_two`.
+use Rattle.base.specs.{ap, _∙_, needs}
+use Rattle.capi.specs.{answered}
 use Rattle.capi.proofs.mapper_map_two.Statement.{statement}
 use Rattle.capi.proofs.mapper_map_two.Tie as tie
 
@@ -19,7 +18,6 @@ returns c =
     }
 
 pub mapper-map-two-spec : {M : Type 1} → statement M
-mapper-map-two-spec =
-    tie.close
-    (tie.spec
-    (λ c κs. search needs) (λ c κs. search needs) (λ c κs. search needs) (λ c. search needs) (λ c. search needs) (λ c. search needs) returns)
+mapper-map-two-spec = tie.close (tie.spec
+    (λ c κs. search needs) (λ c κs. search needs) (λ c κs. search needs) (λ c. search needs) (λ c. search needs) (λ c. search needs)
+    returns)

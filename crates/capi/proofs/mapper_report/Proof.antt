@@ -1,13 +1,11 @@
--- `capi::mapper_report` meets its contract, thin over `tally_call::report`. Assumes nothing.
-use mathlib.Core.Path.{sym, ap, subst, _∙_}
-use lib.ListN.{length}
-use Rattle.model.specs.Genlib.{writtenPair}
+-- `capi::mapper_report` meets its contract, thin over `tally_call::report`.
+use Rattle.base.specs.{sym, ap, subst, _∙_, length, needs}
+use Rattle.model.specs.{writtenPair}
 use Rattle.model.specs.declared.Written.{Written}
-use Rattle.tally_call.specs.Demands.{ReportReturned}
-use Rattle.tally_call.proofs.Returned.{report-returned}
-use Rattle.capi.specs.Answers.{answeredText}
+use Rattle.tally_call.specs.{ReportReturned}
+use Rattle.tally_call.proofs.{report-returned}
+use Rattle.capi.specs.{answeredText}
 use Rattle.capi.specs.declared.MapperAnswer.{MapperAnswer}
-use borrow.Author.Needs.{needs}
 use Rattle.capi.proofs.mapper_report.Statement.{statement}
 use Rattle.capi.proofs.mapper_report.Tie as tie
 
@@ -28,6 +26,4 @@ returns c =
     )
 
 pub mapper-report-spec : {M : Type 1} → statement M
-mapper-report-spec = tie.close
-    (tie.spec
-    (λ c κs. search needs) (λ c κs. search needs) (λ c. search needs) returns)
+mapper-report-spec = tie.close (tie.spec (λ c κs. search needs) (λ c κs. search needs) (λ c. search needs) returns)

@@ -1,9 +1,8 @@
--- `capi::text_answer` meets its contract: the two values of each case of an answer. Assumes nothing.
-use mathlib.Core.Path.{sym, ap, _∙_}
-use Rattle.model.specs.Genlib.{writtenPair}
+-- `capi::text_answer` meets its contract: the two values of each case of an answer.
+use Rattle.base.specs.{sym, ap, _∙_, needs}
+use Rattle.model.specs.{writtenPair}
 use Rattle.model.specs.declared.Written.{Written}
-use Rattle.capi.specs.Answers.{answeredText}
-use borrow.Author.Needs.{needs}
+use Rattle.capi.specs.{answeredText}
 use Rattle.capi.proofs.text_answer.Statement.{statement}
 use Rattle.capi.proofs.text_answer.Tie as tie
 
@@ -16,6 +15,5 @@ unfolding writtenPair
 returns-2 c = c .plain2 .ensures ∙ sym (ap (λ (x : Written). answeredText (writtenPair x)) (c .before .before .a2 .given .1))
 
 pub text-answer-spec : {M : Type 1} → statement M
-text-answer-spec = tie.close
-    (tie.spec
+text-answer-spec = tie.close (tie.spec
     (λ c. search needs) (λ c κs. search needs) (λ c. search needs) (λ c κs. search needs) returns returns-2)

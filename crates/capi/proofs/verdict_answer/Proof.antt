@@ -1,8 +1,7 @@
--- `capi::verdict_answer` meets its contract: the number and place of each case of a verdict. Assumes nothing.
-use mathlib.Core.Path.{sym, ap, _∙_}
+-- `capi::verdict_answer` meets its contract: the number and place of each case of a verdict.
+use Rattle.base.specs.{sym, ap, _∙_, needs}
 use Rattle.model.specs.declared.Verdict.{Verdict}
-use Rattle.capi.specs.Answers.{answeredText, verdictPair}
-use borrow.Author.Needs.{needs}
+use Rattle.capi.specs.{answeredText, verdictPair}
 use Rattle.capi.proofs.verdict_answer.Statement.{statement}
 use Rattle.capi.proofs.verdict_answer.Tie as tie
 
@@ -18,6 +17,4 @@ unfolding verdictPair
 returns-2 c = c .plain2 .ensures ∙ sym (ap (λ (x : Verdict). answeredText (verdictPair x)) (c .before .before .v .given .1))
 
 pub verdict-answer-spec : {M : Type 1} → statement M
-verdict-answer-spec = tie.close
-    (tie.spec
-    enum-told (λ c κs. search needs) (λ c. search needs) (λ c κs. search needs) returns returns-2)
+verdict-answer-spec = tie.close (tie.spec enum-told (λ c κs. search needs) (λ c. search needs) (λ c κs. search needs) returns returns-2)

@@ -1,14 +1,10 @@
 -- `cells_matching::best_match` meets its contract. The invariant: what is left of the chain leads from b to the answer, of whichever cells the sheet is.
 -- The measure is how far h is from the end.
--- Assumes nothing.
-use mathlib.Core.Path.{sym, subst}
-use Prim.Native.Nat.{ℕ, _<_, _-_}
-use native.Mathlib.Omega.{arith}
-use lib.ListN.{getD}
+use Rattle.base.specs.{sym, subst, ℕ, _<_, _-_, arith, getD}
 use Rattle.cells_matching.specs.declared.Best.{Best}
-use Rattle.cells_matching.specs.Sheet.{linkAddr}
-use Rattle.cells_matching.specs.Best.{unmatchedUnder, bestUnder}
-use Rattle.cells_matching.proofs.Walking.{Walking, Walks, togo, walking-within, walking-falls, walking-next, walking-end, walking-first}
+use Rattle.cells_matching.specs.{linkAddr, unmatchedUnder, bestUnder}
+use Rattle.cells_matching.proofs.Walking.{Walking, Walks, togo, walking-within, walking-falls, walking-next, walking-end}
+use Rattle.cells_matching.proofs.Walking.{walking-first}
 use Rattle.cells_matching.proofs.best_match.Statement.{statement}
 use Rattle.cells_matching.proofs.best_match.Tie as tie
 
@@ -100,8 +96,6 @@ returns c =
     λ cells sheet. walking-end cells (a .times .now) (bestUnder cells (a .f) (a .times .now) (a .bound)) (a .sheet .now) sheet (l .h) (l .b) (l .inv cells sheet) (c .loop-test .left)
 
 pub best-match-spec : {M : Type 1} → statement M
-best-match-spec =
-    tie.close
-    (tie.spec
-    Inv-loop μ-loop mul-wide shared-slice-read-wide (λ c κs. tt) loop-holds (λ c. omega arith) try-variant-requires mul-wide-2 add-wide mul-wide-3
-    shared-slice-read-wide-2 (λ c κs. tt) loop-less loop-again returns)
+best-match-spec = tie.close (tie.spec
+    Inv-loop μ-loop mul-wide shared-slice-read-wide (λ c κs. tt) loop-holds (λ c. omega arith) try-variant-requires mul-wide-2 add-wide
+    mul-wide-3 shared-slice-read-wide-2 (λ c κs. tt) loop-less loop-again returns)

@@ -1,15 +1,10 @@
 -- `cells_matching::build_pairs` meets its contract. The invariant: the pairs from number n + i on are matched. The measure is i.
--- Assumes nothing.
-use mathlib.Core.Path.{_≡_, ap, _∙_}
-use mathlib.Core.List.{List}
-use Prim.Native.Nat.{ℕ, _+_, _-_, _≤_}
-use native.Mathlib.Omega.{arith}
-use lib.ListN.{length, drop}
-use Rattle.model.specs.Cells.{cellAt, cellsOf}
+use Rattle.base.specs.{_≡_, ap, _∙_, List, ℕ, _+_, _-_, _≤_, arith, length, drop}
+use Rattle.model.specs.{cellAt, cellsOf}
 use Rattle.model.specs.declared.Cell.{Cell}
-use Rattle.cells_pairs.specs.Codes.{cellsBy}
-use Rattle.cells_pairs.proofs.Cells.{by-length}
-use Rattle.cells_matching.specs.Sheet.{cellMatched, listMatched}
+use Rattle.cells_pairs.specs.{cellsBy}
+use Rattle.cells_pairs.proofs.{by-length}
+use Rattle.cells_matching.specs.{cellMatched, listMatched}
 use Rattle.cells_matching.proofs.Linking.{listed-none, list-long}
 use Rattle.cells_matching.proofs.Pairing.{pairs-down}
 use Rattle.cells_matching.proofs.build_pairs.Statement.{statement}
@@ -66,7 +61,5 @@ returns c =
     l .inv .1 ∙ ap (λ (m : ℕ). listMatched (drop m (cellsBy (cellsOf (a .lib)) (a .codes .now))) m (a .sheet .now)) e
 
 pub build-pairs-spec : {M : Type 1} → statement M
-build-pairs-spec =
-    tie.close
-    (tie.spec
+build-pairs-spec = tie.close (tie.spec
     Inv-loop μ-loop loop-holds (λ c. omega arith) add-match-pair match-pair-requires (λ c. omega arith) loop-again same-length returns)

@@ -1,16 +1,10 @@
 -- `cells_matching::inverter_of` meets its contract. The invariant: with the cells from i on, the best so far leads to the answer. The measure is the
 -- number of cells left.
--- Assumes nothing.
-use Prim.Native.Nat.{_+_, _<_, _-_, _≤_}
-use mathlib.Core.Path.{_≡_, refl, sym, ap, _∙_}
-use native.Mathlib.Omega.{arith}
-use lib.Seq.{getD-take}
-use lib.ListN.{take, drop}
-use borrow.Author.Needs.{needs}
+use Rattle.base.specs.{_+_, _<_, _-_, _≤_, _≡_, refl, sym, ap, _∙_, arith, getD-take, take, drop, needs}
 use Rattle.model.specs.declared.Cell.{Cell}
-use Rattle.model.specs.Cells.{noCell, cellsOf}
+use Rattle.model.specs.{noCell, cellsOf}
 use Rattle.cells_matching.specs.declared.Inverter.{Inverter}
-use Rattle.cells_matching.specs.Inverters.{tried, inverterFrom, inverterOf}
+use Rattle.cells_matching.specs.{tried, inverterFrom, inverterOf}
 use Rattle.cells_matching.proofs.Inverting.{inverter-done, inverter-step}
 use Rattle.cells_matching.proofs.inverter_of.Statement.{statement}
 use Rattle.cells_matching.proofs.inverter_of.Tie as tie
@@ -51,7 +45,5 @@ returns c =
     inverter-done (take (lib .n) (lib .cells)) (c .before .loop .best) (inverterOf (take (lib .n) (lib .cells))) (c .before .loop .i) (omega (arith, c .before .before .before .pre .whole)) (c .before .loop .inv .1)
 
 pub inverter-of-spec : {M : Type 1} → statement M
-inverter-of-spec =
-    tie.close
-    (tie.spec
+inverter-of-spec = tie.close (tie.spec
     Inv-loop μ-loop loop-holds mul-c array-copy-out-c (λ c κs. tt) (λ c. search needs) (λ c. omega arith) loop-again returns)

@@ -1,8 +1,6 @@
 -- `cells_matching::is_listed` meets its contract.
--- Assumes nothing.
-use mathlib.Core.Path.{refl}
-use borrow.Author.Needs.{needs}
-use Rattle.cells_matching.specs.Sheet.{isListed}
+use Rattle.base.specs.{refl, needs}
+use Rattle.cells_matching.specs.{isListed}
 use Rattle.cells_matching.proofs.is_listed.Statement.{statement}
 use Rattle.cells_matching.proofs.is_listed.Tie as tie
 
@@ -11,7 +9,4 @@ unfolding isListed
 returns c = refl
 
 pub is-listed-spec : {M : Type 1} → statement M
-is-listed-spec =
-    tie.close
-    (tie.spec
-    (λ c. search needs) (λ c. search needs) returns)
+is-listed-spec = tie.close (tie.spec (λ c. search needs) (λ c. search needs) returns)

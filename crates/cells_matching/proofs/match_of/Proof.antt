@@ -1,7 +1,6 @@
 -- `cells_matching::match_of` meets its contract: the parts of a variant's number.
--- Assumes nothing.
-use mathlib.Core.Path.{refl}
-use Rattle.cells_matching.specs.Variants.{matchOf}
+use Rattle.base.specs.{refl}
+use Rattle.cells_matching.specs.{matchOf}
 use Rattle.cells_matching.proofs.match_of.Statement.{statement}
 use Rattle.cells_matching.proofs.match_of.Tie as tie
 

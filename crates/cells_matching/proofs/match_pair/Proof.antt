@@ -1,10 +1,6 @@
 -- `cells_matching::match_pair` meets its contract, by that of `match_parts` and the pair's pins, table and delays.
--- Assumes nothing.
-use mathlib.Core.Path.{_∙_}
-use Prim.Native.Nat.{_*_}
-use native.Mathlib.Omega.{arith}
-use borrow.Author.Needs.{needs}
-use Rattle.cells_matching.specs.Sheet.{passed, timed, cellMatched}
+use Rattle.base.specs.{_∙_, _*_, arith, needs}
+use Rattle.cells_matching.specs.{passed, timed, cellMatched}
 use Rattle.cells_matching.proofs.Pairing.{pins-by}
 use Rattle.cells_matching.proofs.match_pair.Statement.{statement}
 use Rattle.cells_matching.proofs.match_pair.Tie as tie
@@ -26,7 +22,5 @@ returns c =
     ∙ (λ i. passed (p .ensures i) (t .ensures i) (384 * a .k) 384 (timed (p .ensures i) (d .ensures i) (a .k) (a .sheet .now)))
 
 pub match-pair-spec : {M : Type 1} → statement M
-match-pair-spec =
-    tie.close
-    (tie.spec
+match-pair-spec = tie.close (tie.spec
     (λ c κs. search needs) (λ c κs. search needs) (λ c κs. search needs) match-parts-requires (λ c. search needs) returns)

@@ -1,9 +1,6 @@
 -- `cells_matching::match_parts` meets its contract, by those of `put_delays` and `put_variants`.
--- Assumes nothing.
-use mathlib.Core.Path.{ap, _∙_}
-use Prim.Native.Nat.{_*_}
-use borrow.Author.Needs.{needs}
-use Rattle.cells_matching.specs.Sheet.{passed}
+use Rattle.base.specs.{ap, _∙_, _*_, needs}
+use Rattle.cells_matching.specs.{passed}
 use Rattle.cells_matching.proofs.match_parts.Statement.{statement}
 use Rattle.cells_matching.proofs.match_parts.Tie as tie
 
@@ -13,7 +10,4 @@ returns c =
     c .before .before .put-variants .ensures ∙ ap (passed (a .pins) (a .table) (384 * a .line) 384) (c .before .before .before .before .before .before .put-delays .ensures)
 
 pub match-parts-spec : {M : Type 1} → statement M
-match-parts-spec =
-    tie.close
-    (tie.spec
-    (λ c κs. search needs) (λ c κs. search needs) (λ c. search needs) returns)
+match-parts-spec = tie.close (tie.spec (λ c κs. search needs) (λ c κs. search needs) (λ c. search needs) returns)

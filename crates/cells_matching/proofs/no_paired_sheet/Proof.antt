@@ -1,8 +1,5 @@
 -- `cells_matching::no_paired_sheet` meets its contract.
--- Assumes nothing.
-use Prim.Native.Nat.{ℕ}
-use native.Mathlib.Omega.{arith}
-use lib.ListN.{length-replicate, getD-replicate}
+use Rattle.base.specs.{ℕ, arith, length-replicate, getD-replicate}
 use Rattle.cells_matching.proofs.no_paired_sheet.Statement.{statement}
 use Rattle.cells_matching.proofs.no_paired_sheet.Tie as tie
 
@@ -10,5 +7,4 @@ returns : tie.Need-returns
 returns c = record { long = omega (arith, length-replicate {A = ℕ} 263168 0); empty = λ i h. getD-replicate {A = ℕ} 263168 i 0 0 (omega arith) }
 
 pub no-paired-sheet-spec : {M : Type 1} → statement M
-no-paired-sheet-spec =
-    tie.close (tie.spec returns)
+no-paired-sheet-spec = tie.close (tie.spec returns)

@@ -1,9 +1,7 @@
 -- `cells_matching::phase_as` meets its contract, by the test.
--- Assumes nothing.
-use borrow.Author.Tests.{lt-ltb, le-ltb}
-use borrow.Author.Needs.{needs}
-use Rattle.model.specs.Choice.{noPhase}
-use Rattle.cells_matching.specs.Best.{phaseAs, never}
+use Rattle.base.specs.{lt-ltb, le-ltb, needs}
+use Rattle.model.specs.{noPhase}
+use Rattle.cells_matching.specs.{phaseAs, never}
 use Rattle.cells_matching.proofs.phase_as.Statement.{statement}
 use Rattle.cells_matching.proofs.phase_as.Tie as tie
 
@@ -20,6 +18,4 @@ returns-2 c =
     rw (le-ltb (a .b .arrival) never (c .if1 .left))
 
 pub phase-as-spec : {M : Type 1} → statement M
-phase-as-spec = tie.close
-    (tie.spec
-    (λ c. search needs) (λ c κs. search needs) returns returns-2)
+phase-as-spec = tie.close (tie.spec (λ c. search needs) (λ c κs. search needs) returns returns-2)

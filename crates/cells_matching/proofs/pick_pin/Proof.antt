@@ -1,13 +1,9 @@
 -- `cells_matching::pick_pin` meets its contract: by whether there is such a pin.
--- Assumes nothing.
-use mathlib.Core.Path.{_≡_, ap, _∙_}
-use Prim.Native.Nat.{ℕ, _*_}
-use native.Mathlib.Omega.{arith}
-use Rattle.base_truth.specs.Variant.{placesOf}
-use Rattle.base_truth.proofs.Variants.{place-small}
-use Rattle.cells_matching.specs.Sheet.{pickPin}
+use Rattle.base.specs.{_≡_, ap, _∙_, ℕ, _*_, arith, needs}
+use Rattle.base_truth.specs.{placesOf}
+use Rattle.base_truth.proofs.{place-small}
+use Rattle.cells_matching.specs.{pickPin}
 use Rattle.cells_matching.proofs.Walking.{pick-first, pick-absent, pick-small}
-use borrow.Author.Needs.{needs}
 use Rattle.cells_matching.proofs.pick_pin.Statement.{statement}
 use Rattle.cells_matching.proofs.pick_pin.Tie as tie
 
@@ -28,6 +24,4 @@ returns-2 : tie.Need-returns-2
 returns-2 c = let a = c .before .args in (pick-absent (a .pins) (placesOf (a .order)) 0 (a .j) (c .if1 .left), omega arith)
 
 pub pick-pin-spec : {M : Type 1} → statement M
-pick-pin-spec = tie.close
-    (tie.spec
-    (λ c κs. search needs) mul-result returns returns-2)
+pick-pin-spec = tie.close (tie.spec (λ c κs. search needs) mul-result returns returns-2)

@@ -1,11 +1,6 @@
 -- `cells_matching::push` meets its contract: three stores.
--- Assumes nothing.
-use mathlib.Core.Path.{refl}
-use Prim.Native.Nat.{_+_, _*_}
-use native.Mathlib.Omega.{arith}
-use lib.ListN.{getD, length-set}
-use borrow.Author.Needs.{needs}
-use Rattle.cells_matching.specs.Sheet.{pushed}
+use Rattle.base.specs.{refl, _+_, _*_, arith, getD, length-set, needs}
+use Rattle.cells_matching.specs.{pushed}
 use Rattle.cells_matching.proofs.push.Statement.{statement}
 use Rattle.cells_matching.proofs.push.Tie as tie
 
@@ -20,9 +15,7 @@ unfolding pushed
 returns c = refl
 
 pub push-spec : {M : Type 1} → statement M
-push-spec =
-    tie.close
-    (tie.spec
-    (λ c. search needs) (λ c. search needs) (λ c. search needs) (λ c. search needs) (λ c. search needs) (λ c. search needs) (λ c. search needs)
-    (λ c. search needs) (λ c. search needs) slice-write-sheet-2 (λ c. search needs) (λ c. search needs) (λ c. search needs) (λ c. search needs)
-    returns)
+push-spec = tie.close (tie.spec
+    (λ c. search needs) (λ c. search needs) (λ c. search needs) (λ c. search needs) (λ c. search needs) (λ c. search needs)
+    (λ c. search needs) (λ c. search needs) (λ c. search needs) slice-write-sheet-2 (λ c. search needs) (λ c. search needs)
+    (λ c. search needs) (λ c. search needs) returns)

@@ -1,9 +1,6 @@
 -- `cells_matching::put` meets its contract, by those of `turned`, `with_mask` and `push`.
--- Assumes nothing.
-use mathlib.Core.Path.{ap₂, _∙_}
-use Prim.Native.Nat.{ℕ}
-use borrow.Author.Needs.{needs}
-use Rattle.cells_matching.specs.Sheet.{pushed}
+use Rattle.base.specs.{ap₂, _∙_, ℕ, needs}
+use Rattle.cells_matching.specs.{pushed}
 use Rattle.cells_matching.proofs.put.Statement.{statement}
 use Rattle.cells_matching.proofs.put.Tie as tie
 
@@ -14,6 +11,4 @@ returns c =
     ∙ ap₂ (λ (t p : ℕ). pushed t (a .x) p (a .sheet .now)) (c .before .before .before .before .before .turned .ensures) (c .before .before .before .before .with-mask .ensures)
 
 pub put-spec : {M : Type 1} → statement M
-put-spec = tie.close
-    (tie.spec
-    (λ c κs. search needs) (λ c κs. search needs) (λ c κs. search needs) (λ c. search needs) returns)
+put-spec = tie.close (tie.spec (λ c κs. search needs) (λ c κs. search needs) (λ c κs. search needs) (λ c. search needs) returns)

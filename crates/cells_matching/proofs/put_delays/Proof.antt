@@ -1,12 +1,6 @@
 -- `cells_matching::put_delays` meets its contract: four stores.
--- Assumes nothing.
-use mathlib.Core.Path.{_≡_, sym}
-use Prim.Native.Nat.{_+_, _*_}
-use native.Mathlib.Nat.{add-zero}
-use native.Mathlib.Omega.{arith}
-use lib.ListN.{set, length-set}
-use borrow.Author.Needs.{needs}
-use Rattle.cells_matching.specs.Sheet.{timed}
+use Rattle.base.specs.{_≡_, sym, _+_, _*_, add-zero, arith, set, length-set, needs}
+use Rattle.cells_matching.specs.{timed}
 use Rattle.cells_matching.proofs.put_delays.Statement.{statement}
 use Rattle.cells_matching.proofs.put_delays.Tie as tie
 
@@ -36,9 +30,7 @@ returns c =
     λ i. set (set (set (set (a .sheet .now) (first i) (c .before .before .before .delay-of .ensures i)) (65536 + 4 * a .line + 1) (c .before .before .delay-of2 .ensures i)) (65536 + 4 * a .line + 2) (c .before .delay-of3 .ensures i)) (65536 + 4 * a .line + 3) (c .delay-of4 .ensures i)
 
 pub put-delays-spec : {M : Type 1} → statement M
-put-delays-spec =
-    tie.close
-    (tie.spec
-    (λ c. search needs) (λ c. search needs) (λ c κs. search needs) (λ c. search needs) (λ c. search needs) (λ c κs. search needs) (λ c. search needs)
-    (λ c. search needs) slice-write-sheet-2 (λ c κs. search needs) (λ c. search needs) (λ c. search needs) slice-write-sheet-3 (λ c κs. search needs)
-    (λ c. search needs) (λ c. search needs) slice-write-sheet-4 (λ c. search needs) returns)
+put-delays-spec = tie.close (tie.spec
+    (λ c. search needs) (λ c. search needs) (λ c κs. search needs) (λ c. search needs) (λ c. search needs) (λ c κs. search needs)
+    (λ c. search needs) (λ c. search needs) slice-write-sheet-2 (λ c κs. search needs) (λ c. search needs) (λ c. search needs)
+    slice-write-sheet-3 (λ c κs. search needs) (λ c. search needs) (λ c. search needs) slice-write-sheet-4 (λ c. search needs) returns)

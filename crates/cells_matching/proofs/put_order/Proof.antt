@@ -1,13 +1,7 @@
 -- `cells_matching::put_order` meets its contract. The invariant: the variants of the order from a mask on are on the sheet. The measure is the mask.
--- Assumes nothing.
-use mathlib.Core.Path.{_≡_, ap, _∙_}
-use Prim.Native.Nat.{ℕ, _+_, _-_, _*_, _%_, _^_, _≤_}
-use native.Mathlib.Nat.{add-zero}
-use native.Mathlib.Omega.{arith}
-use lib.ListN.{length}
-use lib.Pow.{pow-mono}
-use Rattle.base_truth.proofs.Tables.{power}
-use Rattle.cells_matching.specs.Sheet.{passed}
+use Rattle.base.specs.{_≡_, ap, _∙_, ℕ, _+_, _-_, _*_, _%_, _^_, _≤_, add-zero, arith, length, pow-mono}
+use Rattle.base_truth.proofs.{power}
+use Rattle.cells_matching.specs.{passed}
 use Rattle.cells_matching.proofs.Linking.{passed-long}
 use Rattle.cells_matching.proofs.Putting.{order-begun, order-next}
 use Rattle.cells_matching.proofs.put_order.Statement.{statement}
@@ -98,22 +92,6 @@ returns c =
     ∙ ap (λ (x : ℕ). passed (a .pins) (a .table) x 16 (a .sheet .now)) (add-zero (384 * a .line + 16 * a .order))
 
 pub put-order-spec : {M : Type 1} → statement M
-put-order-spec =
-    tie.close
-    (tie.spec
-    Inv-loop
-    μ-loop
-    first-table-requires
-    first-word-requires
-    mul-x
-    mul-x-2
-    add-x
-    shl-mask
-    loop-holds
-    sub-mask
-    add-put
-    put-requires
-    loop-less
-    loop-again
-    same-length
-    returns)
+put-order-spec = tie.close (tie.spec
+    Inv-loop μ-loop first-table-requires first-word-requires mul-x mul-x-2 add-x shl-mask loop-holds sub-mask add-put put-requires loop-less
+    loop-again same-length returns)

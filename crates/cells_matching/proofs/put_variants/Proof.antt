@@ -1,13 +1,6 @@
 -- `cells_matching::put_variants` meets its contract. The invariant: the variants from an order on are on the sheet, and whole runs are left. The measure is the order.
--- Assumes nothing.
-use mathlib.Core.Path.{_≡_, ap, _∙_}
-use Prim.Native.Nat.{ℕ, _+_, _-_, _*_, _%_, _<_, _≤_}
-use mathlib.Core.List.{List}
-use native.Mathlib.Nat.{add-zero}
-use native.Mathlib.Omega.{arith}
-use lib.ListN.{length}
-use Rattle.cells_matching.specs.Variants.{runOf}
-use Rattle.cells_matching.specs.Sheet.{passed}
+use Rattle.base.specs.{_≡_, ap, _∙_, ℕ, _+_, _-_, _*_, _%_, _<_, _≤_, List, add-zero, arith, length}
+use Rattle.cells_matching.specs.{runOf, passed}
 use Rattle.cells_matching.proofs.Fresh.{run-all, run-fits}
 use Rattle.cells_matching.proofs.Linking.{passed-none, passed-long}
 use Rattle.cells_matching.proofs.Putting.{runs-next}
@@ -97,7 +90,5 @@ returns c =
     ∙ ap (λ (x : ℕ). passed (a .pins) (a .table) x 384 (a .sheet .now)) (add-zero (384 * a .line))
 
 pub put-variants-spec : {M : Type 1} → statement M
-put-variants-spec =
-    tie.close
-    (tie.spec
+put-variants-spec = tie.close (tie.spec
     Inv-loop μ-loop (λ c κs. tt) loop-holds sub-order put-order-requires loop-less loop-again same-length returns)

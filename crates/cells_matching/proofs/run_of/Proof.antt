@@ -1,9 +1,6 @@
 -- `cells_matching::run_of` meets its contract: by the number of pins.
--- Assumes nothing.
-use Prim.Native.Nat.{ℕ, zero, suc, _<_}
-use mathlib.Core.Path.{_≡_, refl, sym, ap}
-use native.Mathlib.Omega.{arith}
-use Rattle.cells_matching.specs.Variants.{runOf}
+use Rattle.base.specs.{ℕ, zero, suc, _<_, _≡_, refl, sym, ap, arith}
+use Rattle.cells_matching.specs.{runOf}
 use Rattle.cells_matching.proofs.run_of.Statement.{statement}
 use Rattle.cells_matching.proofs.run_of.Tie as tie
 

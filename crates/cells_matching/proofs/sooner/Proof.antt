@@ -1,9 +1,7 @@
 -- `cells_matching::sooner` meets its contract, by the case of the best so far and the test.
--- Assumes nothing.
-use mathlib.Core.Path.{sym, ap, _∙_}
-use borrow.Author.Needs.{needs}
+use Rattle.base.specs.{sym, ap, _∙_, needs}
 use Rattle.cells_matching.specs.declared.Inverter.{Inverter}
-use Rattle.cells_matching.specs.Inverters.{quicker}
+use Rattle.cells_matching.specs.{quicker}
 use Rattle.cells_matching.proofs.Inverting.{quicker-less, quicker-not}
 use Rattle.cells_matching.proofs.sooner.Statement.{statement}
 use Rattle.cells_matching.proofs.sooner.Tie as tie
@@ -28,6 +26,4 @@ returns-3 c =
     sym (ap (λ (b : Inverter). quicker b (a .line) (a .d)) (c .enum-told .given .1))
 
 pub sooner-spec : {M : Type 1} → statement M
-sooner-spec = tie.close
-    (tie.spec
-    (λ c. search needs) enum-told returns returns-2 returns-3)
+sooner-spec = tie.close (tie.spec (λ c. search needs) enum-told returns returns-2 returns-3)

@@ -1,7 +1,5 @@
 -- `cells_matching::try_inverter` meets its contract, by the three tests.
--- Assumes nothing.
-use mathlib.Core.Path.{sym, _∙_}
-use borrow.Author.Needs.{needs}
+use Rattle.base.specs.{sym, _∙_, needs}
 use Rattle.cells_matching.proofs.Inverting.{tried-inverter, tried-pins, tried-table, tried-nameless}
 use Rattle.cells_matching.proofs.try_inverter.Statement.{statement}
 use Rattle.cells_matching.proofs.try_inverter.Tie as tie
@@ -29,7 +27,4 @@ returns-4 c =
     sym (tried-pins (a .best) (a .c) (a .line) (c .if1 .left))
 
 pub try-inverter-spec : {M : Type 1} → statement M
-try-inverter-spec =
-    tie.close
-    (tie.spec
-    (λ c. search needs) (λ c κs. search needs) returns returns-2 returns-3 returns-4)
+try-inverter-spec = tie.close (tie.spec (λ c. search needs) (λ c κs. search needs) returns returns-2 returns-3 returns-4)

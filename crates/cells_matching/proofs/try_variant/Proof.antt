@@ -1,12 +1,7 @@
 -- `cells_matching::try_variant` meets its contract: one pin that is not earlier is enough to stay, and with none the variant is the better.
--- Assumes nothing.
-use mathlib.Core.Path.{_≡_, refl, ap₂, _∙_}
-use Prim.Native.Nat.{ℕ, _+_, _*_, _/_, _%_, _<_, max}
-use native.Mathlib.Omega.{arith}
-use lib.ListN.{getD}
-use Rattle.cells_matching.specs.Best.{waits}
+use Rattle.base.specs.{_≡_, refl, ap₂, _∙_, ℕ, _+_, _*_, _/_, _%_, _<_, max, arith, getD, needs}
+use Rattle.cells_matching.specs.{waits}
 use Rattle.cells_matching.proofs.Walking.{delay-within, brief-at, brief-first, one-late, all-early}
-use borrow.Author.Needs.{needs}
 use Rattle.cells_matching.proofs.try_variant.Statement.{statement}
 use Rattle.cells_matching.proofs.try_variant.Tie as tie
 
@@ -88,9 +83,8 @@ returns-5 c =
     (lowest (a .b .arrival) (c .before .before .before .before .before .before .before .before .before .before .before .before .before .before .pin-time .result) (c .before .before .before .before .before .before .before .before .before .before .before .pin-time2 .result) (c .before .before .before .before .before .before .before .before .pin-time3 .result) (c .before .before .before .before .before .pin-time4 .result) (c .larger3 .result) top (c .before .before .before .before .before .before .before .before .before .before .before .before .if1 .left) (c .before .before .before .before .before .before .before .before .before .if2 .left) (c .before .before .before .before .before .before .if3 .left) (c .before .before .before .if4 .left))
 
 pub try-variant-spec : {M : Type 1} → statement M
-try-variant-spec =
-    tie.close
-    (tie.spec
-    (λ c. search needs) (λ c. search needs) (λ c. search needs) (λ c. search needs) (λ c. search needs) (λ c κs. search needs) (λ c. search needs)
-    pin-time-requires returns (λ c. search needs) pin-time-requires-2 returns-2 (λ c. search needs) pin-time-requires-3 returns-3 (λ c. search needs)
-    pin-time-requires-4 returns-4 (λ c. search needs) (λ c κs. search needs) (λ c κs. search needs) (λ c κs. search needs) returns-5)
+try-variant-spec = tie.close (tie.spec
+    (λ c. search needs) (λ c. search needs) (λ c. search needs) (λ c. search needs) (λ c. search needs) (λ c κs. search needs)
+    (λ c. search needs) pin-time-requires returns (λ c. search needs) pin-time-requires-2 returns-2 (λ c. search needs) pin-time-requires-3
+    returns-3 (λ c. search needs) pin-time-requires-4 returns-4 (λ c. search needs) (λ c κs. search needs) (λ c κs. search needs)
+    (λ c κs. search needs) returns-5)

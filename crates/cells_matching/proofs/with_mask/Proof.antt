@@ -1,8 +1,6 @@
 -- `cells_matching::with_mask` meets its contract.
--- Assumes nothing.
-use mathlib.Core.Path.{refl}
-use Rattle.cells_matching.specs.Sheet.{masked}
-use borrow.Author.Needs.{needs}
+use Rattle.base.specs.{refl, needs}
+use Rattle.cells_matching.specs.{masked}
 use Rattle.cells_matching.proofs.with_mask.Statement.{statement}
 use Rattle.cells_matching.proofs.with_mask.Tie as tie
 
@@ -11,8 +9,6 @@ unfolding masked
 returns c = refl
 
 pub with-mask-spec : {M : Type 1} → statement M
-with-mask-spec =
-    tie.close
-    (tie.spec
-    (λ c. search needs) (λ c. search needs) (λ c. search needs) (λ c. search needs) (λ c. search needs) (λ c. search needs) (λ c. search needs)
-    (λ c. search needs) returns)
+with-mask-spec = tie.close (tie.spec
+    (λ c. search needs) (λ c. search needs) (λ c. search needs) (λ c. search needs) (λ c. search needs) (λ c. search needs)
+    (λ c. search needs) (λ c. search needs) returns)

@@ -1,12 +1,6 @@
 -- `cells_pairs::cell_at` meets its contract: what is lent begins at the line's bytes.
--- Assumes nothing.
-use mathlib.Core.Path.{ap, _∙_}
-use Prim.Native.Nat.{_+_, _-_, _*_}
-use native.Mathlib.Omega.{arith}
-use lib.ListN.{length, drop, length-drop}
-use lib.Seq.{take-all}
-use Rattle.cells_pairs.specs.Bytes.{cellFrom}
-use borrow.Author.Needs.{needs}
+use Rattle.base.specs.{ap, _∙_, _+_, _-_, _*_, arith, length, drop, length-drop, take-all, needs}
+use Rattle.cells_pairs.specs.{cellFrom}
 use Rattle.cells_pairs.proofs.cell_at.Statement.{statement}
 use Rattle.cells_pairs.proofs.cell_at.Tie as tie
 
@@ -17,7 +11,5 @@ returns c =
     c .cell-from .ensures ∙ ap cellFrom (take-all (length (s .args .book .now) - at) (drop at (s .args .book .now)) (omega (arith, length-drop at (s .args .book .now))))
 
 pub cell-at-spec : {M : Type 1} → statement M
-cell-at-spec =
-    tie.close
-    (tie.spec
+cell-at-spec = tie.close (tie.spec
     (λ c. search needs) (λ c. search needs) (λ c. search needs) (λ c. search needs) (λ c. search needs) (λ c κs. search needs) returns)

@@ -1,9 +1,6 @@
 -- `cells_pairs::cell_from` meets its contract.
--- Assumes nothing.
-use Prim.Native.Nat.{_+_, _*_}
-use lib.ListN.{replicate}
-use Rattle.cells_pairs.specs.Bytes.{cellFrom}
-use borrow.Author.Needs.{needs}
+use Rattle.base.specs.{_+_, _*_, replicate, needs}
+use Rattle.cells_pairs.specs.{cellFrom}
 use Rattle.cells_pairs.proofs.cell_from.Statement.{statement}
 use Rattle.cells_pairs.proofs.cell_from.Tie as tie
 
@@ -22,8 +19,6 @@ returns c =
     }
 
 pub cell-from-spec : {M : Type 1} → statement M
-cell-from-spec =
-    tie.close
-    (tie.spec
+cell-from-spec = tie.close (tie.spec
     (λ c κs. search needs) (λ c. search needs) (λ c κs. search needs) (λ c. search needs) (λ c κs. search needs) (λ c. search needs)
     (λ c κs. search needs) (λ c. search needs) (λ c κs. search needs) (λ c. search needs) (λ c. search needs) returns)

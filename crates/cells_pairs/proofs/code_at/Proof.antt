@@ -1,10 +1,5 @@
 -- `cells_pairs::code_at` meets its contract.
--- Assumes nothing.
-use native.Mathlib.Omega.{arith}
-use mathlib.Core.Path.{ap}
-use Prim.Native.Nat.{ℕ, _+_, _-_, _*_}
-use lib.ListN.{getD}
-use borrow.Author.Needs.{needs}
+use Rattle.base.specs.{arith, ap, ℕ, _+_, _-_, _*_, getD, needs}
 use Rattle.cells_pairs.proofs.code_at.Statement.{statement}
 use Rattle.cells_pairs.proofs.code_at.Tie as tie
 
@@ -17,8 +12,7 @@ returns c =
     omega (arith, first, second, c .before .before .byte .ensures .0, c .byte2 .ensures .0)
 
 pub code-at-spec : {M : Type 1} → statement M
-code-at-spec =
-    tie.close
-    (tie.spec
-    (λ c κs. search needs) (λ c. search needs) (λ c. search needs) (λ c. search needs) (λ c. search needs) (λ c. search needs) (λ c. search needs)
-    (λ c κs. search needs) (λ c. search needs) (λ c. search needs) (λ c κs. search needs) (λ c. search needs) (λ c. search needs) returns)
+code-at-spec = tie.close (tie.spec
+    (λ c κs. search needs) (λ c. search needs) (λ c. search needs) (λ c. search needs) (λ c. search needs) (λ c. search needs)
+    (λ c. search needs) (λ c κs. search needs) (λ c. search needs) (λ c. search needs) (λ c κs. search needs) (λ c. search needs)
+    (λ c. search needs) returns)

@@ -1,13 +1,8 @@
 -- `cells_pairs::form` meets its contract. The invariant: the numbers of the first i roots are written. The measure is the number of lines left.
--- Assumes nothing.
-use Prim.Native.Nat.{_+_, _-_, _<_, _≤_}
-use native.Mathlib.Omega.{arith}
-use borrow.Author.Needs.{needs}
-use lib.ListN.{length, take, getD}
-use Rattle.model.specs.Base.{from, below}
-use Rattle.model.specs.Cells.{noCell, cellsOf}
-use Rattle.base_text.proofs.Progress.{Partly, begin, step, room, kept, end}
-use Rattle.cells_pairs.specs.Codes.{pinCodes, rootCodes, pairCodes}
+use Rattle.base.specs.{_+_, _-_, _<_, _≤_, arith, needs, length, take, getD}
+use Rattle.model.specs.{from, below, noCell, cellsOf}
+use Rattle.base_text.proofs.{Partly, begin, step, room, kept, end}
+use Rattle.cells_pairs.specs.{pinCodes, rootCodes, pairCodes}
 use Rattle.cells_pairs.proofs.Joining.{listed-pins, roots-begin, roots-next, roots-end}
 use Rattle.cells_pairs.proofs.form.Statement.{statement}
 use Rattle.cells_pairs.proofs.form.Tie as tie
@@ -71,8 +66,6 @@ returns c =
     end fits (c .before .loop .inv .1) (roots-end (s .args .lib) (s .pre .0) (c .before .loop .i) (c .loop-test .left))
 
 pub form-spec : {M : Type 1} → statement M
-form-spec =
-    tie.close
-    (tie.spec
-    Inv-loop μ-loop loop-holds mul-root array-copy-out-root (λ c. search needs) put-pins-requires (λ c. search needs) (λ c. omega arith) loop-again
-    same-length returns)
+form-spec = tie.close (tie.spec
+    Inv-loop μ-loop loop-holds mul-root array-copy-out-root (λ c. search needs) put-pins-requires (λ c. search needs) (λ c. omega arith)
+    loop-again same-length returns)

@@ -1,7 +1,6 @@
 -- `cells_pairs::join` meets its contract: each of the four by `join_pin`.
--- Assumes nothing.
-use borrow.Author.Needs.{needs}
-use Rattle.model.specs.Pairs.{pairDelays}
+use Rattle.base.specs.{needs}
+use Rattle.model.specs.{pairDelays}
 use Rattle.cells_pairs.proofs.Cells.{join-four, four-are}
 use Rattle.cells_pairs.proofs.join.Statement.{statement}
 use Rattle.cells_pairs.proofs.join.Tie as tie
@@ -15,7 +14,4 @@ returns c =
     (c .before .before .before .join-pin .ensures) (c .before .before .join-pin2 .ensures) (c .before .join-pin3 .ensures) (c .join-pin4 .ensures)
 
 pub join-spec : {M : Type 1} → statement M
-join-spec =
-    tie.close
-    (tie.spec
-    (λ c κs. search needs) (λ c κs. search needs) (λ c κs. search needs) (λ c κs. search needs) returns)
+join-spec = tie.close (tie.spec (λ c κs. search needs) (λ c κs. search needs) (λ c κs. search needs) (λ c κs. search needs) returns)

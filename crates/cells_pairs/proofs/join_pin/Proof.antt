@@ -1,7 +1,5 @@
 -- `cells_pairs::join_pin` meets its contract: before the inner's pins, among them, and after them.
--- Assumes nothing.
-use mathlib.Core.Path.{_∙_}
-use borrow.Author.Needs.{needs}
+use Rattle.base.specs.{_∙_, needs}
 use Rattle.cells_pairs.proofs.Cells.{join-before, join-inner, join-after}
 use Rattle.cells_pairs.proofs.join_pin.Statement.{statement}
 use Rattle.cells_pairs.proofs.join_pin.Tie as tie
@@ -25,9 +23,7 @@ returns-3 c =
     c .long2 .ensures ∙ join-after (a .pin) (a .n) (a .t3) (a .t4) (s .pre .0) (s .pre .1) (s .pre .2) (s .good .1 .1 .0 .1 .0 .1) (s .good .1 .1 .1 .0 .1 .0 .1) (a .j) (s .pre .3) (c .before .if2 .left)
 
 pub join-pin-spec : {M : Type 1} → statement M
-join-pin-spec =
-    tie.close
-    (tie.spec
+join-pin-spec = tie.close (tie.spec
     (λ c. search needs) (λ c. search needs) (λ c κs. search needs) returns (λ c. search needs) (λ c. search needs) (λ c. search needs)
     (λ c. search needs) (λ c. search needs) (λ c κs. search needs) returns-2 (λ c. search needs) (λ c. search needs) (λ c. search needs)
     (λ c. search needs) (λ c κs. search needs) returns-3)

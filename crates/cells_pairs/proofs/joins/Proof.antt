@@ -1,6 +1,5 @@
 -- `cells_pairs::joins` meets its contract, by its two tests.
--- Assumes nothing.
-use borrow.Author.Needs.{needs}
+use Rattle.base.specs.{needs}
 use Rattle.cells_pairs.proofs.Joining.{joins-pinless, joins-pinned}
 use Rattle.cells_pairs.proofs.joins.Statement.{statement}
 use Rattle.cells_pairs.proofs.joins.Tie as tie
@@ -12,6 +11,4 @@ returns-2 : tie.Need-returns-2
 returns-2 c = joins-pinned _ _ (c .before .before .if1 .left)
 
 pub joins-spec : {M : Type 1} → statement M
-joins-spec = tie.close
-    (tie.spec
-    returns (λ c. search needs) returns-2)
+joins-spec = tie.close (tie.spec returns (λ c. search needs) returns-2)

@@ -1,8 +1,6 @@
 -- `cells_pairs::listed` meets its contract.
--- Assumes nothing.
-use mathlib.Core.Path.{sym}
-use borrow.Author.Needs.{needs}
-use Rattle.model.specs.Cells.{cellsOf}
+use Rattle.base.specs.{sym, needs}
+use Rattle.model.specs.{cellsOf}
 use Rattle.cells_pairs.proofs.Joining.{listed-is}
 use Rattle.cells_pairs.proofs.listed.Statement.{statement}
 use Rattle.cells_pairs.proofs.listed.Tie as tie
@@ -12,6 +10,4 @@ unfolding cellsOf
 returns c = let s = c .before .before in sym (listed-is (s .args .lib) (s .pre .0) (s .args .k) (s .pre .1))
 
 pub listed-spec : {M : Type 1} → statement M
-listed-spec = tie.close
-    (tie.spec
-    (λ c. search needs) (λ c. search needs) returns)
+listed-spec = tie.close (tie.spec (λ c. search needs) (λ c. search needs) returns)

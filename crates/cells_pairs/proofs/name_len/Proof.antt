@@ -1,9 +1,5 @@
 -- `cells_pairs::name_len` meets its contract: all eight bytes are taken by eight, and by more.
--- Assumes nothing.
-use mathlib.Core.Path.{refl, sym, _∙_}
-use native.Mathlib.Nat.{min-eq-left, min-eq-right}
-use native.Mathlib.Omega.{arith}
-use lib.Seq.{take-all}
+use Rattle.base.specs.{refl, sym, _∙_, min-eq-left, min-eq-right, arith, take-all}
 use Rattle.cells_pairs.proofs.name_len.Statement.{statement}
 use Rattle.cells_pairs.proofs.name_len.Tie as tie
 

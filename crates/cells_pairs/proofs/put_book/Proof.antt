@@ -1,17 +1,9 @@
 -- `cells_pairs::put_book` meets its contract: the listed cells, then the pairs' numbers. 833 bytes hold 32 cells and 224 pairs, and fewer cells with more pairs.
--- Assumes nothing.
-use mathlib.Core.Path.{refl, sym}
-use mathlib.Core.List.{List, [], append-nil}
-use Prim.Native.Nat.{ℕ, _+_, _≤_}
-use native.Mathlib.Omega.{arith}
-use borrow.Author.Needs.{needs}
-use lib.ListN.{length, length-append}
-use Rattle.model.specs.Base.{each}
-use Rattle.model.specs.Cells.{cellsOf}
+use Rattle.base.specs.{refl, sym, List, [], append-nil, ℕ, _+_, _≤_, arith, needs, length, length-append}
+use Rattle.model.specs.{each, cellsOf}
 use Rattle.model.specs.declared.Library.{Library}
-use Rattle.base_text.proofs.Progress.{Partly, begin, step, room, finish}
-use Rattle.cells_pairs.specs.Codes.{Coded}
-use Rattle.cells_pairs.specs.Bytes.{codeBytes, listedBytes, bookOf}
+use Rattle.base_text.proofs.{Partly, begin, step, room, finish}
+use Rattle.cells_pairs.specs.{Coded, codeBytes, listedBytes, bookOf}
 use Rattle.cells_pairs.proofs.Looking.{listed-length, codes-length}
 use Rattle.cells_pairs.proofs.put_book.Statement.{statement}
 use Rattle.cells_pairs.proofs.put_book.Tie as tie
@@ -45,6 +37,4 @@ returns c =
     finish (fits (s .args .lib) (s .args .codes .now) (s .pre .0) (s .args .book .now) (s .pre .1)) (one q) (c .before .before .put-codes .ensures)
 
 pub put-book-spec : {M : Type 1} → statement M
-put-book-spec = tie.close
-    (tie.spec
-    (λ c κs. search needs) put-codes-requires (λ c. search needs) returns)
+put-book-spec = tie.close (tie.spec (λ c κs. search needs) put-codes-requires (λ c. search needs) returns)

@@ -1,16 +1,9 @@
 -- `cells_pairs::put_cell` meets its contract: the name, which is an array of eight bytes, and four figures.
--- Assumes nothing.
-use mathlib.Core.Path.{_≡_, refl, sym, ap, _∙_}
-use mathlib.Core.List.{List, _∷_, [], append-nil}
-use Prim.Native.Nat.{ℕ, _%_, _/_}
-use native.Mathlib.Omega.{arith}
-use lib.ListN.{length, take}
-use lib.Seq.{length-take-le}
-use Rattle.model.specs.Cells.{nameOf}
-use Rattle.base_text.proofs.Progress.{Partly, begin, step, room, finish}
-use Rattle.cells_pairs.specs.Bytes.{cellBytes}
+use Rattle.base.specs.{_≡_, refl, sym, ap, _∙_, List, _∷_, [], append-nil, ℕ, _%_, _/_, arith, length, take, length-take-le, needs}
+use Rattle.model.specs.{nameOf}
+use Rattle.base_text.proofs.{Partly, begin, step, room, finish}
+use Rattle.cells_pairs.specs.{cellBytes}
 use Rattle.cells_pairs.proofs.Looking.{cell-is, cell-bytes-length}
-use borrow.Author.Needs.{needs}
 use Rattle.cells_pairs.proofs.put_cell.Statement.{statement}
 use Rattle.cells_pairs.proofs.put_cell.Tie as tie
 
@@ -54,8 +47,6 @@ returns c =
     finish (s .pre .1) (named n) (c .before .before .put-bytes2 .ensures)
 
 pub put-cell-spec : {M : Type 1} → statement M
-put-cell-spec =
-    tie.close
-    (tie.spec
-    (λ c. search needs) put-bytes-requires (λ c κs. search needs) (λ c. search needs) (λ c. search needs) (λ c. search needs) (λ c. search needs)
-    (λ c. search needs) put-bytes-requires-2 (λ c. search needs) returns)
+put-cell-spec = tie.close (tie.spec
+    (λ c. search needs) put-bytes-requires (λ c κs. search needs) (λ c. search needs) (λ c. search needs) (λ c. search needs)
+    (λ c. search needs) (λ c. search needs) put-bytes-requires-2 (λ c. search needs) returns)

@@ -1,20 +1,11 @@
 -- `cells_pairs::put_cells` meets its contract. The invariant: the cells before line i are written. The measure is the number of lines left.
--- Assumes nothing.
-use mathlib.Core.Path.{_≡_, refl, ap, _∙_}
-use mathlib.Core.List.{_++_}
-use Prim.Native.Nat.{ℕ, _+_, _-_, _≤_, _<_}
-use native.Mathlib.Omega.{arith}
-use borrow.Author.Needs.{needs}
-use lib.ListN.{take, drop, getD}
-use lib.Seq.{getD-take}
-use Rattle.model.specs.Base.{each}
-use Rattle.model.specs.Cells.{noCell, cellsOf}
+use Rattle.base.specs.{_≡_, refl, ap, _∙_, _++_, ℕ, _+_, _-_, _≤_, _<_, arith, needs, take, drop, getD, getD-take}
+use Rattle.model.specs.{each, noCell, cellsOf}
 use Rattle.model.specs.declared.Cell.{Cell}
 use Rattle.model.specs.declared.Library.{Library}
-use Rattle.base_text.proofs.Progress.{Partly, begin, step, room, kept, end}
-use Rattle.cells_pairs.specs.Codes.{Joinable}
+use Rattle.base_text.proofs.{Partly, begin, step, room, kept, end}
+use Rattle.cells_pairs.specs.{Joinable, cellBytes}
 use Rattle.cells_pairs.proofs.Joining.{listed-pins}
-use Rattle.cells_pairs.specs.Bytes.{cellBytes}
 use Rattle.cells_pairs.proofs.Looking.{next-cell, no-cell}
 use Rattle.cells_pairs.proofs.put_cells.Statement.{statement}
 use Rattle.cells_pairs.proofs.put_cells.Tie as tie
@@ -74,7 +65,6 @@ returns c =
     end (s .pre .1) (c .before .loop .inv .1) (no-cell (take (s .args .lib .n) (s .args .lib .cells)) (c .before .loop .i) (omega (arith, s .pre .0 .whole, c .loop-test .left)))
 
 pub put-cells-spec : {M : Type 1} → statement M
-put-cells-spec =
-    tie.close
-    (tie.spec
-    Inv-loop μ-loop loop-holds mul-c array-copy-out-c put-cell-requires (λ c. search needs) (λ c. omega arith) loop-again same-length returns)
+put-cells-spec = tie.close (tie.spec
+    Inv-loop μ-loop loop-holds mul-c array-copy-out-c put-cell-requires (λ c. search needs) (λ c. omega arith) loop-again same-length
+    returns)

@@ -1,14 +1,8 @@
 -- `cells_pairs::put_code` meets its contract: one number is put, or none.
--- Assumes nothing.
-use mathlib.Core.Path.{sym, ap, _∙_}
-use mathlib.Core.List.{List}
-use Prim.Native.Nat.{ℕ, _+_, _<_}
-use native.Mathlib.Omega.{arith}
-use borrow.Author.Needs.{needs}
-use lib.ListN.{length}
-use Rattle.base_words.specs.Put.{putAt}
-use Rattle.base_words.proofs.Putting.{put-one}
-use Rattle.base_text.proofs.Progress.{idle}
+use Rattle.base.specs.{sym, ap, _∙_, List, ℕ, _+_, _<_, arith, needs, length}
+use Rattle.base_words.specs.{putAt}
+use Rattle.base_words.proofs.{put-one}
+use Rattle.base_text.proofs.{idle}
 use Rattle.cells_pairs.proofs.Joining.{code-one, code-none}
 use Rattle.cells_pairs.proofs.put_code.Statement.{statement}
 use Rattle.cells_pairs.proofs.put_code.Tie as tie
@@ -34,7 +28,6 @@ returns-2 c =
     idle (s .args .codes .now) (s .args .at) (code-none (s .args .root) (s .args .inner) (s .args .k) (sym (c .if1 .left) ∙ c .before .joins .ensures))
 
 pub put-code-spec : {M : Type 1} → statement M
-put-code-spec =
-    tie.close
-    (tie.spec
-    (λ c κs. search needs) (λ c. search needs) (λ c. search needs) slice-write-codes (λ c. search needs) (λ c. search needs) returns returns-2)
+put-code-spec = tie.close (tie.spec
+    (λ c κs. search needs) (λ c. search needs) (λ c. search needs) slice-write-codes (λ c. search needs) (λ c. search needs) returns
+    returns-2)

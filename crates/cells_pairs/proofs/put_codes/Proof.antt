@@ -1,13 +1,8 @@
 -- `cells_pairs::put_codes` meets its contract. The invariant: the numbers before number i are written. The measure is how many are left.
--- Assumes nothing.
-use mathlib.Core.Path.{refl}
-use Prim.Native.Nat.{_+_, _-_, _≤_, _<_}
-use native.Mathlib.Omega.{arith}
-use borrow.Author.Needs.{needs}
-use lib.ListN.{length, drop, getD}
-use Rattle.model.specs.Base.{each}
-use Rattle.base_text.proofs.Progress.{Partly, begin, step, room, kept, end}
-use Rattle.cells_pairs.specs.Bytes.{codeBytes}
+use Rattle.base.specs.{refl, _+_, _-_, _≤_, _<_, arith, needs, length, drop, getD}
+use Rattle.model.specs.{each}
+use Rattle.base_text.proofs.{Partly, begin, step, room, kept, end}
+use Rattle.cells_pairs.specs.{codeBytes}
 use Rattle.cells_pairs.proofs.Looking.{next-code, no-code}
 use Rattle.cells_pairs.proofs.put_codes.Statement.{statement}
 use Rattle.cells_pairs.proofs.put_codes.Tie as tie
@@ -44,8 +39,6 @@ returns : tie.Need-returns Inv-loop μ-loop
 returns c = end (c .before .before .before .before .pre) (c .before .loop .inv .1) (no-code (c .before .before .before .before .args .codes .now) (c .before .loop .i) (c .loop-test .left))
 
 pub put-codes-spec : {M : Type 1} → statement M
-put-codes-spec =
-    tie.close
-    (tie.spec
+put-codes-spec = tie.close (tie.spec
     Inv-loop μ-loop loop-holds (λ c. search needs) (λ c. search needs) put-pair-requires (λ c. search needs) (λ c. omega arith) loop-again
     same-length returns)

@@ -1,13 +1,8 @@
 -- `cells_pairs::put_inners` meets its contract. The invariant: the numbers of the first j inner lines are written. The measure is the number of lines left.
--- Assumes nothing.
-use Prim.Native.Nat.{_+_, _-_, _<_, _≤_}
-use native.Mathlib.Omega.{arith}
-use borrow.Author.Needs.{needs}
-use lib.ListN.{length, take, getD}
-use Rattle.model.specs.Base.{from, below}
-use Rattle.model.specs.Cells.{noCell, cellsOf}
-use Rattle.base_text.proofs.Progress.{Partly, begin, step, room, kept, end}
-use Rattle.cells_pairs.specs.Codes.{codeOf, codeFor, innerCodes}
+use Rattle.base.specs.{_+_, _-_, _<_, _≤_, arith, needs, length, take, getD}
+use Rattle.model.specs.{from, below, noCell, cellsOf}
+use Rattle.base_text.proofs.{Partly, begin, step, room, kept, end}
+use Rattle.cells_pairs.specs.{codeOf, codeFor, innerCodes}
 use Rattle.cells_pairs.proofs.Joining.{listed-pins, inner-begin, inner-next, inner-end}
 use Rattle.cells_pairs.proofs.put_inners.Statement.{statement}
 use Rattle.cells_pairs.proofs.put_inners.Tie as tie
@@ -89,8 +84,6 @@ returns c =
     end (s .pre .3) (c .before .loop .inv .1) (inner-end (s .args .lib) (s .pre .0) (s .args .i) (s .args .p) (c .before .loop .j) (c .loop-test .left))
 
 pub put-inners-spec : {M : Type 1} → statement M
-put-inners-spec =
-    tie.close
-    (tie.spec
-    Inv-loop μ-loop mul-root array-copy-out-root loop-holds mul-inner array-copy-out-inner mul-put-code mul-put-code-2 add-put-code add-put-code-2
-    put-code-requires (λ c. search needs) (λ c. omega arith) loop-again same-length returns)
+put-inners-spec = tie.close (tie.spec
+    Inv-loop μ-loop mul-root array-copy-out-root loop-holds mul-inner array-copy-out-inner mul-put-code mul-put-code-2 add-put-code
+    add-put-code-2 put-code-requires (λ c. search needs) (λ c. omega arith) loop-again same-length returns)

@@ -1,17 +1,9 @@
 -- `cells_pairs::put_listed` meets its contract: how many there are, then each.
--- Assumes nothing.
-use mathlib.Core.Path.{refl, sym, ap}
-use mathlib.Core.List.{List, [], _∷_, append-nil}
-use Prim.Native.Nat.{ℕ, _+_, _≤_}
-use native.Mathlib.Omega.{arith}
-use borrow.Author.Needs.{needs}
-use lib.ListN.{length}
-use Rattle.model.specs.Base.{each}
-use Rattle.model.specs.Cells.{cellsOf}
+use Rattle.base.specs.{refl, sym, ap, List, [], _∷_, append-nil, ℕ, _+_, _≤_, arith, needs, length}
+use Rattle.model.specs.{each, cellsOf}
 use Rattle.model.specs.declared.Library.{Library}
-use Rattle.base_text.proofs.Progress.{Partly, begin, step, room, finish}
-use Rattle.cells_pairs.specs.Codes.{Joinable}
-use Rattle.cells_pairs.specs.Bytes.{cellBytes, listedBytes}
+use Rattle.base_text.proofs.{Partly, begin, step, room, finish}
+use Rattle.cells_pairs.specs.{Joinable, cellBytes, listedBytes}
 use Rattle.cells_pairs.proofs.Looking.{listed-length}
 use Rattle.cells_pairs.proofs.put_listed.Statement.{statement}
 use Rattle.cells_pairs.proofs.put_listed.Tie as tie
@@ -42,7 +34,4 @@ returns c =
     finish (fits (s .args .lib) (s .pre .0) (s .args .book .now) (s .pre .1)) (one q) (c .before .before .put-cells .ensures)
 
 pub put-listed-spec : {M : Type 1} → statement M
-put-listed-spec =
-    tie.close
-    (tie.spec
-    (λ c. search needs) (λ c κs. search needs) put-cells-requires (λ c. search needs) returns)
+put-listed-spec = tie.close (tie.spec (λ c. search needs) (λ c κs. search needs) put-cells-requires (λ c. search needs) returns)

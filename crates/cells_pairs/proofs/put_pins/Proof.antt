@@ -1,13 +1,8 @@
 -- `cells_pairs::put_pins` meets its contract. The invariant: the numbers of the first p pins are written. The measure is the number of pins left.
--- Assumes nothing.
-use Prim.Native.Nat.{ℕ, _+_, _-_, _<_, _≤_}
-use native.Mathlib.Omega.{arith}
-use borrow.Author.Needs.{needs}
-use lib.ListN.{length}
-use Rattle.model.specs.Base.{from, below}
-use Rattle.model.specs.Cells.{cellsOf}
-use Rattle.base_text.proofs.Progress.{Partly, begin, step, room, kept, end}
-use Rattle.cells_pairs.specs.Codes.{innerCodes, pinCodes}
+use Rattle.base.specs.{ℕ, _+_, _-_, _<_, _≤_, arith, needs, length}
+use Rattle.model.specs.{from, below, cellsOf}
+use Rattle.base_text.proofs.{Partly, begin, step, room, kept, end}
+use Rattle.cells_pairs.specs.{innerCodes, pinCodes}
 use Rattle.cells_pairs.proofs.Joining.{each-begin, each-next, each-none}
 use Rattle.cells_pairs.proofs.put_pins.Statement.{statement}
 use Rattle.cells_pairs.proofs.put_pins.Tie as tie
@@ -64,7 +59,5 @@ returns c =
     end (s .pre .3) (c .before .loop .inv .1) (each-none (λ (q : ℕ). innerCodes (cellsOf (a .lib)) (a .i) q (below (length (cellsOf (a .lib))))) (c .before .loop .p) (a .pins) (c .loop-test .left))
 
 pub put-pins-spec : {M : Type 1} → statement M
-put-pins-spec =
-    tie.close
-    (tie.spec
+put-pins-spec = tie.close (tie.spec
     Inv-loop μ-loop loop-holds put-inners-requires (λ c. search needs) (λ c. omega arith) loop-again same-length returns)

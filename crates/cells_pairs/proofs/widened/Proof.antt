@@ -1,6 +1,5 @@
 -- `cells_pairs::widened` meets its contract: each of the four as it is.
--- Assumes nothing.
-use borrow.Author.Needs.{needs}
+use Rattle.base.specs.{needs}
 use Rattle.cells_pairs.proofs.Cells.{four-are}
 use Rattle.cells_pairs.proofs.widened.Statement.{statement}
 use Rattle.cells_pairs.proofs.widened.Tie as tie
@@ -11,8 +10,6 @@ returns c =
     four-are (s .args .t1) _ _ _ _ (s .good .0 .1 .0 .1) (c .before .before .before .long .ensures) (c .before .before .long2 .ensures) (c .before .long3 .ensures) (c .long4 .ensures)
 
 pub widened-spec : {M : Type 1} → statement M
-widened-spec =
-    tie.close
-    (tie.spec
+widened-spec = tie.close (tie.spec
     (λ c. search needs) (λ c κs. search needs) (λ c. search needs) (λ c κs. search needs) (λ c. search needs) (λ c κs. search needs)
     (λ c. search needs) (λ c κs. search needs) returns)

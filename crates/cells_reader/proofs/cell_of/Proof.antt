@@ -1,6 +1,6 @@
--- `cells_reader::cell_of` meets its contract, by that of `name_bytes`. Assumes nothing.
-use borrow.Author.Needs.{needs}
-use Rattle.cells_reader.specs.Reading.{lineCell}
+-- `cells_reader::cell_of` meets its contract, by that of `name_bytes`.
+use Rattle.base.specs.{needs}
+use Rattle.cells_reader.specs.{lineCell}
 use Rattle.cells_reader.proofs.cell_of.Statement.{statement}
 use Rattle.cells_reader.proofs.cell_of.Tie as tie
 

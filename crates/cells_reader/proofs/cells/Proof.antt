@@ -1,17 +1,10 @@
 -- `cells_reader::cells` meets its contract. The invariant: the cells so far and what the lines from here on give are what the text gives, and the library holds its cells and nothing else; the measure is the room that is left.
--- Assumes nothing.
-use borrow.Author.Needs.{needs}
-use mathlib.Core.Path.{_≡_, sym, ap, _∙_, subst}
-use Prim.Native.Nat.{_-_, _≤_}
-use native.Mathlib.Omega.{arith}
-use mathlib.Core.List.{[]}
-use lib.ListN.{length, drop}
-use Rattle.model.specs.Text.{linesFrom}
-use Rattle.model.specs.Cells.{libraryOf, libraryAnswer}
-use Rattle.model.specs.LibraryText.{readCells}
+use Rattle.base.specs.{needs, _≡_, sym, ap, _∙_, subst, _-_, _≤_, arith, [], length, drop}
+use Rattle.model.specs.{linesFrom, libraryOf, libraryAnswer, readCells}
 use Rattle.model.specs.declared.Library.{Library}
 use Rattle.model.specs.declared.Verdict.the-variants.{Accepted}
-use Rattle.cells_reader.proofs.Turns.{soFar, so-far-first, so-far-last, so-far-stop, so-far-added, added-room, added-length, Tidy, tidy-first, tidy-added, judged-cell, part-from, part-to, part-short}
+use Rattle.cells_reader.proofs.Turns.{soFar, so-far-first, so-far-last, so-far-stop, so-far-added, added-room, added-length, Tidy}
+use Rattle.cells_reader.proofs.Turns.{tidy-first, tidy-added, judged-cell, part-from, part-to, part-short}
 use Rattle.cells_reader.proofs.cells.Statement.{statement}
 use Rattle.cells_reader.proofs.cells.Tie as tie
 

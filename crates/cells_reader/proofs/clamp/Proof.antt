@@ -1,5 +1,5 @@
--- `cells_reader::clamp` meets its contract. Assumes nothing.
-use borrow.Author.Tests.{lt-ltb, le-ltb}
+-- `cells_reader::clamp` meets its contract.
+use Rattle.base.specs.{lt-ltb, le-ltb}
 use Rattle.cells_reader.proofs.clamp.Statement.{statement}
 use Rattle.cells_reader.proofs.clamp.Tie as tie
 

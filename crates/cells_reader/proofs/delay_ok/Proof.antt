@@ -1,5 +1,5 @@
--- `cells_reader::delay_ok` meets its contract. Assumes nothing.
-use borrow.Author.Tests.{lt-ltb, le-ltb, eq-eqb, ne-eqb}
+-- `cells_reader::delay_ok` meets its contract.
+use Rattle.base.specs.{lt-ltb, le-ltb, eq-eqb, ne-eqb}
 use Rattle.cells_reader.proofs.delay_ok.Statement.{statement}
 use Rattle.cells_reader.proofs.delay_ok.Tie as tie
 

@@ -1,8 +1,6 @@
--- `cells_reader::delays_ok` meets its contract, which is composed of those of `delay_ok`. Assumes nothing.
-use borrow.Author.Needs.{needs}
-use mathlib.Core.Path.{sym, _∙_}
-use borrow.Author.Tests.{not-true, not-false}
-use Rattle.cells_reader.specs.Reading.{delaysOk}
+-- `cells_reader::delays_ok` meets its contract, which is composed of those of `delay_ok`.
+use Rattle.base.specs.{needs, sym, _∙_, not-true, not-false}
+use Rattle.cells_reader.specs.{delaysOk}
 use Rattle.cells_reader.proofs.delays_ok.Statement.{statement}
 use Rattle.cells_reader.proofs.delays_ok.Tie as tie
 

@@ -1,6 +1,6 @@
--- `cells_reader::empty` meets its contract: 32 blank cells. Assumes nothing.
-use mathlib.Core.Path.{refl}
-use Rattle.model.specs.Cells.{libraryOf}
+-- `cells_reader::empty` meets its contract: 32 blank cells.
+use Rattle.base.specs.{refl}
+use Rattle.model.specs.{libraryOf}
 use Rattle.cells_reader.proofs.empty.Statement.{statement}
 use Rattle.cells_reader.proofs.empty.Tie as tie
 

@@ -1,6 +1,5 @@
--- `cells_reader::in_range` meets its contract, pin by pin. Assumes nothing.
-use mathlib.Core.Path.{sym, _∙_}
-use borrow.Author.Tests.{le-leb, lt-leb}
+-- `cells_reader::in_range` meets its contract, pin by pin.
+use Rattle.base.specs.{sym, _∙_, le-leb, lt-leb}
 use Rattle.cells_reader.proofs.Judging.{range-is}
 use Rattle.cells_reader.proofs.in_range.Statement.{statement}
 use Rattle.cells_reader.proofs.in_range.Tie as tie

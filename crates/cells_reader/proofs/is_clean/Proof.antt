@@ -1,8 +1,5 @@
--- `cells_reader::is_clean` meets its contract, by the limit of the tables and the delays one by one. Assumes nothing.
-use borrow.Author.Needs.{needs}
-use mathlib.Core.Path.{sym, _∙_}
-use native.Mathlib.Omega.{arith}
-use borrow.Author.Tests.{not-true, not-false}
+-- `cells_reader::is_clean` meets its contract, by the limit of the tables and the delays one by one.
+use Rattle.base.specs.{needs, sym, _∙_, arith, not-true, not-false}
 use Rattle.cells_reader.proofs.Judging.{clean-table, clean-delays}
 use Rattle.cells_reader.proofs.is_clean.Statement.{statement}
 use Rattle.cells_reader.proofs.is_clean.Tie as tie

@@ -1,10 +1,8 @@
--- `cells_reader::is_ranged` meets its contract: the contents of the first line. Assumes nothing.
-use mathlib.Core.Path.{sym, _∙_}
-use lib.Seq.{length-take-le}
-use Rattle.model.specs.Text.{text}
-use Rattle.cells_reader.specs.Reading.{longerLine}
+-- `cells_reader::is_ranged` meets its contract: the contents of the first line.
+use Rattle.base.specs.{sym, _∙_, length-take-le, needs}
+use Rattle.model.specs.{text}
+use Rattle.cells_reader.specs.{longerLine}
 use Rattle.cells_reader.proofs.First.{first-fits, names-ranged}
-use borrow.Author.Needs.{needs}
 use Rattle.cells_reader.proofs.is_ranged.Statement.{statement}
 use Rattle.cells_reader.proofs.is_ranged.Tie as tie
 

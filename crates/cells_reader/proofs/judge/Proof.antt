@@ -1,10 +1,6 @@
 -- `cells_reader::judge` meets its contract: each return knows the tests that led there. A name is a part of the text, of at most eight bytes.
--- Assumes nothing.
-use borrow.Author.Needs.{needs}
-use mathlib.Core.Path.{sym, _∙_}
-use native.Mathlib.Omega.{arith}
-use borrow.Author.Tests.{lt-ltb, le-ltb}
-use Rattle.cells_reader.specs.Reading.{judgedAt}
+use Rattle.base.specs.{needs, sym, _∙_, arith, lt-ltb, le-ltb}
+use Rattle.cells_reader.specs.{judgedAt}
 use Rattle.cells_reader.proofs.Turns.{part-from, part-to, pins-few}
 use Rattle.cells_reader.proofs.judge.Statement.{statement}
 use Rattle.cells_reader.proofs.judge.Tie as tie

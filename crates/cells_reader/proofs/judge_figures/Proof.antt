@@ -1,8 +1,6 @@
--- `cells_reader::judge_figures` meets its contract: each return knows the tests that led there. Assumes nothing.
-use borrow.Author.Needs.{needs}
-use mathlib.Core.Path.{sym, _∙_}
-use borrow.Author.Tests.{not-true, not-false}
-use Rattle.cells_reader.specs.Reading.{figuresJudged}
+-- `cells_reader::judge_figures` meets its contract: each return knows the tests that led there.
+use Rattle.base.specs.{needs, sym, _∙_, not-true, not-false}
+use Rattle.cells_reader.specs.{figuresJudged}
 use Rattle.cells_reader.proofs.judge_figures.Statement.{statement}
 use Rattle.cells_reader.proofs.judge_figures.Tie as tie
 

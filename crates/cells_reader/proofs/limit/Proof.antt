@@ -1,5 +1,5 @@
--- `cells_reader::limit` meets its contract: the shifts stay below their widths. Assumes nothing.
-use borrow.Author.Needs.{needs}
+-- `cells_reader::limit` meets its contract: the shifts stay below their widths.
+use Rattle.base.specs.{needs}
 use Rattle.cells_reader.proofs.Judging.{shift-fits, limit-is}
 use Rattle.cells_reader.proofs.limit.Statement.{statement}
 use Rattle.cells_reader.proofs.limit.Tie as tie

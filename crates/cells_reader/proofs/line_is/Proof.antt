@@ -1,9 +1,6 @@
--- `cells_reader::line_is` meets its contract: a line that has its end, and the part of the text that is its contents. Assumes nothing.
-use borrow.Author.Tests.{lt-ltb, le-ltb}
-use mathlib.Core.Path.{sym}
-use lib.Seq.{length-take-le}
-use Rattle.cells_reader.specs.Reading.{isLine}
-use borrow.Author.Needs.{needs}
+-- `cells_reader::line_is` meets its contract: a line that has its end, and the part of the text that is its contents.
+use Rattle.base.specs.{lt-ltb, le-ltb, sym, length-take-le, needs}
+use Rattle.cells_reader.specs.{isLine}
 use Rattle.cells_reader.proofs.line_is.Statement.{statement}
 use Rattle.cells_reader.proofs.line_is.Tie as tie
 

@@ -1,11 +1,6 @@
--- `cells_reader::name_is` meets its contract: an array has eight bytes, so no name is longer. Assumes nothing.
-use borrow.Author.Needs.{needs}
-use mathlib.Core.Path.{_≡_, sym, ap, _∙_}
-use native.Mathlib.Omega.{arith}
-use Prim.Native.Nat.{ℕ}
-use lib.ListN.{length, take}
-use lib.Seq.{length-take-le}
-use Rattle.model.specs.Base.{same}
+-- `cells_reader::name_is` meets its contract: an array has eight bytes, so no name is longer.
+use Rattle.base.specs.{needs, _≡_, sym, ap, _∙_, arith, ℕ, length, take, length-take-le}
+use Rattle.model.specs.{same}
 use Rattle.cells_reader.proofs.Judging.{clamped-le, clamped-take}
 use Rattle.cells_reader.proofs.name_is.Statement.{statement}
 use Rattle.cells_reader.proofs.name_is.Tie as tie

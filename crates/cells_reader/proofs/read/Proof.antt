@@ -1,11 +1,9 @@
--- `cells_reader::read` meets its contract: one of the two names lines, and then the cell lines from where the next line begins. Assumes nothing.
-use mathlib.Core.Path.{sym, ap, _∙_}
-use Rattle.model.specs.Text.{text}
-use Rattle.model.specs.Cells.{libraryAnswer}
-use Rattle.model.proofs.Answers.{library-ruled}
-use Rattle.cells_reader.specs.Reading.{shorterLine, longerLine}
+-- `cells_reader::read` meets its contract: one of the two names lines, and then the cell lines from where the next line begins.
+use Rattle.base.specs.{sym, ap, _∙_, needs}
+use Rattle.model.specs.{text, libraryAnswer}
+use Rattle.model.proofs.{library-ruled}
+use Rattle.cells_reader.specs.{shorterLine, longerLine}
 use Rattle.cells_reader.proofs.First.{first-fits, names-not, names-shorter, names-longer}
-use borrow.Author.Needs.{needs}
 use Rattle.cells_reader.proofs.read.Statement.{statement}
 use Rattle.cells_reader.proofs.read.Tie as tie
 

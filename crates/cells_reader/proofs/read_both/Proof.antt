@@ -1,7 +1,6 @@
--- `cells_reader::read_both` meets its contract: each return knows what the reads that led there found. Assumes nothing.
-use mathlib.Core.Path.{sym, _∙_}
-use Rattle.cells_reader.specs.Reading.{bothAt}
-use borrow.Author.Needs.{needs}
+-- `cells_reader::read_both` meets its contract: each return knows what the reads that led there found.
+use Rattle.base.specs.{sym, _∙_, needs}
+use Rattle.cells_reader.specs.{bothAt}
 use Rattle.cells_reader.proofs.read_both.Statement.{statement}
 use Rattle.cells_reader.proofs.read_both.Tie as tie
 

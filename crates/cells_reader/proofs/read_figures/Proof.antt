@@ -1,8 +1,6 @@
--- `cells_reader::read_figures` meets its contract: each return knows what the reads that led there found. Assumes nothing.
-use borrow.Author.Needs.{needs}
-use mathlib.Core.Path.{sym, _∙_}
-use borrow.Author.Tests.{le-leb, lt-leb}
-use Rattle.cells_reader.specs.Reading.{figuresAt}
+-- `cells_reader::read_figures` meets its contract: each return knows what the reads that led there found.
+use Rattle.base.specs.{needs, sym, _∙_, le-leb, lt-leb}
+use Rattle.cells_reader.specs.{figuresAt}
 use Rattle.cells_reader.proofs.read_figures.Statement.{statement}
 use Rattle.cells_reader.proofs.read_figures.Tie as tie
 

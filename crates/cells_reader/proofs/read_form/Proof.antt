@@ -1,7 +1,6 @@
--- `cells_reader::read_form` meets its contract: each return knows what the reads that led there found. Assumes nothing.
-use borrow.Author.Needs.{needs}
-use mathlib.Core.Path.{sym, _∙_}
-use Rattle.cells_reader.specs.Reading.{formAt}
+-- `cells_reader::read_form` meets its contract: each return knows what the reads that led there found.
+use Rattle.base.specs.{needs, sym, _∙_}
+use Rattle.cells_reader.specs.{formAt}
 use Rattle.cells_reader.proofs.read_form.Statement.{statement}
 use Rattle.cells_reader.proofs.read_form.Tie as tie
 

@@ -1,7 +1,6 @@
--- `cells_reader::read_head` meets its contract: each return knows what the reads that led there found. Assumes nothing.
-use borrow.Author.Needs.{needs}
-use mathlib.Core.Path.{sym, _∙_}
-use Rattle.cells_reader.specs.Reading.{headAt}
+-- `cells_reader::read_head` meets its contract: each return knows what the reads that led there found.
+use Rattle.base.specs.{needs, sym, _∙_}
+use Rattle.cells_reader.specs.{headAt}
 use Rattle.cells_reader.proofs.read_head.Statement.{statement}
 use Rattle.cells_reader.proofs.read_head.Tie as tie
 

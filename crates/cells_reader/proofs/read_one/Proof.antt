@@ -1,7 +1,6 @@
--- `cells_reader::read_one` meets its contract: each return knows what the read that led there found. Assumes nothing.
-use mathlib.Core.Path.{sym, _∙_}
-use Rattle.cells_reader.specs.Reading.{oneAt}
-use borrow.Author.Needs.{needs}
+-- `cells_reader::read_one` meets its contract: each return knows what the read that led there found.
+use Rattle.base.specs.{sym, _∙_, needs}
+use Rattle.cells_reader.specs.{oneAt}
 use Rattle.cells_reader.proofs.read_one.Statement.{statement}
 use Rattle.cells_reader.proofs.read_one.Tie as tie
 

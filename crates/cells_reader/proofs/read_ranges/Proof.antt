@@ -1,5 +1,5 @@
--- `cells_reader::read_ranges` meets its contract, by the form that is due. Assumes nothing.
-use borrow.Author.Needs.{needs}
+-- `cells_reader::read_ranges` meets its contract, by the form that is due.
+use Rattle.base.specs.{needs}
 use Rattle.cells_reader.proofs.read_ranges.Statement.{statement}
 use Rattle.cells_reader.proofs.read_ranges.Tie as tie
 

@@ -1,6 +1,6 @@
--- `cells_reader::refused` meets its contract. Assumes nothing.
-use borrow.Author.Needs.{needs}
-use Rattle.model.specs.Cells.{libraryAnswer}
+-- `cells_reader::refused` meets its contract.
+use Rattle.base.specs.{needs}
+use Rattle.model.specs.{libraryAnswer}
 use Rattle.cells_reader.proofs.refused.Statement.{statement}
 use Rattle.cells_reader.proofs.refused.Tie as tie
 

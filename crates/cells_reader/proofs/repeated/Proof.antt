@@ -1,12 +1,7 @@
 -- `cells_reader::repeated` meets its contract. The invariant: none of the first i cells has the name; the measure is what is left.
--- Assumes nothing.
-use borrow.Author.Needs.{needs}
-use mathlib.Core.Path.{_≡_, sym, ap, _∙_}
-use Prim.Native.Nat.{_+_, _-_, _≤_}
-use native.Mathlib.Omega.{arith}
-use mathlib.Core.Bool.{false}
-use Rattle.model.specs.Cells.{nameOf}
-use Rattle.cells_reader.specs.Reading.{isRepeated}
+use Rattle.base.specs.{needs, _≡_, sym, ap, _∙_, _+_, _-_, _≤_, arith, false}
+use Rattle.model.specs.{nameOf}
+use Rattle.cells_reader.specs.{isRepeated}
 use Rattle.cells_reader.proofs.Judging.{repeated-none, repeated-step, repeated-more}
 use Rattle.cells_reader.proofs.repeated.Statement.{statement}
 use Rattle.cells_reader.proofs.repeated.Tie as tie

@@ -1,9 +1,5 @@
--- `check_call::check_graph` meets its contract: the words are cleared whatever the passes left. Assumes nothing.
-use borrow.Author.Needs.{needs}
-use mathlib.Core.Path.{_≡_, _∙_, ap}
-use Prim.Native.Nat.{ℕ}
-use native.Mathlib.Omega.{arith}
-use lib.ListN.{length, replicate}
+-- `check_call::check_graph` meets its contract: the words are cleared whatever the passes left.
+use Rattle.base.specs.{needs, _≡_, _∙_, ap, ℕ, arith, length, replicate}
 use Rattle.check_call.proofs.check_graph.Statement.{statement}
 use Rattle.check_call.proofs.check_graph.Tie as tie
 

@@ -1,10 +1,8 @@
--- `check_call::check_header` meets its contract: 7 to 10 and 19 leave the words as they were, and whatever comes later leaves them zero. Assumes nothing.
-use borrow.Author.Needs.{needs}
-use mathlib.Core.Path.{sym, _∙_}
-use native.Mathlib.Omega.{arith}
-use Rattle.model.specs.Limits.{need}
-use Rattle.theory_text.proofs.ReadGraph.{header-fits}
-use Rattle.graph_reader.proofs.Head.{header-read}
+-- `check_call::check_header` meets its contract: 7 to 10 and 19 leave the words as they were, and whatever comes later leaves them zero.
+use Rattle.base.specs.{needs, sym, _∙_, arith}
+use Rattle.model.specs.{need}
+use Rattle.theory_text.proofs.{header-fits}
+use Rattle.graph_reader.proofs.{header-read}
 use Rattle.check_call.proofs.Steps.{header-stops, header-short, header-done}
 use Rattle.check_call.proofs.check_header.Statement.{statement}
 use Rattle.check_call.proofs.check_header.Tie as tie

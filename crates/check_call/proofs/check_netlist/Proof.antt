@@ -1,9 +1,5 @@
--- `check_call::check_netlist` meets its contract: the netlist read, then its nets, or 32. Assumes nothing.
-use borrow.Author.Needs.{needs}
-use mathlib.Core.Path.{_∙_}
-use Prim.Native.Nat.{ℕ, _≤_}
-use native.Mathlib.Omega.{arith}
-use lib.ListN.{length, replicate, length-replicate}
+-- `check_call::check_netlist` meets its contract: the netlist read, then its nets, or 32.
+use Rattle.base.specs.{needs, _∙_, ℕ, _≤_, arith, length, replicate, length-replicate}
 use Rattle.check_call.proofs.Inputs.{placed-frame}
 use Rattle.check_call.proofs.Steps.{read-stops, read-goes, read-wireable}
 use Rattle.check_call.proofs.check_netlist.Statement.{statement}

@@ -1,9 +1,6 @@
--- `check_call::check_nets` meets its contract: the nets judged, then the comparison, or 33. Assumes nothing.
-use borrow.Author.Needs.{needs}
-use mathlib.Core.Path.{_∙_}
-use lib.ListN.{length-replicate}
-use Prim.Native.Nat.{ℕ}
-use Rattle.model.specs.Check.{inputNets}
+-- `check_call::check_nets` meets its contract: the nets judged, then the comparison, or 33.
+use Rattle.base.specs.{needs, _∙_, length-replicate, ℕ}
+use Rattle.model.specs.{inputNets}
 use Rattle.check_call.proofs.Inputs.{placed-frame}
 use Rattle.check_call.proofs.Steps.{wire-asks, wired-comparable, wired-answer, wired-stops}
 use Rattle.check_call.proofs.check_nets.Statement.{statement}

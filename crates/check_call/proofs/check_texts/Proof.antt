@@ -1,14 +1,8 @@
--- `check_call::check_texts` meets its contract: demand 1 from the functions below it, what the answer means from the definitions' law. Assumes nothing.
-use borrow.Author.Needs.{needs}
-use Prim.Native.Nat.{ℕ}
-use native.Mathlib.Omega.{arith}
-use mathlib.Core.List.{List}
-use lib.ListN.{length}
-use Rattle.model.specs.CheckDemands.{CheckPromised}
+-- `check_call::check_texts` meets its contract: demand 1 from the functions below it, what the answer means from the definitions' law.
+use Rattle.base.specs.{needs, ℕ, arith, List, length}
+use Rattle.model.specs.{CheckPromised}
 use Rattle.theory_check.specs.CheckRefusals.{CheckRefusals}
-use Rattle.theory_check.proofs.CheckCalls.{check-exactly}
-use Rattle.theory_check.proofs.Whole.{edited-compared, edited-meant, edited-equal}
-use Rattle.theory_check.proofs.Accepts.{printed-accepted}
+use Rattle.theory_check.proofs.{check-exactly, edited-compared, edited-meant, edited-equal, printed-accepted}
 use Rattle.check_call.proofs.Steps.{long-text, library-stops, library-read}
 use Rattle.check_call.proofs.check_texts.Statement.{statement}
 use Rattle.check_call.proofs.check_texts.Tie as tie

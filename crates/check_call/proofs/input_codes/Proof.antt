@@ -1,14 +1,9 @@
--- `check_call::input_codes` meets its contract. The invariant: the numbers of the first i inputs' nets are stored; the measure is how many are left. Assumes nothing.
-use mathlib.Core.Path.{_≡_, sym, _∙_, ap}
-use mathlib.Core.List.{_∷_, map}
-use Prim.Native.Nat.{ℕ, _+_, _-_, _≤_}
-use native.Mathlib.Omega.{arith}
-use Rattle.model.specs.Base.{from}
-use Rattle.model.specs.Text.{decimal}
-use Rattle.base_words.specs.Put.{putAt, zeros}
-use Rattle.base_words.specs.Layout.{slotAddr}
-use Rattle.check_names.specs.Codes.{code}
-use Rattle.check_call.specs.Stages.{inputCode}
+-- `check_call::input_codes` meets its contract. The invariant: the numbers of the first i inputs' nets are stored; the measure is how many are left.
+use Rattle.base.specs.{_≡_, sym, _∙_, ap, _∷_, map, ℕ, _+_, _-_, _≤_, arith}
+use Rattle.model.specs.{from, decimal}
+use Rattle.base_words.specs.{putAt, zeros, slotAddr}
+use Rattle.check_names.specs.{code}
+use Rattle.check_call.specs.{inputCode}
 use Rattle.check_call.proofs.Inputs.{codes-none, codes-more, code-is}
 use Rattle.check_call.proofs.input_codes.Statement.{statement}
 use Rattle.check_call.proofs.input_codes.Tie as tie

@@ -1,10 +1,6 @@
 -- `check_call::line_ends` meets its contract. The invariant: the number is that of the bytes passed, from the last on; the measure is how many are left.
--- Assumes nothing.
-use mathlib.Core.Path.{_≡_, _∙_, ap}
-use Prim.Native.Nat.{ℕ, _+_, _≤_}
-use native.Mathlib.Omega.{arith}
-use lib.ListN.{length, drop}
-use Rattle.model.specs.Check.{lineEnds}
+use Rattle.base.specs.{_≡_, _∙_, ap, ℕ, _+_, _≤_, arith, length, drop}
+use Rattle.model.specs.{lineEnds}
 use Rattle.check_call.proofs.Ends.{ends-none, ends-one, ends-other}
 use Rattle.check_call.proofs.line_ends.Statement.{statement}
 use Rattle.check_call.proofs.line_ends.Tie as tie

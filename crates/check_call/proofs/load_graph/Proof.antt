@@ -1,7 +1,6 @@
--- `check_call::load_graph` meets its contract: the graph behind its header, then the placing order, or 11 to 14, 20 and 21. Assumes nothing.
-use borrow.Author.Needs.{needs}
-use mathlib.Core.Path.{_∙_}
-use Rattle.graph_binary.proofs.Loads.{header-fit}
+-- `check_call::load_graph` meets its contract: the graph behind its header, then the placing order, or 11 to 14, 20 and 21.
+use Rattle.base.specs.{needs, _∙_}
+use Rattle.graph_binary.proofs.{header-fit}
 use Rattle.check_call.proofs.Steps.{reading-loaded, reading-stops}
 use Rattle.check_call.proofs.load_graph.Statement.{statement}
 use Rattle.check_call.proofs.load_graph.Tie as tie

@@ -1,6 +1,5 @@
--- `check_call::place_graph` meets its contract: the placing order, then the netlist, or 15 or 31. Assumes nothing.
-use borrow.Author.Needs.{needs}
-use mathlib.Core.Path.{_∙_}
+-- `check_call::place_graph` meets its contract: the placing order, then the netlist, or 15 or 31.
+use Rattle.base.specs.{needs, _∙_}
 use Rattle.check_call.proofs.Steps.{place-asks, placing-stops, many-stop, few-go, few-placed}
 use Rattle.check_call.proofs.place_graph.Statement.{statement}
 use Rattle.check_call.proofs.place_graph.Tie as tie

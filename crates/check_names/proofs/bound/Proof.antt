@@ -1,10 +1,6 @@
--- `check_names::bound` meets its contract. The invariant: so many words are bound, and the others are due; the measure is how many are left. Assumes nothing.
-use borrow.Author.Needs.{needs}
-use mathlib.Core.Path.{_≡_, refl, sym, _∙_, ap, subst}
-use Prim.Native.Nat.{_+_, _-_, _≤_}
-use native.Mathlib.Omega.{arith}
-use lib.ListN.{set}
-use Rattle.check_names.specs.Bound.{pinAt}
+-- `check_names::bound` meets its contract. The invariant: so many words are bound, and the others are due; the measure is how many are left.
+use Rattle.base.specs.{needs, _≡_, refl, sym, _∙_, ap, subst, _+_, _-_, _≤_, arith, set}
+use Rattle.check_names.specs.{pinAt}
 use Rattle.check_names.specs.declared.Pin.{Pin}
 use Rattle.check_names.proofs.Binding.{Part, part-start, part-none, part-step, part-end}
 use Rattle.check_names.proofs.bound.Statement.{statement}

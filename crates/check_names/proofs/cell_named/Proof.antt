@@ -1,11 +1,7 @@
--- `check_names::cell_named` meets its contract. The invariant: none of the first i cells has the name; the measure is what is left. Assumes nothing.
-use borrow.Author.Needs.{needs}
-use mathlib.Core.Path.{_≡_, sym, _∙_}
-use Prim.Native.Nat.{_+_, _-_, _≤_}
-use native.Mathlib.Omega.{arith}
-use lib.ListN.{length, drop}
-use Rattle.model.specs.Cells.{nameOf, cellsOf}
-use Rattle.check_names.specs.Bound.{cellIndex}
+-- `check_names::cell_named` meets its contract. The invariant: none of the first i cells has the name; the measure is what is left.
+use Rattle.base.specs.{needs, _≡_, sym, _∙_, _+_, _-_, _≤_, arith, length, drop}
+use Rattle.model.specs.{nameOf, cellsOf}
+use Rattle.check_names.specs.{cellIndex}
 use Rattle.check_names.proofs.Binding.{index-start, index-found, index-next, index-end}
 use Rattle.check_names.proofs.cell_named.Statement.{statement}
 use Rattle.check_names.proofs.cell_named.Tie as tie

@@ -1,11 +1,6 @@
 -- `check_names::code_of` meets its contract. The invariant: the number is that of the bytes passed, from the last on; the measure is how many are left.
--- Assumes nothing.
-use borrow.Author.Needs.{needs}
-use mathlib.Core.Path.{_≡_, sym, _∙_, ap}
-use Prim.Native.Nat.{ℕ, _+_, _-_, _*_, _≤_}
-use native.Mathlib.Omega.{arith}
-use lib.ListN.{length, drop}
-use Rattle.check_names.specs.Codes.{code}
+use Rattle.base.specs.{needs, _≡_, sym, _∙_, ap, ℕ, _+_, _-_, _*_, _≤_, arith, length, drop}
+use Rattle.check_names.specs.{code}
 use Rattle.check_names.proofs.Names.{code-end, code-fits, code-more}
 use Rattle.check_names.proofs.code_of.Statement.{statement}
 use Rattle.check_names.proofs.code_of.Tie as tie

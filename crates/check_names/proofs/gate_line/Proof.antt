@@ -1,9 +1,5 @@
--- `check_names::gate_line` meets its contract: its cell is looked up by its second word, and its pins are in the words behind. Assumes nothing.
-use borrow.Author.Needs.{needs}
-use mathlib.Core.Path.{sym, _∙_, subst}
-use Prim.Native.Nat.{ℕ, _+_, _≤_}
-use native.Mathlib.Omega.{arith}
-use lib.ListN.{length}
+-- `check_names::gate_line` meets its contract: its cell is looked up by its second word, and its pins are in the words behind.
+use Rattle.base.specs.{needs, sym, _∙_, subst, ℕ, _+_, _≤_, arith, length}
 use Rattle.check_names.proofs.Parting.{space-from, space-fits}
 use Rattle.check_names.proofs.Gates.{line-short, at-places}
 use Rattle.check_names.proofs.gate_line.Statement.{statement}

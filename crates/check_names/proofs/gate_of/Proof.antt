@@ -1,7 +1,6 @@
--- `check_names::gate_of` meets its contract: net 0 says that the words break their form. Assumes nothing.
-use borrow.Author.Needs.{needs}
-use mathlib.Core.Path.{sym, _∙_, ap}
-use Rattle.check_names.specs.Fields.{fieldsFrom}
+-- `check_names::gate_of` meets its contract: net 0 says that the words break their form.
+use Rattle.base.specs.{needs, sym, _∙_, ap}
+use Rattle.check_names.specs.{fieldsFrom}
 use Rattle.check_names.specs.declared.Nets.{Nets}
 use Rattle.check_names.proofs.Gates.{gate-none, gate-some}
 use Rattle.check_names.proofs.gate_of.Statement.{statement}

@@ -1,12 +1,6 @@
--- `check_names::is_gate` meets its contract: the first field is the keyword. Assumes nothing.
-use borrow.Author.Needs.{needs}
-use mathlib.Core.Path.{sym, _∙_, ap}
-use mathlib.Core.List.{List}
-use Prim.Native.Nat.{ℕ}
-use native.Mathlib.Omega.{arith}
-use lib.Seq.{length-take-le}
-use Rattle.model.specs.Base.{same}
-use Rattle.model.specs.Text.{text}
+-- `check_names::is_gate` meets its contract: the first field is the keyword.
+use Rattle.base.specs.{needs, sym, _∙_, ap, List, ℕ, arith, length-take-le}
+use Rattle.model.specs.{same, text}
 use Rattle.check_names.proofs.Parting.{space-fits}
 use Rattle.check_names.proofs.Named.{first-is}
 use Rattle.check_names.proofs.is_gate.Statement.{statement}

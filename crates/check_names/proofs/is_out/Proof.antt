@@ -1,8 +1,7 @@
--- `check_names::is_out` meets its contract: an `o`, and behind it the number as it is written. Assumes nothing.
-use borrow.Author.Needs.{needs}
-use mathlib.Core.Path.{sym, _∙_, ap}
-use Rattle.model.specs.Text.{number}
-use Rattle.base_text.proofs.Hex.{value-is, value-none}
+-- `check_names::is_out` meets its contract: an `o`, and behind it the number as it is written.
+use Rattle.base.specs.{needs, sym, _∙_, ap}
+use Rattle.model.specs.{number}
+use Rattle.base_text.proofs.{value-is, value-none}
 use Rattle.check_names.proofs.Pins.{rest-all}
 use Rattle.check_names.proofs.Named.{out-empty, out-letter, out-number, out-none}
 use Rattle.check_names.proofs.is_out.Statement.{statement}

@@ -1,14 +1,7 @@
--- `check_names::name_line` meets its contract: the first field is the keyword, and two words stand behind it. Assumes nothing.
-use borrow.Author.Needs.{needs}
-use mathlib.Core.Path.{sym, _∙_, ap}
-use mathlib.Core.Bool.{Bool}
-use Prim.Native.Nat.{_+_}
-use native.Mathlib.Omega.{arith}
-use lib.Seq.{length-take-le}
-use Rattle.model.specs.Text.{text}
-use Rattle.check_names.specs.Codes.{pickN}
-use Rattle.check_names.specs.Fields.{fieldsFrom}
-use Rattle.check_names.specs.Bound.{twoWords}
+-- `check_names::name_line` meets its contract: the first field is the keyword, and two words stand behind it.
+use Rattle.base.specs.{needs, sym, _∙_, ap, Bool, _+_, arith, length-take-le}
+use Rattle.model.specs.{text}
+use Rattle.check_names.specs.{pickN, fieldsFrom, twoWords}
 use Rattle.check_names.proofs.Parting.{space-fits}
 use Rattle.check_names.proofs.Named.{line-code}
 use Rattle.check_names.proofs.name_line.Statement.{statement}

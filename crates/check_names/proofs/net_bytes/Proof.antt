@@ -1,13 +1,8 @@
 -- `check_names::net_bytes` meets its contract. The invariant: all bytes pass where all that are left do; the measure is what is left.
--- Assumes nothing.
-use borrow.Author.Needs.{needs}
-use mathlib.Core.Path.{_≡_, refl, sym, _∙_}
-use Prim.Native.Nat.{_-_}
-use borrow.Author.Tests.{not-true, not-false}
-use lib.ListN.{length, drop}
-use Rattle.model.specs.Base.{all}
-use Rattle.base_text.proofs.Bytes.{all-step, all-end}
-use Rattle.check_names.specs.Codes.{isNetByte}
+use Rattle.base.specs.{needs, _≡_, refl, sym, _∙_, _-_, not-true, not-false, length, drop}
+use Rattle.model.specs.{all}
+use Rattle.base_text.proofs.{all-step, all-end}
+use Rattle.check_names.specs.{isNetByte}
 use Rattle.check_names.proofs.net_bytes.Statement.{statement}
 use Rattle.check_names.proofs.net_bytes.Tie as tie
 

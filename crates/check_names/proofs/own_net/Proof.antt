@@ -1,9 +1,6 @@
--- `check_names::own_net` meets its contract: the word that is due, and none behind it. Assumes nothing.
-use borrow.Author.Needs.{needs}
-use mathlib.Core.Path.{sym, _∙_, ap, subst}
-use Prim.Native.Nat.{_≤_, _<_}
-use lib.ListN.{length}
-use Rattle.check_names.specs.Bound.{pinAt}
+-- `check_names::own_net` meets its contract: the word that is due, and none behind it.
+use Rattle.base.specs.{needs, sym, _∙_, ap, subst, _≤_, _<_, length}
+use Rattle.check_names.specs.{pinAt}
 use Rattle.check_names.specs.declared.Pin.{Pin}
 use Rattle.check_names.proofs.Parting.{fields-none, fields-part}
 use Rattle.check_names.proofs.Binding.{own-none, own-more, own-last}

@@ -1,13 +1,7 @@
--- `check_names::pin_at` meets its contract: the word is the field at the place. Assumes nothing.
-use borrow.Author.Needs.{needs}
-use mathlib.Core.Path.{sym, _∙_, ap, ap₂}
-use native.Mathlib.Omega.{arith}
-use Prim.Native.Nat.{ℕ, _+_, _-_}
-use mathlib.Core.List.{List}
-use lib.ListN.{take, drop}
-use Rattle.model.specs.Check.{pinNet}
-use Rattle.check_names.specs.Fields.{spaceFrom}
-use Rattle.check_names.specs.Bound.{optCode, pinOf, pinAt}
+-- `check_names::pin_at` meets its contract: the word is the field at the place.
+use Rattle.base.specs.{needs, sym, _∙_, ap, ap₂, arith, ℕ, _+_, _-_, List, take, drop}
+use Rattle.model.specs.{pinNet}
+use Rattle.check_names.specs.{spaceFrom, optCode, pinOf, pinAt}
 use Rattle.check_names.proofs.Parting.{fields-none, fields-part, space-fits, space-from}
 use Rattle.check_names.proofs.pin_at.Statement.{statement}
 use Rattle.check_names.proofs.pin_at.Tie as tie

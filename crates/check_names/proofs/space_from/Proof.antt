@@ -1,10 +1,7 @@
 -- `check_names::space_from` meets its contract. The invariant: the field from here on ends where that from the start does; the measure is what is left of the
--- line. Assumes nothing.
-use borrow.Author.Needs.{needs}
-use mathlib.Core.Path.{_≡_, refl, sym, _∙_}
-use Prim.Native.Nat.{_-_}
-use lib.ListN.{length}
-use Rattle.check_names.specs.Fields.{spaceFrom}
+-- line.
+use Rattle.base.specs.{needs, _≡_, refl, sym, _∙_, _-_, length}
+use Rattle.check_names.specs.{spaceFrom}
 use Rattle.check_names.proofs.Parting.{space-here, space-later, space-end}
 use Rattle.check_names.proofs.space_from.Statement.{statement}
 use Rattle.check_names.proofs.space_from.Tie as tie

@@ -1,11 +1,6 @@
--- `check_names::two_words` meets its contract: the fields from the place on, and where each of them ends. Assumes nothing.
-use borrow.Author.Needs.{needs}
-use mathlib.Core.Path.{sym, _∙_, ap}
-use mathlib.Core.Bool.{Bool}
-use Prim.Native.Nat.{_+_, _-_}
-use native.Mathlib.Omega.{arith}
-use lib.ListN.{take, drop}
-use Rattle.check_names.specs.Codes.{pickN, netCode}
+-- `check_names::two_words` meets its contract: the fields from the place on, and where each of them ends.
+use Rattle.base.specs.{needs, sym, _∙_, ap, Bool, _+_, _-_, arith, take, drop}
+use Rattle.check_names.specs.{pickN, netCode}
 use Rattle.check_names.proofs.Parting.{space-from, space-fits}
 use Rattle.check_names.proofs.Named.{two-none, two-one, two-more, two-are}
 use Rattle.check_names.proofs.two_words.Statement.{statement}

@@ -1,11 +1,6 @@
--- `check_nets::all_rise` meets its contract. The invariant: the drivers passed rise; the measure is how many are left. Assumes nothing.
-use borrow.Author.Needs.{needs}
-use borrow.Author.Count.{below-more}
-use borrow.Author.Tests.{not-false}
-use Prim.Native.Nat.{ℕ, _-_, _<_}
-use native.Mathlib.Omega.{arith}
-use mathlib.Core.Bool.{false≢true}
-use Rattle.check_nets.specs.Ranks.{Rising}
+-- `check_nets::all_rise` meets its contract. The invariant: the drivers passed rise; the measure is how many are left.
+use Rattle.base.specs.{needs, below-more, not-false, ℕ, _-_, _<_, arith, false≢true}
+use Rattle.check_nets.specs.{Rising}
 use Rattle.check_nets.proofs.all_rise.Statement.{statement}
 use Rattle.check_nets.proofs.all_rise.Tie as tie
 
@@ -28,7 +23,6 @@ returns-2 : tie.Need-returns-2 Inv-loop μ-loop
 returns-2 c = λ e i h. c .before .loop .inv i (omega (arith, c .loop-test .left))
 
 pub all-rise-spec : {M : Type 1} → statement M
-all-rise-spec =
-    tie.close
-    (tie.spec
-    Inv-loop μ-loop (λ c k h. absurd (omega arith)) rises-requires (λ c e. absurd (false≢true e)) add-i (λ c. search needs) loop-again returns-2)
+all-rise-spec = tie.close (tie.spec
+    Inv-loop μ-loop (λ c k h. absurd (omega arith)) rises-requires (λ c e. absurd (false≢true e)) add-i (λ c. search needs) loop-again
+    returns-2)

@@ -1,11 +1,6 @@
--- `check_nets::first_circle` meets its contract. The invariant: no driver passed is on a circle. The measure is how many are left. Assumes nothing.
-use Prim.Native.Nat.{ℕ, _-_, _≤_, _<_}
-use native.Mathlib.Omega.{arith}
-use mathlib.Core.Path.{_≡_}
-use lib.ListN.{getD}
-use borrow.Author.Count.{below-more}
-use borrow.Author.Needs.{needs}
-use Rattle.check_order.specs.Lists.{Back}
+-- `check_nets::first_circle` meets its contract. The invariant: no driver passed is on a circle. The measure is how many are left.
+use Rattle.base.specs.{ℕ, _-_, _≤_, _<_, arith, _≡_, getD, below-more, needs}
+use Rattle.check_order.specs.{Back}
 use Rattle.check_nets.proofs.first_circle.Statement.{statement}
 use Rattle.check_nets.proofs.first_circle.Tie as tie
 
@@ -45,7 +40,6 @@ returns-2 c =
     record { most = l .loop .inv .0; before = l .loop .inv .1; circle = λ h. absurd (omega arith) }
 
 pub first-circle-spec : {M : Type 1} → statement M
-first-circle-spec =
-    tie.close
-    (tie.spec
-    Inv-loop μ-loop rank-requires (λ c κs. search needs) loop-holds on-circle-requires returns add-i (λ c. omega arith) loop-again returns-2)
+first-circle-spec = tie.close (tie.spec
+    Inv-loop μ-loop rank-requires (λ c κs. search needs) loop-holds on-circle-requires returns add-i (λ c. omega arith) loop-again
+    returns-2)

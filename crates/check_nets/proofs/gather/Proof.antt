@@ -1,6 +1,5 @@
--- `check_nets::gather` meets its contract. The invariant: so many wait at most; the measure is how many do. Assumes nothing.
-use borrow.Author.Needs.{needs}
-use Prim.Native.Nat.{_≤_}
+-- `check_nets::gather` meets its contract. The invariant: so many wait at most; the measure is how many do.
+use Rattle.base.specs.{needs, _≤_}
 use Rattle.check_nets.proofs.gather.Statement.{statement}
 use Rattle.check_nets.proofs.gather.Tie as tie
 
@@ -11,8 +10,7 @@ abbrev μ-loop : tie.MeasureT-loop
 μ-loop ranks₀ wait waiting own rank m₀ ranks m = m
 
 pub gather-spec : {M : Type 1} → statement M
-gather-spec =
-    tie.close
-    (tie.spec
-    Inv-loop μ-loop (λ c. search needs) (λ c. search needs) (λ c κs. search needs) (λ c. search needs) (λ c. search needs) (λ c. search needs)
-    (λ c. search needs) (λ c. search needs) (λ c. search needs) (λ c. search needs) (λ c. search needs) (λ c. search needs) (λ c. search needs))
+gather-spec = tie.close (tie.spec
+    Inv-loop μ-loop (λ c. search needs) (λ c. search needs) (λ c κs. search needs) (λ c. search needs) (λ c. search needs)
+    (λ c. search needs) (λ c. search needs) (λ c. search needs) (λ c. search needs) (λ c. search needs) (λ c. search needs)
+    (λ c. search needs) (λ c. search needs))

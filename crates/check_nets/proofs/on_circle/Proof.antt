@@ -1,7 +1,5 @@
--- `check_nets::on_circle` meets its contract. Assumes nothing.
-use borrow.Author.Needs.{needs}
-use native.Mathlib.Omega.{arith}
-use mathlib.Core.Bool.{false≢true}
+-- `check_nets::on_circle` meets its contract.
+use Rattle.base.specs.{needs, arith, false≢true}
 use Rattle.check_nets.proofs.Ranking.{below-none}
 use Rattle.check_nets.proofs.on_circle.Statement.{statement}
 use Rattle.check_nets.proofs.on_circle.Tie as tie
@@ -23,6 +21,4 @@ returns-3 : tie.Need-returns-3
 returns-3 c = record { circle = c .turns .ensures .circle; none = λ e z. c .turns .ensures .none e }
 
 pub on-circle-spec : {M : Type 1} → statement M
-on-circle-spec = tie.close
-    (tie.spec
-    (λ c. search needs) returns rises-requires returns-2 (λ c κs. search needs) returns-3)
+on-circle-spec = tie.close (tie.spec (λ c. search needs) returns rises-requires returns-2 (λ c κs. search needs) returns-3)

@@ -1,10 +1,5 @@
--- `check_nets::pin_rises` meets its contract. Assumes nothing.
-use borrow.Author.Needs.{needs}
-use borrow.Author.Tests.{leb-true}
-use Prim.Native.Nat.{ℕ, _+_, _-_, _*_}
-use native.Mathlib.Omega.{arith}
-use mathlib.Core.Path.{_≡_, ap}
-use lib.ListN.{getD}
+-- `check_nets::pin_rises` meets its contract.
+use Rattle.base.specs.{needs, leb-true, ℕ, _+_, _-_, _*_, arith, _≡_, ap, getD}
 use Rattle.check_nets.proofs.pin_rises.Statement.{statement}
 use Rattle.check_nets.proofs.pin_rises.Tie as tie
 
@@ -21,6 +16,5 @@ returns-2 c =
     omega (arith, leb-true (p .before .args .least) (c .listed .result) e, c .listed .ensures, ap (λ (y : ℕ). getD (p .before .args .ranks .now) y 0) z)
 
 pub pin-rises-spec : {M : Type 1} → statement M
-pin-rises-spec = tie.close
-    (tie.spec
+pin-rises-spec = tie.close (tie.spec
     (λ c. search needs) (λ c. search needs) (λ c κs. search needs) (λ c. search needs) listed-requires returns-2)

@@ -1,5 +1,5 @@
--- `check_nets::rank` meets its contract. The measure is how many steps are left. Assumes nothing.
-use borrow.Author.Needs.{needs}
+-- `check_nets::rank` meets its contract. The measure is how many steps are left.
+use Rattle.base.specs.{needs}
 use Rattle.check_nets.proofs.rank.Statement.{statement}
 use Rattle.check_nets.proofs.rank.Tie as tie
 
@@ -10,7 +10,5 @@ abbrev μ-loop : tie.MeasureT-loop
 μ-loop refs n ranks₀ own₀ path₀ passed₀ wait₀ s₀ steps₀ ranks own path passed wait s steps = steps
 
 pub rank-spec : {M : Type 1} → statement M
-rank-spec =
-    tie.close
-    (tie.spec
+rank-spec = tie.close (tie.spec
     Inv-loop μ-loop (λ c. search needs) (λ c. tt) (λ c κs. search needs) (λ c. search needs) (λ c. search needs) (λ c. tt) (λ c. tt))

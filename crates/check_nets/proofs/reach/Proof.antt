@@ -1,9 +1,7 @@
--- `check_nets::reach` meets its contract. The invariant: the pins passed lead to what is listed. The measure is how many are left. Assumes nothing.
-use Prim.Native.Nat.{ℕ, _-_, _≤_, _<_}
-use native.Mathlib.Omega.{arith}
-use mathlib.Core.Path.{_≡_, subst}
-use Rattle.check_order.specs.Lists.{Spread}
-use Rattle.check_order.proofs.Reaching.{spread-none, spread-next, spread-found}
+-- `check_nets::reach` meets its contract. The invariant: the pins passed lead to what is listed. The measure is how many are left.
+use Rattle.base.specs.{ℕ, _-_, _≤_, _<_, arith, _≡_, subst}
+use Rattle.check_order.specs.{Spread}
+use Rattle.check_order.proofs.{spread-none, spread-next, spread-found}
 use Rattle.check_nets.proofs.reach.Statement.{statement}
 use Rattle.check_nets.proofs.reach.Tie as tie
 
@@ -47,7 +45,5 @@ returns-2 c =
     subst (λ (t : ℕ). Spread (a .refs .now) (a .n) (a .i) (a .k) t (a .m) (a .seen .now) (a .queue .now) (l .loop .r) (l .loop .seen) (l .loop .queue)) (let e : l .loop .j ≡ 4 = omega arith in e) (l .loop .inv .2)
 
 pub reach-spec : {M : Type 1} → statement M
-reach-spec =
-    tie.close
-    (tie.spec
+reach-spec = tie.close (tie.spec
     Inv-loop μ-loop loop-holds reach-pin-requires returns (λ c. omega arith) (λ c. omega arith) loop-again returns-2)

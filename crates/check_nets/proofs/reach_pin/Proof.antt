@@ -1,9 +1,6 @@
--- `check_nets::reach_pin` meets its contract. Assumes nothing.
-use borrow.Author.Needs.{needs}
-use Prim.Native.Nat.{_+_, _*_}
-use native.Mathlib.Omega.{arith}
-use Rattle.check_order.proofs.Reaching.{stepped-found, stepped-seen, stepped-append, stepped-room}
-use borrow.Author.Needs.{needs}
+-- `check_nets::reach_pin` meets its contract.
+use Rattle.base.specs.{needs, _+_, _*_, arith}
+use Rattle.check_order.proofs.{stepped-found, stepped-seen, stepped-append, stepped-room}
 use Rattle.check_nets.proofs.reach_pin.Statement.{statement}
 use Rattle.check_nets.proofs.reach_pin.Tie as tie
 
@@ -53,8 +50,6 @@ returns-4 c =
     stepped-append (a .refs .now) (a .n) (a .i) (a .k) (a .j) (a .m) (p .pin .result) (a .seen .now) (a .queue .now) (s .pre .0) (s .pre .1) (s .pre .2) (s .pre .3) (s .pre .4) (s .pre .5) (p .pin .ensures) (e .if1 .left) (d .if2 .left) (f .if3 .left) _ _ (c .append .ensures .0) (c .append .ensures .1)
 
 pub reach-pin-spec : {M : Type 1} → statement M
-reach-pin-spec =
-    tie.close
-    (tie.spec
-    (λ c. search needs) (λ c. search needs) (λ c κs. search needs) (λ c. search needs) returns-2 element-copy-out-if3 returns-3 append-requires
-    (λ c. search needs) returns-4)
+reach-pin-spec = tie.close (tie.spec
+    (λ c. search needs) (λ c. search needs) (λ c κs. search needs) (λ c. search needs) returns-2 element-copy-out-if3 returns-3
+    append-requires (λ c. search needs) returns-4)

@@ -1,13 +1,6 @@
--- `check_nets::rises` meets its contract. The invariant: the pins passed rise; the measure is how many are left. Assumes nothing.
-use borrow.Author.Needs.{needs}
-use borrow.Author.Count.{below-more}
-use borrow.Author.Tests.{not-false}
-use Prim.Native.Nat.{ℕ, _+_, _-_, _≤_, _<_}
-use native.Mathlib.Omega.{arith}
-use mathlib.Core.Path.{_≡_}
-use mathlib.Core.Bool.{false≢true}
-use lib.ListN.{getD}
-use Rattle.check_order.specs.Lists.{FeedsAt}
+-- `check_nets::rises` meets its contract. The invariant: the pins passed rise; the measure is how many are left.
+use Rattle.base.specs.{needs, below-more, not-false, ℕ, _+_, _-_, _≤_, _<_, arith, _≡_, false≢true, getD}
+use Rattle.check_order.specs.{FeedsAt}
 use Rattle.check_nets.proofs.rises.Statement.{statement}
 use Rattle.check_nets.proofs.rises.Tie as tie
 
@@ -32,8 +25,6 @@ returns-2 : tie.Need-returns-2 Inv-loop μ-loop
 returns-2 c = let l = c .before .loop .inv in λ e j k f. omega (arith, l .0, l .1 j (omega (arith, f .0, c .loop-test .left)) k f)
 
 pub rises-spec : {M : Type 1} → statement M
-rises-spec =
-    tie.close
-    (tie.spec
+rises-spec = tie.close (tie.spec
     Inv-loop μ-loop (λ c. search needs) (λ c. search needs) (λ c κs. search needs) (λ c. search needs) loop-holds pin-rises-requires
     (λ c e. absurd (false≢true e)) (λ c. search needs) (λ c. search needs) loop-again returns-2)

@@ -1,8 +1,6 @@
--- `check_nets::turns` meets its contract. Assumes nothing.
-use borrow.Author.Needs.{needs}
-use mathlib.Core.Path.{refl}
-use Rattle.check_order.proofs.Reaching.{reached-start}
-use borrow.Author.Needs.{needs}
+-- `check_nets::turns` meets its contract.
+use Rattle.base.specs.{needs, refl}
+use Rattle.check_order.proofs.{reached-start}
 use Rattle.check_nets.proofs.turns.Statement.{statement}
 use Rattle.check_nets.proofs.turns.Tie as tie
 
@@ -15,6 +13,4 @@ walk-back-requires c κs =
     (s .pre .0, s .pre .1, r .0, r .1)
 
 pub turns-spec : {M : Type 1} → statement M
-turns-spec = tie.close
-    (tie.spec
-    (λ c κs. search needs) walk-back-requires (λ c. search needs))
+turns-spec = tie.close (tie.spec (λ c κs. search needs) walk-back-requires (λ c. search needs))

@@ -1,10 +1,7 @@
--- `check_nets::walk_back` meets its contract. The invariant: the first p of the queue are passed. The measure is how many drivers can be passed yet. Assumes nothing.
-use Prim.Native.Nat.{ℕ, _-_, _<_}
-use native.Mathlib.Omega.{arith}
-use mathlib.Core.Path.{sym, subst}
-use mathlib.Core.Bool.{true≢false, false≢true}
-use Rattle.check_order.specs.Lists.{Behind}
-use Rattle.check_order.proofs.Reaching.{Walked, walked-first, walked-next, walked-found, walked-end, walked-few}
+-- `check_nets::walk_back` meets its contract. The invariant: the first p of the queue are passed. The measure is how many drivers can be passed yet.
+use Rattle.base.specs.{ℕ, _-_, _<_, arith, sym, subst, true≢false, false≢true}
+use Rattle.check_order.specs.{Behind}
+use Rattle.check_order.proofs.{Walked, walked-first, walked-next, walked-found, walked-end, walked-few}
 use Rattle.check_nets.proofs.walk_back.Statement.{statement}
 use Rattle.check_nets.proofs.walk_back.Tie as tie
 
@@ -92,16 +89,4 @@ returns-2 c =
     }
 
 pub walk-back-spec : {M : Type 1} → statement M
-walk-back-spec =
-    tie.close
-    (tie.spec
-    Inv-loop
-    μ-loop
-    loop-holds
-    listed-requires
-    reach-requires
-    returns
-    add-p
-    loop-less
-    loop-again
-    returns-2)
+walk-back-spec = tie.close (tie.spec Inv-loop μ-loop loop-holds listed-requires reach-requires returns add-p loop-less loop-again returns-2)

@@ -1,15 +1,11 @@
--- `check_nets::wire` meets its contract. Assumes nothing.
-use borrow.Author.Needs.{needs}
-use Prim.Native.Nat.{ℕ}
-use mathlib.Core.Path.{refl, ap, _∙_}
-use mathlib.Core.List.{List}
-use lib.ListN.{replicate}
-use Rattle.check_order.specs.Orders.{Made, arrangeOf}
-use Rattle.check_order.proofs.Placing.{arranged-none}
-use Rattle.check_nets.specs.Judged.{Judged, leftBy}
+-- `check_nets::wire` meets its contract.
+use Rattle.base.specs.{needs, ℕ, refl, ap, _∙_, List, replicate}
+use Rattle.check_order.specs.{Made, arrangeOf}
+use Rattle.check_order.proofs.{arranged-none}
+use Rattle.check_nets.specs.Judged.{Judged}
+use Rattle.check_nets.specs.{leftBy}
 use Rattle.check_nets.proofs.Nets.{drivers-are}
 use Rattle.check_nets.proofs.Whole.{line-inside, refused, pinned-all, accepted, circle-inside, circled}
-use borrow.Author.Needs.{needs}
 use Rattle.check_nets.proofs.wire.Statement.{statement}
 use Rattle.check_nets.proofs.wire.Tie as tie
 
@@ -104,8 +100,6 @@ returns-3 c =
     )
 
 pub wire-spec : {M : Type 1} → statement M
-wire-spec =
-    tie.close
-    (tie.spec
+wire-spec = tie.close (tie.spec
     refer-requires (λ c. search needs) (λ c. search needs) shared-slice-read-t15 returns arrange-requires returns-2 first-circle-requires
     (λ c. search needs) (λ c. search needs) shared-slice-read-t25 returns-3)

@@ -1,6 +1,5 @@
--- `check_order::descend` meets its contract. Assumes nothing.
-use borrow.Author.Needs.{needs}
-use native.Mathlib.Omega.{arith}
+-- `check_order::descend` meets its contract.
+use Rattle.base.specs.{needs, arith}
 use Rattle.check_order.proofs.Making.{descend-input, descend-met, descend-full, descend-next}
 use Rattle.check_order.proofs.descend.Statement.{statement}
 use Rattle.check_order.proofs.descend.Tie as tie
@@ -50,8 +49,6 @@ returns-4 c =
     (omega (arith, c .if3 .left), λ l. descend-next (a .refs .now) (a .n) (a .depth) (a .at) (p .pin .result) (a .passed .now) (a .stack .now) (p .pin .ensures) l (e .if1 .left) (f .if2 .left) (c .if3 .left))
 
 pub descend-spec : {M : Type 1} → statement M
-descend-spec =
-    tie.close
-    (tie.spec
-    (λ c κs. search needs) returns element-copy-out-if2 returns-2 returns-3 cast-stack (λ c. search needs) (λ c. search needs) (λ c. search needs)
-    returns-4)
+descend-spec = tie.close (tie.spec
+    (λ c κs. search needs) returns element-copy-out-if2 returns-2 returns-3 cast-stack (λ c. search needs) (λ c. search needs)
+    (λ c. search needs) returns-4)

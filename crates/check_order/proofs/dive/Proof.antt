@@ -1,10 +1,7 @@
--- `check_order::dive` meets its contract. The invariant: what is listed is in order. The measure is how many steps are left. Assumes nothing.
-use Prim.Native.Nat.{_*_}
-use native.Mathlib.Omega.{arith}
-use mathlib.Core.Path.{_≡_, refl, sym, _∙_}
-use Rattle.check_order.specs.Orders.{made, down, walkFrom}
+-- `check_order::dive` meets its contract. The invariant: what is listed is in order. The measure is how many steps are left.
+use Rattle.base.specs.{_*_, arith, _≡_, refl, sym, _∙_}
+use Rattle.check_order.specs.{made, down, walkFrom, Walking}
 use Rattle.check_order.proofs.Making.{walk-goes, walk-ends, walk-none, dive-met, dive-walks}
-use Rattle.check_order.specs.Lists.{Walking}
 use Rattle.check_order.proofs.dive.Statement.{statement}
 use Rattle.check_order.proofs.dive.Tie as tie
 
@@ -71,8 +68,6 @@ returns-3 c =
     )
 
 pub dive-spec : {M : Type 1} → statement M
-dive-spec =
-    tie.close
-    (tie.spec
-    Inv-loop μ-loop element-copy-out-if1 returns cast-stack (λ c. omega arith) mul-steps loop-holds returns-2 step-requires (λ c. omega arith)
-    (λ c. omega arith) loop-again returns-3)
+dive-spec = tie.close (tie.spec
+    Inv-loop μ-loop element-copy-out-if1 returns cast-stack (λ c. omega arith) mul-steps loop-holds returns-2 step-requires
+    (λ c. omega arith) (λ c. omega arith) loop-again returns-3)

@@ -1,10 +1,7 @@
--- `check_order::dive_all` meets its contract. The invariant: what is listed is in order. The measure is how many drivers are left. Assumes nothing.
-use Prim.Native.Nat.{ℕ, _-_, _≤_}
-use native.Mathlib.Omega.{arith}
-use mathlib.Core.Path.{_≡_, sym, ap, _∙_}
-use Rattle.check_order.specs.Orders.{made, down, divesFrom}
+-- `check_order::dive_all` meets its contract. The invariant: what is listed is in order. The measure is how many drivers are left.
+use Rattle.base.specs.{ℕ, _-_, _≤_, arith, _≡_, sym, ap, _∙_}
+use Rattle.check_order.specs.{made, down, divesFrom, Arranged}
 use Rattle.check_order.proofs.Making.{dives-go, dives-end}
-use Rattle.check_order.specs.Lists.{Arranged}
 use Rattle.check_order.proofs.dive_all.Statement.{statement}
 use Rattle.check_order.proofs.dive_all.Tie as tie
 
@@ -46,7 +43,4 @@ returns c =
     (l .loop .inv .1, sym (l .loop .inv .2 ∙ dives-end (a .refs .now) (a .n) (l .loop .i) (down 0 (made (l .loop .m) (l .loop .marks) (l .loop .order)) (l .loop .passed) (l .loop .stack)) (c .loop-test .left)))
 
 pub dive-all-spec : {M : Type 1} → statement M
-dive-all-spec =
-    tie.close
-    (tie.spec
-    Inv-loop μ-loop loop-holds dive-requires add-i (λ c. omega arith) loop-again returns)
+dive-all-spec = tie.close (tie.spec Inv-loop μ-loop loop-holds dive-requires add-i (λ c. omega arith) loop-again returns)

@@ -1,9 +1,6 @@
--- `check_order::is_fed` meets its contract. Assumes nothing.
-use borrow.Author.Needs.{needs}
-use Prim.Native.Nat.{_+_, _*_}
-use native.Mathlib.Omega.{arith}
+-- `check_order::is_fed` meets its contract.
+use Rattle.base.specs.{needs, _+_, _*_, arith}
 use Rattle.check_order.proofs.Placing.{fed-input, fed-marked, fed-waits}
-use borrow.Author.Needs.{needs}
 use Rattle.check_order.proofs.is_fed.Statement.{statement}
 use Rattle.check_order.proofs.is_fed.Tie as tie
 
@@ -34,7 +31,5 @@ returns-3 c =
     fed-marked (a .refs .now) (a .marks .now) (a .i) (a .j) (p .pin .result) (p .before .pre .2) (p .pin .ensures) (e .if1 .left) (c .if2 .left)
 
 pub is-fed-spec : {M : Type 1} → statement M
-is-fed-spec =
-    tie.close
-    (tie.spec
+is-fed-spec = tie.close (tie.spec
     (λ c. search needs) (λ c. search needs) (λ c κs. search needs) returns element-copy-out-if2 returns-2 returns-3)

@@ -1,13 +1,6 @@
--- `check_order::is_ready` meets its contract. The invariant: the pins passed are fed. The measure is how many are left. Assumes nothing.
-use Prim.Native.Nat.{ℕ, _-_, _≤_, _<_}
-use native.Mathlib.Omega.{arith}
-use mathlib.Core.Path.{_≡_, refl, sym, _∙_}
-use mathlib.Core.Bool.{true≢false, false≢true}
-use lib.ListN.{getD}
-use borrow.Author.Count.{below-more}
-use borrow.Author.Tests.{not-true, not-false}
-use Rattle.check_order.specs.Orders.{readyFrom}
-use Rattle.check_order.specs.Lists.{FeedsAt}
+-- `check_order::is_ready` meets its contract. The invariant: the pins passed are fed. The measure is how many are left.
+use Rattle.base.specs.{ℕ, _-_, _≤_, _<_, arith, _≡_, refl, sym, _∙_, true≢false, false≢true, getD, below-more, not-true, not-false}
+use Rattle.check_order.specs.{readyFrom, FeedsAt}
 use Rattle.check_order.proofs.Making.{ready-stops, ready-goes, ready-ends}
 use Rattle.check_order.proofs.is_ready.Statement.{statement}
 use Rattle.check_order.proofs.is_ready.Tie as tie
@@ -48,7 +41,5 @@ returns-2 c =
     record { is = sym (l .loop .inv .2 ∙ ready-ends (a .refs .now) (a .marks .now) (a .i) (l .loop .j) (c .loop-test .left)); ready = λ e t k f. c .before .loop .inv .1 t (omega (arith, f .0, c .loop-test .left)) k f; stuck = λ e. absurd (true≢false e) }
 
 pub is-ready-spec : {M : Type 1} → statement M
-is-ready-spec =
-    tie.close
-    (tie.spec
+is-ready-spec = tie.close (tie.spec
     Inv-loop μ-loop loop-holds is-fed-requires returns (λ c. omega arith) (λ c. omega arith) loop-again returns-2)

@@ -1,8 +1,5 @@
--- `check_order::place` meets its contract. Assumes nothing.
-use borrow.Author.Needs.{needs}
-use mathlib.Core.Path.{sym, _∙_}
-use native.Mathlib.Omega.{arith}
-use borrow.Author.Tests.{not-true, not-false}
+-- `check_order::place` meets its contract.
+use Rattle.base.specs.{needs, sym, _∙_, arith, not-true, not-false}
 use Rattle.check_order.proofs.Listing.{listed-room}
 use Rattle.check_order.proofs.Placing.{placed-marked, placed-stuck, placed-next}
 use Rattle.check_order.proofs.Making.{place-marked, place-waits, place-listed}
@@ -45,7 +42,4 @@ returns-3 c =
     )
 
 pub place-spec : {M : Type 1} → statement M
-place-spec =
-    tie.close
-    (tie.spec
-    (λ c. search needs) returns (λ c κs. search needs) returns-2 append-requires (λ c. search needs) returns-3)
+place-spec = tie.close (tie.spec (λ c. search needs) returns (λ c κs. search needs) returns-2 append-requires (λ c. search needs) returns-3)

@@ -1,10 +1,6 @@
--- `check_order::settle` meets its contract. The invariant: a sweep came from `from` listed drivers to r. The measure is how many drivers were not listed before it. Assumes nothing.
-use Prim.Native.Nat.{ℕ, _-_}
-use native.Mathlib.Omega.{arith}
-use mathlib.Core.List.{List}
-use mathlib.Core.Path.{sym, _∙_}
-use Rattle.check_order.specs.Orders.{made}
-use Rattle.check_order.specs.Lists.{Swept}
+-- `check_order::settle` meets its contract. The invariant: a sweep came from `from` listed drivers to r. The measure is how many drivers were not listed before it.
+use Rattle.base.specs.{ℕ, _-_, arith, List, sym, _∙_}
+use Rattle.check_order.specs.{made, Swept}
 use Rattle.check_order.proofs.Making.{Settling, behind, by-sweep, settling-first, settling-again, settling-ends}
 use Rattle.check_order.proofs.Listing.{listed-few}
 use Rattle.check_order.proofs.Placing.{swept-settled}
@@ -57,14 +53,4 @@ returns c =
     (swept-settled (a .refs .now) (a .n) (s .pre .0) (l .loop .from) (l .loop .inv .0) (l .loop .r) (l .loop .marks) (l .loop .order) (l .loop .inv .1) (c .loop-test .left), settling-ends (a .refs .now) (a .n) (l .loop .from) (made (l .loop .r) (l .loop .marks) (l .loop .order)) _ (c .loop-test .left) (l .loop .inv .2) ∙ sym (by-sweep (a .refs .now) (a .n) (a .n) (made (a .m) (a .marks .now) (a .order .now)) _ (l .before .sweep .ensures .1)))
 
 pub settle-spec : {M : Type 1} → statement M
-settle-spec =
-    tie.close
-    (tie.spec
-    Inv-loop
-    μ-loop
-    sweep-requires
-    loop-holds
-    sweep-requires-2
-    loop-less
-    loop-again
-    returns)
+settle-spec = tie.close (tie.spec Inv-loop μ-loop sweep-requires loop-holds sweep-requires-2 loop-less loop-again returns)

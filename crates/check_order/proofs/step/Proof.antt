@@ -1,9 +1,6 @@
--- `check_order::step` meets its contract: the walk ends, goes down or goes up. Assumes nothing.
-use borrow.Author.Needs.{needs}
-use native.Mathlib.Omega.{arith}
-use Prim.Native.Nat.{_-_}
-use mathlib.Core.Path.{ap, _∙_}
-use Rattle.check_order.specs.Orders.{Made, made, down}
+-- `check_order::step` meets its contract: the walk ends, goes down or goes up.
+use Rattle.base.specs.{needs, arith, _-_, ap, _∙_}
+use Rattle.check_order.specs.{Made, made, down}
 use Rattle.check_order.proofs.Making.{step-out, step-under, step-up}
 use Rattle.check_order.proofs.step.Statement.{statement}
 use Rattle.check_order.proofs.step.Tie as tie
@@ -42,8 +39,6 @@ returns-3 c =
     )
 
 pub step-spec : {M : Type 1} → statement M
-step-spec =
-    tie.close
-    (tie.spec
+step-spec = tie.close (tie.spec
     (λ c. search needs) (λ c κs. search needs) returns (λ c. search needs) (λ c. search needs) (λ c. search needs) (λ c. search needs)
     (λ c. search needs) (λ c. search needs) (λ c κs. search needs) returns-2 (λ c κs. search needs) (λ c. search needs) returns-3)

@@ -1,9 +1,6 @@
--- `check_order::sweep` meets its contract. The invariant: the drivers passed were tried. The measure is how many are left. Assumes nothing.
-use Prim.Native.Nat.{ℕ, _-_, _≤_}
-use native.Mathlib.Omega.{arith}
-use mathlib.Core.Path.{_≡_, sym, ap, subst, _∙_}
-use Rattle.check_order.specs.Orders.{made, sweepFrom}
-use Rattle.check_order.specs.Lists.{Swept}
+-- `check_order::sweep` meets its contract. The invariant: the drivers passed were tried. The measure is how many are left.
+use Rattle.base.specs.{ℕ, _-_, _≤_, arith, _≡_, sym, ap, subst, _∙_}
+use Rattle.check_order.specs.{made, sweepFrom, Swept}
 use Rattle.check_order.proofs.Making.{sweep-goes, sweep-ends}
 use Rattle.check_order.proofs.Placing.{swept-none, swept-next}
 use Rattle.check_order.proofs.sweep.Statement.{statement}
@@ -43,7 +40,4 @@ returns c =
     (subst (λ (t : ℕ). Swept (a .refs .now) (a .n) t (a .m) (a .marks .now) (l .loop .r) (l .loop .marks) (l .loop .order)) (let e : l .loop .i ≡ a .n = omega arith in e) (l .loop .inv .1), sym (l .loop .inv .2 ∙ sweep-ends (a .refs .now) (a .n) (l .loop .i) (made (l .loop .r) (l .loop .marks) (l .loop .order)) (c .loop-test .left)))
 
 pub sweep-spec : {M : Type 1} → statement M
-sweep-spec =
-    tie.close
-    (tie.spec
-    Inv-loop μ-loop loop-holds place-requires add-i (λ c. omega arith) loop-again returns)
+sweep-spec = tie.close (tie.spec Inv-loop μ-loop loop-holds place-requires add-i (λ c. omega arith) loop-again returns)

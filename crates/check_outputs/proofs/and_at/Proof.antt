@@ -1,10 +1,6 @@
--- `check_outputs::and_at` meets its contract. Assumes nothing.
-use Rattle.check_outputs.specs.Filling.{andAt}
-use Rattle.check_outputs.specs.Settings.{andWord}
-use mathlib.Core.Path.{_∙_}
-use Prim.Native.Nat.{_/_}
-use lib.ListN.{getD}
-use borrow.Author.Needs.{needs}
+-- `check_outputs::and_at` meets its contract.
+use Rattle.base.specs.{_∙_, _/_, getD, needs}
+use Rattle.check_outputs.specs.{andAt, andWord}
 use Rattle.check_outputs.proofs.and_at.Statement.{statement}
 use Rattle.check_outputs.proofs.and_at.Tie as tie
 

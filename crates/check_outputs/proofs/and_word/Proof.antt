@@ -1,8 +1,6 @@
--- `check_outputs::and_word` meets its contract, by those of the two literals. Assumes nothing.
-use mathlib.Core.Path.{_∙_}
-use lib.Bits.{bitAnd}
+-- `check_outputs::and_word` meets its contract, by those of the two literals.
+use Rattle.base.specs.{_∙_, bitAnd, needs}
 use Rattle.check_outputs.proofs.Gates.{and-literals}
-use borrow.Author.Needs.{needs}
 use Rattle.check_outputs.proofs.and_word.Statement.{statement}
 use Rattle.check_outputs.proofs.and_word.Tie as tie
 

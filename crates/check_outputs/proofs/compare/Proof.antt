@@ -1,15 +1,10 @@
 -- `check_outputs::compare` meets its contract. The invariant: what is answered for the settings from here on is the answer, and inside a block its words are known.
--- The measure is the settings left. Assumes nothing.
-use mathlib.Core.Path.{_≡_, refl, sym, ap, _∙_}
-use mathlib.Core.List.{List}
-use mathlib.Core.Option.{Option}
-use Prim.Native.Nat.{ℕ, _+_, _-_, _/_, _%_, _^_, _≤_}
-use native.Mathlib.Omega.{arith}
-use borrow.Author.Needs.{needs}
-use lib.ListN.{length}
+-- The measure is the settings left.
+use Rattle.base.specs.{_≡_, refl, sym, ap, _∙_, List, Option, ℕ, _+_, _-_, _/_, _%_, _^_, _≤_, arith, needs, length}
 use Rattle.model.specs.Graph.{Graph}
-use Rattle.model.specs.Check.{Driver, inputNets, settled, wrongAt, compareFrom}
-use Rattle.check_outputs.specs.Comparable.{Comparable, Wrong, wrongWord}
+use Rattle.model.specs.{Driver, inputNets, settled, wrongAt, compareFrom}
+use Rattle.check_outputs.specs.Comparable.{Comparable}
+use Rattle.check_outputs.specs.{Wrong, wrongWord}
 use Rattle.check_outputs.proofs.Verdict.{some-wrong, none-wrong, go-on, stop-at}
 use Rattle.check_outputs.proofs.compare.Statement.{statement}
 use Rattle.check_outputs.proofs.compare.Tie as tie

@@ -1,9 +1,6 @@
--- `check_outputs::difference` meets its contract. Assumes nothing.
-use Rattle.check_outputs.specs.Settings.{literalWord, differences}
-use mathlib.Core.Path.{ap, _∙_}
-use Prim.Native.Nat.{ℕ, _/_}
-use lib.ListN.{getD}
-use borrow.Author.Needs.{needs}
+-- `check_outputs::difference` meets its contract.
+use Rattle.base.specs.{ap, _∙_, ℕ, _/_, getD, needs}
+use Rattle.check_outputs.specs.{literalWord, differences}
 use Rattle.check_outputs.proofs.difference.Statement.{statement}
 use Rattle.check_outputs.proofs.difference.Tie as tie
 

@@ -1,12 +1,6 @@
--- `check_outputs::driver_word` meets its contract. Assumes nothing.
-use mathlib.Core.List.{[], _∷_}
-use Rattle.check_outputs.specs.Settings.{gateWord}
-use Rattle.check_outputs.specs.Filling.{tableOf, pinWord, driverWord}
-use mathlib.Core.Path.{ap, _∙_}
-use Prim.Native.Nat.{ℕ}
-use native.Mathlib.Omega.{arith}
-use lib.ListN.{getD}
-use borrow.Author.Needs.{needs}
+-- `check_outputs::driver_word` meets its contract.
+use Rattle.base.specs.{[], _∷_, ap, _∙_, ℕ, arith, getD, needs}
+use Rattle.check_outputs.specs.{gateWord, tableOf, pinWord, driverWord}
 use Rattle.check_outputs.proofs.driver_word.Statement.{statement}
 use Rattle.check_outputs.proofs.driver_word.Tie as tie
 

@@ -1,14 +1,10 @@
 -- `check_outputs::evaluate` meets its contract: the words of variables and drivers are their values, and the outputs differ where these do.
--- Assumes nothing.
-use mathlib.Core.Path.{_≡_, sym, _∙_, subst}
-use native.Mathlib.Omega.{arith}
-use Prim.Native.Nat.{ℕ, _<_}
-use Rattle.base_words.specs.Layout.{placedOf}
-use Rattle.check_outputs.specs.Filling.{Slots, SlotsTurn}
+use Rattle.base.specs.{_≡_, sym, _∙_, subst, arith, ℕ, _<_, needs}
+use Rattle.base_words.specs.{placedOf}
+use Rattle.check_outputs.specs.{Slots, SlotsTurn}
 use Rattle.check_outputs.proofs.Variables.{fits, slots-ready, valueWord, slots-turn}
 use Rattle.check_outputs.proofs.Nets.{drivers-ready, netWord, drivers-turn}
 use Rattle.check_outputs.proofs.Outputs.{output-small, output-word}
-use borrow.Author.Needs.{needs}
 use Rattle.check_outputs.proofs.evaluate.Statement.{statement}
 use Rattle.check_outputs.proofs.evaluate.Tie as tie
 

@@ -1,12 +1,7 @@
 -- `check_outputs::fill_differences` meets its contract. The invariant: the outputs passed have their words. The measure is the outputs left.
--- Assumes nothing.
-use lib.ListN.{length, getD, length-set}
-use mathlib.Core.Path.{_≡_, _∙_}
-use Prim.Native.Nat.{ℕ, _+_, _-_, _/_, _≤_, _<_}
-use native.Mathlib.Omega.{arith}
-use borrow.Author.Needs.{needs}
-use Rattle.base_words.specs.Layout.{outputAt}
-use Rattle.check_outputs.specs.Settings.{literalWord, differences}
+use Rattle.base.specs.{length, getD, length-set, _≡_, _∙_, ℕ, _+_, _-_, _/_, _≤_, _<_, arith, needs}
+use Rattle.base_words.specs.{outputAt}
+use Rattle.check_outputs.specs.{literalWord, differences}
 use Rattle.check_outputs.proofs.Turns.{filled-more}
 use Rattle.check_outputs.proofs.fill_differences.Statement.{statement}
 use Rattle.check_outputs.proofs.fill_differences.Tie as tie

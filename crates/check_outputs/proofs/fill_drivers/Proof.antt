@@ -1,11 +1,6 @@
 -- `check_outputs::fill_drivers` meets its contract. The invariant: the drivers passed have their words. The measure is the drivers left.
--- Assumes nothing.
-use mathlib.Core.Path.{_≡_, sym, ap, _∙_, subst}
-use lib.ListN.{length, getD, set, length-set}
-use Rattle.check_outputs.specs.Filling.{driverWord, DriversTurn, Readable}
-use Prim.Native.Nat.{ℕ, _+_, _-_, _≤_, _<_}
-use native.Mathlib.Omega.{arith}
-use borrow.Author.Needs.{needs}
+use Rattle.base.specs.{_≡_, sym, ap, _∙_, subst, length, getD, set, length-set, ℕ, _+_, _-_, _≤_, _<_, arith, needs}
+use Rattle.check_outputs.specs.{driverWord, DriversTurn, Readable}
 use Rattle.check_outputs.proofs.Turns.{filled-more, driver-same}
 use Rattle.check_outputs.proofs.fill_drivers.Statement.{statement}
 use Rattle.check_outputs.proofs.fill_drivers.Tie as tie

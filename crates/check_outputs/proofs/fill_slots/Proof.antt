@@ -1,13 +1,8 @@
 -- `check_outputs::fill_slots` meets its contract. The invariant: the variables of the slots passed have their words. The measure is the slots left.
--- Assumes nothing.
-use mathlib.Core.Path.{_≡_, sym, _∙_, subst}
-use lib.ListN.{length, getD, set, length-set}
+use Rattle.base.specs.{_≡_, sym, _∙_, subst, length, getD, set, length-set, ℕ, _+_, _-_, _≤_, _<_, arith, needs}
+use Rattle.base_words.specs.{slotAt}
 use Rattle.check_outputs.proofs.Turns.{filled-more, slot-same, slots-less}
-use Prim.Native.Nat.{ℕ, _+_, _-_, _≤_, _<_}
-use native.Mathlib.Omega.{arith}
-use borrow.Author.Needs.{needs}
-use Rattle.base_words.specs.Layout.{slotAt}
-use Rattle.check_outputs.specs.Filling.{SlotsTurn}
+use Rattle.check_outputs.specs.{SlotsTurn}
 use Rattle.check_outputs.proofs.fill_slots.Statement.{statement}
 use Rattle.check_outputs.proofs.fill_slots.Tie as tie
 

@@ -1,8 +1,5 @@
--- `check_outputs::gate_of_none` meets its contract: row 0 counts. Assumes nothing.
-use mathlib.Core.Path.{sym, _∙_}
-use mathlib.Core.Bool.{true, false}
-use Prim.Native.Nat.{_%_}
-use borrow.Author.Tests.{eq-eqb, ne-eqb}
+-- `check_outputs::gate_of_none` meets its contract: row 0 counts.
+use Rattle.base.specs.{sym, _∙_, true, false, _%_, eq-eqb, ne-eqb}
 use Rattle.check_outputs.proofs.Bits.{all-bits, no-bits}
 use Rattle.check_outputs.proofs.Gates.{no-pins}
 use Rattle.check_outputs.proofs.gate_of_none.Statement.{statement}

@@ -1,17 +1,9 @@
 -- `check_outputs::input_word` meets its contract: the six patterns are computed, and the inputs behind them are the same in the whole block.
--- Assumes nothing.
-use mathlib.Core.Path.{_≡_, sym, _∙_}
-use mathlib.Core.Bool.{Bool, true, false}
-use mathlib.Core.List.{List, map}
-use Prim.Native.Nat.{ℕ, _+_, _*_, _-_, _<_, _≤_}
-use lib.Dec.{T, eqb, eqb→eq}
-use lib.ListN.{getD}
-use Rattle.model.specs.Base.{all, below, bit}
-use Rattle.model.specs.Cuts.{tabulate}
-use Rattle.base_truth.proofs.Tested.{at}
-use Rattle.check_outputs.specs.Settings.{wordOf, inputWord}
+use Rattle.base.specs.{_≡_, sym, _∙_, Bool, true, false, List, map, ℕ, _+_, _*_, _-_, _<_, _≤_, T, eqb, eqb→eq, getD, needs}
+use Rattle.model.specs.{all, below, bit, tabulate}
+use Rattle.base_truth.proofs.{at}
+use Rattle.check_outputs.specs.{wordOf, inputWord}
 use Rattle.check_outputs.proofs.Bits.{words-same, all-bits, no-bits, input-low, input-high}
-use borrow.Author.Needs.{needs}
 use Rattle.check_outputs.proofs.input_word.Statement.{statement}
 use Rattle.check_outputs.proofs.input_word.Tie as tie
 

@@ -1,8 +1,7 @@
--- `check_outputs::is_set` meets its contract: a bit by a shift. Assumes nothing.
-use mathlib.Core.Path.{sym}
-use Rattle.model.specs.Table.{value}
-use Rattle.base_truth.proofs.Tables.{value-shift}
-use borrow.Author.Needs.{needs}
+-- `check_outputs::is_set` meets its contract: a bit by a shift.
+use Rattle.base.specs.{sym, needs}
+use Rattle.model.specs.{value}
+use Rattle.base_truth.proofs.{value-shift}
 use Rattle.check_outputs.proofs.is_set.Statement.{statement}
 use Rattle.check_outputs.proofs.is_set.Tie as tie
 

@@ -1,9 +1,6 @@
--- `check_outputs::pin_word` meets its contract. Assumes nothing.
+-- `check_outputs::pin_word` meets its contract.
+use Rattle.base.specs.{_∙_, arith, getD, needs}
 use Rattle.check_outputs.proofs.Turns.{pin-none, pin-driver, pin-input}
-use mathlib.Core.Path.{_∙_}
-use native.Mathlib.Omega.{arith}
-use lib.ListN.{getD}
-use borrow.Author.Needs.{needs}
 use Rattle.check_outputs.proofs.pin_word.Statement.{statement}
 use Rattle.check_outputs.proofs.pin_word.Tie as tie
 

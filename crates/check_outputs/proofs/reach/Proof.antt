@@ -1,8 +1,6 @@
--- `check_outputs::reach` meets its contract: inside a block nothing changes. Assumes nothing.
-use mathlib.Core.Path.{ap, _∙_}
-use Prim.Native.Nat.{ℕ}
-use Rattle.check_outputs.specs.Comparable.{wrongWord}
-use borrow.Author.Needs.{needs}
+-- `check_outputs::reach` meets its contract: inside a block nothing changes.
+use Rattle.base.specs.{ap, _∙_, ℕ, needs}
+use Rattle.check_outputs.specs.{wrongWord}
 use Rattle.check_outputs.proofs.reach.Statement.{statement}
 use Rattle.check_outputs.proofs.reach.Tie as tie
 

@@ -1,8 +1,5 @@
--- `check_outputs::settings_of` meets its contract: the shift loses nothing. Assumes nothing.
-use mathlib.Core.Path.{_∙_}
-use native.Mathlib.Omega.{arith}
-use lib.Pow.{shl-exact}
-use borrow.Author.Needs.{needs}
+-- `check_outputs::settings_of` meets its contract: the shift loses nothing.
+use Rattle.base.specs.{_∙_, arith, shl-exact, needs}
 use Rattle.check_outputs.proofs.settings_of.Statement.{statement}
 use Rattle.check_outputs.proofs.settings_of.Tie as tie
 

@@ -1,11 +1,7 @@
--- `check_outputs::slot_word` meets its contract. Assumes nothing.
-use Rattle.check_outputs.specs.Filling.{andAt}
+-- `check_outputs::slot_word` meets its contract.
+use Rattle.base.specs.{ap, _∙_, _≤_, arith, getD, needs}
+use Rattle.check_outputs.specs.{andAt}
 use Rattle.check_outputs.proofs.Turns.{slot-zero, slot-input, slot-and}
-use mathlib.Core.Path.{ap, _∙_}
-use Prim.Native.Nat.{_≤_}
-use native.Mathlib.Omega.{arith}
-use lib.ListN.{getD}
-use borrow.Author.Needs.{needs}
 use Rattle.check_outputs.proofs.slot_word.Statement.{statement}
 use Rattle.check_outputs.proofs.slot_word.Tie as tie
 

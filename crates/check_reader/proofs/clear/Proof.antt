@@ -1,12 +1,7 @@
--- `check_reader::clear` meets its contract. The invariant: the first i numbers are zeros, and the others as they were. The measure is what is left. Assumes nothing.
-use mathlib.Core.Path.{_≡_, refl, sym, ap, _∙_}
-use mathlib.Core.List.{List}
-use Prim.Native.Nat.{ℕ, _+_, _-_, _≤_}
-use native.Mathlib.Omega.{arith}
-use lib.ListN.{length, set, length-set, length-replicate}
-use Rattle.base_words.specs.Put.{putAt, zeros}
-use Rattle.base_words.proofs.Putting.{put-none, put-zeros}
-use Rattle.base_words.proofs.Parts.{put-whole}
+-- `check_reader::clear` meets its contract. The invariant: the first i numbers are zeros, and the others as they were. The measure is what is left.
+use Rattle.base.specs.{_≡_, refl, sym, ap, _∙_, List, ℕ, _+_, _-_, _≤_, arith, length, set, length-set, length-replicate}
+use Rattle.base_words.specs.{putAt, zeros}
+use Rattle.base_words.proofs.{put-none, put-zeros, put-whole}
 use Rattle.check_reader.proofs.clear.Statement.{statement}
 use Rattle.check_reader.proofs.clear.Tie as tie
 

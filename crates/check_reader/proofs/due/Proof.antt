@@ -1,10 +1,5 @@
--- `check_reader::due` meets its contract: the line is missing, another, or there. Assumes nothing.
-use borrow.Author.Needs.{needs}
-use borrow.Author.Tests.{not-true, not-false}
-use mathlib.Core.Path.{sym, _∙_}
-use Prim.Native.Nat.{_+_, _≤_}
-use native.Mathlib.Omega.{arith}
-use lib.ListN.{length}
+-- `check_reader::due` meets its contract: the line is missing, another, or there.
+use Rattle.base.specs.{needs, not-true, not-false, sym, _∙_, _+_, _≤_, arith, length}
 use Rattle.check_reader.proofs.Lines.{due-missing, due-other, due-fine, due-inside}
 use Rattle.check_reader.proofs.due.Statement.{statement}
 use Rattle.check_reader.proofs.due.Tie as tie

@@ -1,11 +1,7 @@
--- `check_reader::frame` meets its contract: three lines, one behind the other. Assumes nothing.
-use borrow.Author.Needs.{needs}
-use mathlib.Core.Path.{sym, subst}
-use mathlib.Core.List.{List, _++_}
-use Prim.Native.Nat.{ℕ}
-use Rattle.model.specs.Text.{text}
-use Rattle.model.specs.Netlist.{outName}
-use Rattle.check_reader.specs.Frame.{namesFrom, inputName, Framed}
+-- `check_reader::frame` meets its contract: three lines, one behind the other.
+use Rattle.base.specs.{needs, sym, subst, List, _++_, ℕ}
+use Rattle.model.specs.{text, outName}
+use Rattle.check_reader.specs.{namesFrom, inputName, Framed}
 use Rattle.check_reader.proofs.Names.{frame-is}
 use Rattle.check_reader.proofs.Lines.{first-broken, second-broken, three-lines}
 use Rattle.check_reader.proofs.frame.Statement.{statement}

@@ -1,14 +1,8 @@
--- `check_reader::inputs_due` meets its contract: the line that is due is printed. Assumes nothing.
-use borrow.Author.Needs.{needs}
-use mathlib.Core.Path.{sym, subst}
-use mathlib.Core.List.{List, []}
-use Prim.Native.Nat.{ℕ, _+_, _≤_}
-use native.Mathlib.Omega.{arith}
-use lib.ListN.{length, replicate, length-replicate}
-use lib.Seq.{length-take-le}
-use Rattle.model.specs.Text.{text}
-use Rattle.base_words.specs.Layout.{slotAddr}
-use Rattle.check_reader.specs.Frame.{namesFrom, inputName, Due}
+-- `check_reader::inputs_due` meets its contract: the line that is due is printed.
+use Rattle.base.specs.{needs, sym, subst, List, [], ℕ, _+_, _≤_, arith, length, replicate, length-replicate, length-take-le}
+use Rattle.model.specs.{text}
+use Rattle.base_words.specs.{slotAddr}
+use Rattle.check_reader.specs.{namesFrom, inputName, Due}
 use Rattle.check_reader.proofs.Names.{inputs-short}
 use Rattle.check_reader.proofs.Lines.{names-room, printed-long, printed-is}
 use Rattle.check_reader.proofs.inputs_due.Statement.{statement}

@@ -1,11 +1,7 @@
--- `check_reader::is_line` meets its contract: its bytes are compared where byte 10 alone ends it. Assumes nothing.
-use borrow.Author.Needs.{needs}
-use mathlib.Core.Path.{_≡_, sym, _∙_, ap}
-use mathlib.Core.List.{List}
-use Prim.Native.Nat.{ℕ, _+_}
-use native.Mathlib.Omega.{arith}
-use Rattle.model.specs.Base.{same}
-use Rattle.base_text.specs.Lines.{lineAt}
+-- `check_reader::is_line` meets its contract: its bytes are compared where byte 10 alone ends it.
+use Rattle.base.specs.{needs, _≡_, sym, _∙_, ap, List, ℕ, _+_, arith}
+use Rattle.model.specs.{same}
+use Rattle.base_text.specs.{lineAt}
 use Rattle.check_reader.proofs.Seen.{line-not, line-is, stop-from, stop-fits, stop-next, line-bytes}
 use Rattle.check_reader.proofs.is_line.Statement.{statement}
 use Rattle.check_reader.proofs.is_line.Tie as tie

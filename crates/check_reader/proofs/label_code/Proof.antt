@@ -1,12 +1,6 @@
--- `check_reader::label_code` meets its contract: the number is written behind the letter. Assumes nothing.
-use borrow.Author.Needs.{needs}
-use mathlib.Core.Path.{refl, sym, _∙_, ap, ap₂}
-use mathlib.Core.List.{List}
-use Prim.Native.Nat.{ℕ}
-use native.Mathlib.Omega.{arith}
-use lib.ListN.{length, take}
-use lib.Seq.{length-take-le}
-use Rattle.check_names.specs.Codes.{code}
+-- `check_reader::label_code` meets its contract: the number is written behind the letter.
+use Rattle.base.specs.{needs, refl, sym, _∙_, ap, ap₂, List, ℕ, arith, length, take, length-take-le}
+use Rattle.check_names.specs.{code}
 use Rattle.check_reader.proofs.Naming.{labelBytes, out-long, out-size, out-put}
 use Rattle.check_reader.proofs.label_code.Statement.{statement}
 use Rattle.check_reader.proofs.label_code.Tie as tie

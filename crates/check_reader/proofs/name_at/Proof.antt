@@ -1,12 +1,8 @@
--- `check_reader::name_at` meets its contract: the line is judged where byte 10 alone ends it. Assumes nothing.
-use borrow.Author.Needs.{needs}
-use mathlib.Core.Path.{_≡_, sym, _∙_, ap}
-use mathlib.Core.List.{List}
-use Prim.Native.Nat.{ℕ, _+_}
-use native.Mathlib.Omega.{arith}
-use Rattle.model.specs.Check.{nameDriver}
-use Rattle.base_text.specs.Lines.{lineAt}
-use Rattle.check_names.specs.Bound.{nameCode}
+-- `check_reader::name_at` meets its contract: the line is judged where byte 10 alone ends it.
+use Rattle.base.specs.{needs, _≡_, sym, _∙_, ap, List, ℕ, _+_, arith}
+use Rattle.model.specs.{nameDriver}
+use Rattle.base_text.specs.{lineAt}
+use Rattle.check_names.specs.{nameCode}
 use Rattle.check_reader.proofs.Seen.{stop-from, stop-fits, stop-next, line-bytes}
 use Rattle.check_reader.proofs.Gathering.{name-not, name-is}
 use Rattle.check_reader.proofs.name_at.Statement.{statement}

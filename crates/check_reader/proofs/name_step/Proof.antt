@@ -1,23 +1,15 @@
--- `check_reader::name_step` meets its contract: each return knows which line was met. Assumes nothing.
-use borrow.Author.Needs.{needs}
-use borrow.Author.Tests.{not-true, not-false}
-use mathlib.Core.Path.{_≡_, refl, sym, _∙_, ap, subst}
-use mathlib.Core.Bool.{true≢false}
-use mathlib.Core.List.{_∷_}
-use Prim.Native.Nat.{ℕ, suc, _+_, _*_, _≤_, _<_}
-use native.Mathlib.Omega.{arith}
-use lib.ListN.{length}
-use Rattle.model.specs.Text.{text}
-use Rattle.model.specs.Reading.{holds, fault, next}
-use Rattle.model.specs.Check.{isLine, readNames}
-use Rattle.base_words.specs.Put.{putAt}
-use Rattle.base_words.proofs.Putting.{length-put}
-use Rattle.base_text.specs.Lines.{lineAt}
-use Rattle.check_reader.specs.Store.{gateWords}
-use Rattle.check_reader.specs.Frame.{linesAt}
+-- `check_reader::name_step` meets its contract: each return knows which line was met.
+use Rattle.base.specs.{needs, not-true, not-false, _≡_, refl, sym, _∙_, ap, subst, true≢false, _∷_, ℕ, suc, _+_, _*_, _≤_, _<_, arith}
+use Rattle.base.specs.{length}
+use Rattle.model.specs.{text, holds, fault, next, isLine, readNames}
+use Rattle.base_words.specs.{putAt}
+use Rattle.base_words.proofs.{length-put}
+use Rattle.base_text.specs.{lineAt}
+use Rattle.check_reader.specs.{gateWords, linesAt}
 use Rattle.check_reader.proofs.Seen.{stop-from, stop-next, line-next, line-long}
 use Rattle.check_reader.proofs.Gathering.{gate-eight}
-use Rattle.check_reader.proofs.Naming.{name-none, name-some, name-long, names-missing, names-broken, names-rowless, row-broken, row-fine}
+use Rattle.check_reader.proofs.Naming.{name-none, name-some, name-long, names-missing, names-broken, names-rowless, row-broken}
+use Rattle.check_reader.proofs.Naming.{row-fine}
 use Rattle.check_reader.proofs.name_step.Statement.{statement}
 use Rattle.check_reader.proofs.name_step.Tie as tie
 

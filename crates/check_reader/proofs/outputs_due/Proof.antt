@@ -1,14 +1,7 @@
--- `check_reader::outputs_due` meets its contract: the line that is due is printed. Assumes nothing.
-use borrow.Author.Needs.{needs}
-use mathlib.Core.Path.{sym, subst}
-use mathlib.Core.List.{List, []}
-use Prim.Native.Nat.{ℕ, _+_, _≤_}
-use native.Mathlib.Omega.{arith}
-use lib.ListN.{length, replicate, length-replicate}
-use lib.Seq.{length-take-le}
-use Rattle.model.specs.Text.{text}
-use Rattle.model.specs.Netlist.{outName}
-use Rattle.check_reader.specs.Frame.{namesFrom, Due}
+-- `check_reader::outputs_due` meets its contract: the line that is due is printed.
+use Rattle.base.specs.{needs, sym, subst, List, [], ℕ, _+_, _≤_, arith, length, replicate, length-replicate, length-take-le}
+use Rattle.model.specs.{text, outName}
+use Rattle.check_reader.specs.{namesFrom, Due}
 use Rattle.check_reader.proofs.Names.{outs-short}
 use Rattle.check_reader.proofs.Lines.{names-room, printed-long, printed-is}
 use Rattle.check_reader.proofs.outputs_due.Statement.{statement}

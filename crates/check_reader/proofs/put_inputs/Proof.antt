@@ -1,12 +1,9 @@
--- `check_reader::put_inputs` meets its contract. The invariant: the first i names are written. The measure is the number of names left. Assumes nothing.
-use mathlib.Core.Path.{_≡_, sym, ap, _∙_}
-use mathlib.Core.List.{List, _∷_, _++_}
-use Prim.Native.Nat.{ℕ, _+_, _-_, _≤_}
-use native.Mathlib.Omega.{arith}
-use Rattle.model.specs.Text.{decimal}
-use Rattle.base_words.specs.Layout.{slotAddr}
-use Rattle.base_text.proofs.Progress.{Partly, begin, step, room, kept, end}
-use Rattle.check_reader.specs.Frame.{namesFrom, inputName}
+-- `check_reader::put_inputs` meets its contract. The invariant: the first i names are written. The measure is the number of names left.
+use Rattle.base.specs.{_≡_, sym, ap, _∙_, List, _∷_, _++_, ℕ, _+_, _-_, _≤_, arith}
+use Rattle.model.specs.{decimal}
+use Rattle.base_words.specs.{slotAddr}
+use Rattle.base_text.proofs.{Partly, begin, step, room, kept, end}
+use Rattle.check_reader.specs.{namesFrom, inputName}
 use Rattle.check_reader.proofs.Names.{names-next, names-none, input-is}
 use Rattle.check_reader.proofs.put_inputs.Statement.{statement}
 use Rattle.check_reader.proofs.put_inputs.Tie as tie

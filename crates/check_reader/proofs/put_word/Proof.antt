@@ -1,10 +1,7 @@
--- `check_reader::put_word` meets its contract: a space and the letter, and the number behind them. Assumes nothing.
-use borrow.Author.Needs.{needs}
-use mathlib.Core.Path.{refl, sym}
-use mathlib.Core.List.{_∷_, [], append-nil}
-use native.Mathlib.Omega.{arith}
-use Rattle.model.specs.Text.{decimal}
-use Rattle.base_text.proofs.Progress.{Partly, begin, step, room, finish, as-wrote}
+-- `check_reader::put_word` meets its contract: a space and the letter, and the number behind them.
+use Rattle.base.specs.{needs, refl, sym, _∷_, [], append-nil, arith}
+use Rattle.model.specs.{decimal}
+use Rattle.base_text.proofs.{Partly, begin, step, room, finish, as-wrote}
 use Rattle.check_reader.proofs.put_word.Statement.{statement}
 use Rattle.check_reader.proofs.put_word.Tie as tie
 

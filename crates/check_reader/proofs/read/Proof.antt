@@ -1,9 +1,5 @@
--- `check_reader::read` meets its contract: the lines read, and the array cleared where one breaks its form. Assumes nothing.
-use borrow.Author.Needs.{needs}
-use mathlib.Core.Path.{_≡_, ap, _∙_}
-use Prim.Native.Nat.{ℕ}
-use native.Mathlib.Omega.{arith}
-use lib.ListN.{length, replicate}
+-- `check_reader::read` meets its contract: the lines read, and the array cleared where one breaks its form.
+use Rattle.base.specs.{needs, _≡_, ap, _∙_, ℕ, arith, length, replicate}
 use Rattle.check_reader.proofs.Taking.{read-broken, read-whole}
 use Rattle.check_reader.proofs.read.Statement.{statement}
 use Rattle.check_reader.proofs.read.Tie as tie

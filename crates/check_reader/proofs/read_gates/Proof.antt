@@ -1,24 +1,16 @@
 -- `check_reader::read_gates` meets its contract. The invariant: the drivers of the lines so far stand first in the array, and the lines from here on are due; each line has six bytes at least. The measure is
--- what is left of the text. Assumes nothing.
-use borrow.Author.Needs.{needs}
-use borrow.Author.Tests.{not-true, not-false}
-use mathlib.Core.Path.{_≡_, refl, sym, _∙_, ap, subst}
-use mathlib.Core.List.{List, []}
-use Prim.Native.Nat.{ℕ, _+_, _-_, _*_, _≤_}
-use native.Mathlib.Omega.{arith}
-use lib.ListN.{length, getD}
-use Rattle.model.specs.Base.{same}
-use Rattle.model.specs.Text.{text, fields}
-use Rattle.model.specs.Cells.{cellsOf}
-use Rattle.model.specs.Check.{isGate}
-use Rattle.base_text.specs.Lines.{lineAt}
-use Rattle.check_names.proofs.Named.{gate-long}
-use mathlib.Core.Bool.{true}
-use Rattle.base_words.specs.Put.{putAt}
-use Rattle.base_words.proofs.Putting.{length-put}
-use Rattle.check_reader.specs.Store.{gateWords}
+-- what is left of the text.
+use Rattle.base.specs.{needs, not-true, not-false, _≡_, refl, sym, _∙_, ap, subst, List, [], ℕ, _+_, _-_, _*_, _≤_, arith, length, getD}
+use Rattle.base.specs.{true}
+use Rattle.model.specs.{same, text, fields, cellsOf, isGate}
+use Rattle.base_words.specs.{putAt}
+use Rattle.base_words.proofs.{length-put}
+use Rattle.base_text.specs.{lineAt}
+use Rattle.check_names.proofs.{gate-long}
+use Rattle.check_reader.specs.{gateWords}
 use Rattle.check_reader.proofs.Seen.{stop-from, stop-fits, stop-next, line-bytes, line-next, line-long}
-use Rattle.check_reader.proofs.Gathering.{gate-eight, Sofar, so-start, so-end, so-names, so-broken, so-step, drives-none, drives-some}
+use Rattle.check_reader.proofs.Gathering.{gate-eight, Sofar, so-start, so-end, so-names, so-broken, so-step, drives-none}
+use Rattle.check_reader.proofs.Gathering.{drives-some}
 use Rattle.check_reader.proofs.read_gates.Statement.{statement}
 use Rattle.check_reader.proofs.read_gates.Tie as tie
 

@@ -1,8 +1,6 @@
--- `check_reader::read_lines` meets its contract: one part of the text behind the other. Assumes nothing.
-use borrow.Author.Needs.{needs}
-use mathlib.Core.Path.{_∙_}
-use native.Mathlib.Omega.{arith}
-use Rattle.model.specs.Text.{text}
+-- `check_reader::read_lines` meets its contract: one part of the text behind the other.
+use Rattle.base.specs.{needs, _∙_, arith}
+use Rattle.model.specs.{text}
 use Rattle.check_reader.proofs.Taking.{frame-broken, gates-size, gates-broken, pairs-broken, all-taken}
 use Rattle.check_reader.proofs.read_lines.Statement.{statement}
 use Rattle.check_reader.proofs.read_lines.Tie as tie

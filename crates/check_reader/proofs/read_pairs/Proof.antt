@@ -1,9 +1,6 @@
 -- `check_reader::read_pairs` meets its contract. The invariant: the drivers of the outputs so far stand in the array, and the lines from here on are due; the measure is how many
--- outputs are left. Assumes nothing.
-use mathlib.Core.Path.{_≡_, _∙_}
-use Prim.Native.Nat.{_+_, _-_, _*_, _≤_}
-use native.Mathlib.Omega.{arith}
-use lib.ListN.{length}
+-- outputs are left.
+use Rattle.base.specs.{_≡_, _∙_, _+_, _-_, _*_, _≤_, arith, length}
 use Rattle.check_reader.proofs.Naming.{Pairs, pairs-start, pairs-broken, pairs-step, pairs-end}
 use Rattle.check_reader.proofs.read_pairs.Statement.{statement}
 use Rattle.check_reader.proofs.read_pairs.Tie as tie

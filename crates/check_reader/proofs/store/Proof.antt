@@ -1,6 +1,6 @@
--- `check_reader::store` meets its contract: the eight numbers are put. Assumes nothing.
-use borrow.Author.Needs.{needs}
-use Rattle.check_reader.specs.Store.{gateWords}
+-- `check_reader::store` meets its contract: the eight numbers are put.
+use Rattle.base.specs.{needs}
+use Rattle.check_reader.specs.{gateWords}
 use Rattle.check_reader.proofs.store.Statement.{statement}
 use Rattle.check_reader.proofs.store.Tie as tie
 

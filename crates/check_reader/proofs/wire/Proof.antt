@@ -1,9 +1,6 @@
--- `check_reader::wire` meets its contract. Assumes nothing.
-use borrow.Author.Needs.{needs}
-use mathlib.Core.Path.{sym, _∙_, ap}
-use Prim.Native.Nat.{ℕ}
-use mathlib.Core.List.{[], _∷_}
-use Rattle.check_names.specs.Codes.{code}
+-- `check_reader::wire` meets its contract.
+use Rattle.base.specs.{needs, sym, _∙_, ap, ℕ, [], _∷_}
+use Rattle.check_names.specs.{code}
 use Rattle.check_reader.proofs.Names.{out-is}
 use Rattle.check_reader.proofs.wire.Statement.{statement}
 use Rattle.check_reader.proofs.wire.Tie as tie

@@ -1,8 +1,6 @@
--- `check_wires::find` meets its contract. The invariant: a driver of this number is on what is left of the chain. The measure is how far the chain can lead. Assumes nothing.
-use Prim.Native.Nat.{ℕ, _-_, _≤_}
-use native.Mathlib.Omega.{arith}
-use mathlib.Core.Path.{_≡_, sym, subst}
-use Rattle.check_wires.specs.Chains.{ownAt, On}
+-- `check_wires::find` meets its contract. The invariant: a driver of this number is on what is left of the chain. The measure is how far the chain can lead.
+use Rattle.base.specs.{ℕ, _-_, _≤_, arith, _≡_, sym, subst}
+use Rattle.check_wires.specs.{ownAt, On}
 use Rattle.check_wires.proofs.Chaining.{on-none, on-next}
 use Rattle.check_wires.proofs.find.Statement.{statement}
 use Rattle.check_wires.proofs.find.Tie as tie
@@ -44,8 +42,6 @@ returns-2 c =
     }
 
 pub find-spec : {M : Type 1} → statement M
-find-spec =
-    tie.close
-    (tie.spec
+find-spec = tie.close (tie.spec
     Inv-loop μ-loop loop-holds (λ c. omega arith) (λ c. omega arith) (λ c. omega arith) (λ c. omega arith) (λ c. omega arith) returns
     (λ c κs. omega arith) loop-less loop-again returns-2)

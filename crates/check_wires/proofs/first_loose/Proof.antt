@@ -1,10 +1,6 @@
--- `check_wires::first_loose` meets its contract. The invariant: the pins of the drivers passed are written. The measure is how many drivers are left. Assumes nothing.
-use Prim.Native.Nat.{ℕ, _-_, _*_, _≤_, _<_}
-use native.Mathlib.Omega.{arith}
-use mathlib.Core.Path.{_≡_, refl, _∙_}
-use lib.ListN.{length, getD}
-use borrow.Author.Tests.{not-true, not-false}
-use Rattle.check_wires.specs.Pins.{Row}
+-- `check_wires::first_loose` meets its contract. The invariant: the pins of the drivers passed are written. The measure is how many drivers are left.
+use Rattle.base.specs.{ℕ, _-_, _*_, _≤_, _<_, arith, _≡_, refl, _∙_, length, getD, not-true, not-false}
+use Rattle.check_wires.specs.{Row}
 use Rattle.check_wires.proofs.Pinning.{rows-stay, rows-next}
 use Rattle.check_wires.proofs.first_loose.Statement.{statement}
 use Rattle.check_wires.proofs.first_loose.Tie as tie
@@ -52,7 +48,5 @@ returns-2 c =
     record { long = l .loop .inv .2; rows = record { most = omega arith; rows = λ k h. l .loop .inv .1 k h; loose = λ h. absurd (omega arith) }; behind = l .loop .inv .3 }
 
 pub first-loose-spec : {M : Type 1} → statement M
-first-loose-spec =
-    tie.close
-    (tie.spec
+first-loose-spec = tie.close (tie.spec
     Inv-loop μ-loop loop-holds pins-of-requires returns (λ c. omega arith) (λ c. omega arith) loop-again returns-2)

@@ -1,12 +1,6 @@
--- `check_wires::first_twice` meets its contract. The invariant: the nets of the drivers passed are driven once, and they are on their chains. The measure is how many drivers are left. Assumes nothing.
-use Prim.Native.Nat.{ℕ, _+_, _-_, _%_, _≤_, _<_}
-use native.Mathlib.Omega.{arith}
-use mathlib.Core.Path.{refl, sym, subst}
-use mathlib.Core.List.{List}
-use lib.ListN.{set}
-use borrow.Author.Count.{below-more}
-use Rattle.check_wires.specs.Chains.{ownAt, headOf, Chained}
-use Rattle.check_wires.specs.Pins.{Undriven}
+-- `check_wires::first_twice` meets its contract. The invariant: the nets of the drivers passed are driven once, and they are on their chains. The measure is how many drivers are left.
+use Rattle.base.specs.{ℕ, _+_, _-_, _%_, _≤_, _<_, arith, refl, sym, subst, List, set, below-more}
+use Rattle.check_wires.specs.{ownAt, headOf, Chained, Undriven}
 use Rattle.check_wires.proofs.Chaining.{chained-next}
 use Rattle.check_wires.proofs.Pinning.{driven}
 use Rattle.check_wires.proofs.first_twice.Statement.{statement}
@@ -87,8 +81,6 @@ returns-2 c =
     )
 
 pub first-twice-spec : {M : Type 1} → statement M
-first-twice-spec =
-    tie.close
-    (tie.spec
+first-twice-spec = tie.close (tie.spec
     Inv-loop μ-loop loop-holds mul-x add-x mul-x-2 shared-slice-read-x look-requires add-if1 returns enter-requires (λ c. omega arith)
     (λ c. omega arith) loop-again returns-2)

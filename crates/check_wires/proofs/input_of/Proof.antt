@@ -1,9 +1,5 @@
--- `check_wires::input_of` meets its contract. The invariant: none of the inputs passed has the number. The measure is how many are left. Assumes nothing.
-use Prim.Native.Nat.{ℕ, _-_, _≤_, _<_}
-use native.Mathlib.Omega.{arith}
-use mathlib.Core.Path.{_≡_}
-use lib.ListN.{getD}
-use borrow.Author.Count.{below-more}
+-- `check_wires::input_of` meets its contract. The invariant: none of the inputs passed has the number. The measure is how many are left.
+use Rattle.base.specs.{ℕ, _-_, _≤_, _<_, arith, _≡_, getD, below-more}
 use Rattle.check_wires.proofs.input_of.Statement.{statement}
 use Rattle.check_wires.proofs.input_of.Tie as tie
 
@@ -30,7 +26,5 @@ returns-2 c =
     record { most = omega arith; is = λ h. absurd (omega arith); none = λ e m h. l .loop .inv .1 m (omega arith) }
 
 pub input-of-spec : {M : Type 1} → statement M
-input-of-spec =
-    tie.close
-    (tie.spec
+input-of-spec = tie.close (tie.spec
     Inv-loop μ-loop loop-holds (λ c. omega arith) (λ c. omega arith) returns (λ c. omega arith) (λ c. omega arith) loop-again returns-2)

@@ -1,10 +1,7 @@
--- `check_wires::look` meets its contract. Assumes nothing.
-use borrow.Author.Needs.{needs}
-use Prim.Native.Nat.{_%_, _≤_}
-use native.Mathlib.Omega.{arith}
-use Rattle.check_wires.specs.Chains.{headOf}
+-- `check_wires::look` meets its contract.
+use Rattle.base.specs.{needs, _%_, _≤_, arith}
+use Rattle.check_wires.specs.{headOf}
 use Rattle.check_wires.proofs.Chaining.{looked-input, looked-none, looked-driver}
-use borrow.Author.Needs.{needs}
 use Rattle.check_wires.proofs.look.Statement.{statement}
 use Rattle.check_wires.proofs.look.Tie as tie
 
@@ -51,7 +48,5 @@ returns-3 c =
     (h .head .ensures) (f .find .ensures) (c .if2 .left)
 
 pub look-spec : {M : Type 1} → statement M
-look-spec =
-    tie.close
-    (tie.spec
+look-spec = tie.close (tie.spec
     (λ c κs. search needs) returns (λ c κs. search needs) find-requires (λ c. search needs) returns-2 add-result-2 returns-3)

@@ -1,7 +1,5 @@
--- `check_wires::pin_of` meets its contract. Assumes nothing.
-use borrow.Author.Needs.{needs}
-use native.Mathlib.Omega.{arith}
-use mathlib.Core.Path.{refl}
+-- `check_wires::pin_of` meets its contract.
+use Rattle.base.specs.{needs, arith, refl}
 use Rattle.check_wires.proofs.Pinning.{pin-looked}
 use Rattle.check_wires.proofs.pin_of.Statement.{statement}
 use Rattle.check_wires.proofs.pin_of.Tie as tie
@@ -22,8 +20,6 @@ returns-2 c =
     pin-looked (a .nets .now) (a .inputs .now) (a .count) (a .n) (a .i) (a .j) (c .look .result) (t .if1 .left) (c .look .ensures)
 
 pub pin-of-spec : {M : Type 1} → statement M
-pin-of-spec =
-    tie.close
-    (tie.spec
+pin-of-spec = tie.close (tie.spec
     (λ c. search needs) (λ c. search needs) (λ c. search needs) (λ c. search needs) returns (λ c. search needs) (λ c. search needs)
     (λ c. search needs) (λ c. search needs) (λ c. search needs) (λ c κs. search needs) returns-2)

@@ -1,7 +1,5 @@
--- `check_wires::pins_of` meets its contract. The invariant: the first j pins are written. The measure is how many are left. Assumes nothing.
-use Prim.Native.Nat.{_+_, _-_, _≤_}
-use native.Mathlib.Omega.{arith}
-use mathlib.Core.Bool.{true≢false, false≢true}
+-- `check_wires::pins_of` meets its contract. The invariant: the first j pins are written. The measure is how many are left.
+use Rattle.base.specs.{_+_, _-_, _≤_, arith, true≢false, false≢true}
 use Rattle.check_wires.proofs.Pinning.{Filled, filled-none, filled-next}
 use Rattle.check_wires.proofs.pins_of.Statement.{statement}
 use Rattle.check_wires.proofs.pins_of.Tie as tie
@@ -66,8 +64,6 @@ returns-2 c =
     record { long = l .loop .inv .1 .long; row = λ e j h. l .loop .inv .1 .pins j (omega arith); kept = l .loop .inv .1 .kept; behind = l .loop .inv .1 .behind; loose = λ e. absurd (true≢false e) }
 
 pub pins-of-spec : {M : Type 1} → statement M
-pins-of-spec =
-    tie.close
-    (tie.spec
+pins-of-spec = tie.close (tie.spec
     Inv-loop μ-loop loop-holds pin-of-requires add-if1 returns cast-refs mul-refs add-refs mul-refs-2 element-write-refs (λ c. omega arith)
     (λ c. omega arith) loop-again returns-2)

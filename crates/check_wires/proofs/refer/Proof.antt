@@ -1,8 +1,6 @@
--- `check_wires::refer` meets its contract. Assumes nothing.
-use Prim.Native.Nat.{_≤_}
-use native.Mathlib.Omega.{arith}
-use mathlib.Core.Path.{_≡_, refl, subst}
-use Rattle.check_wires.specs.Pins.{Once}
+-- `check_wires::refer` meets its contract.
+use Rattle.base.specs.{_≤_, arith, _≡_, refl, subst}
+use Rattle.check_wires.specs.{Once}
 use Rattle.check_wires.proofs.Chaining.{chained-none}
 use Rattle.check_wires.proofs.Computing.{twice-referred, loose-referred, whole-referred}
 use Rattle.check_wires.proofs.refer.Statement.{statement}

@@ -1,13 +1,10 @@
--- `checker::main` is safe: what `load` counts is within its buffer, and the words lent are enough. Assumes nothing.
-use Prim.Native.Nat.{ℕ}
-use mathlib.Core.Path.{sym, subst}
-use lib.ListN.{length-replicate}
-use Rattle.program_files.specs.Loading.{Loaded-in}
+-- `checker::main` is safe: what `load` counts is within its buffer, and the words lent are enough.
+use Rattle.base.specs.{ℕ, sym, subst, length-replicate, needs}
+use Rattle.program_files.specs.{Loaded-in}
 use Rattle.program_files.specs.declared.Loaded.{Loaded}
 use Rattle.program_files.specs.declared.Loaded.the-variants.{Bytes}
 use Rattle.checker.specs.Enough.{Enough}
 use Rattle.checker.proofs.Lent.{lent-enough}
-use borrow.Author.Needs.{needs}
 use Rattle.checker.proofs.main.Statement.{statement}
 use Rattle.checker.proofs.main.Tie as tie
 
@@ -51,11 +48,10 @@ check-files-requires : tie.Need-check-files-requires
 check-files-requires c κs = subst Enough (sym (length-replicate {A = ℕ} 1036288 0)) lent-enough
 
 pub main-spec : {M : Type 1} → statement M
-main-spec =
-    tie.close
-    (tie.spec
-    (λ c. search needs) (λ c. search needs) (λ c. search needs) (λ c κs. search needs) (λ c. search needs) (λ c. search needs) (λ c. search needs)
-    (λ c. search needs) (λ c. search needs) (λ c. search needs) (λ c κs. search needs) (λ c. search needs) (λ c. search needs) (λ c. search needs)
-    (λ c. search needs) (λ c. search needs) (λ c. search needs) (λ c κs. search needs) (λ c. search needs) (λ c. search needs) (λ c. search needs)
-    array-share-prefix-cells slice-aggregate-check-files array-share-prefix-graph slice-aggregate-check-files-2 array-share-prefix-netlist
-    slice-aggregate-check-files-3 slice-aggregate-check-files-4 check-files-requires (λ c. search needs))
+main-spec = tie.close (tie.spec
+    (λ c. search needs) (λ c. search needs) (λ c. search needs) (λ c κs. search needs) (λ c. search needs) (λ c. search needs)
+    (λ c. search needs) (λ c. search needs) (λ c. search needs) (λ c. search needs) (λ c κs. search needs) (λ c. search needs)
+    (λ c. search needs) (λ c. search needs) (λ c. search needs) (λ c. search needs) (λ c. search needs) (λ c κs. search needs)
+    (λ c. search needs) (λ c. search needs) (λ c. search needs) array-share-prefix-cells slice-aggregate-check-files
+    array-share-prefix-graph slice-aggregate-check-files-2 array-share-prefix-netlist slice-aggregate-check-files-3
+    slice-aggregate-check-files-4 check-files-requires (λ c. search needs))

@@ -1,11 +1,8 @@
--- `cover_choice::alone` meets its contract: by the word of the cut's size. Assumes nothing.
-use mathlib.Core.Path.{sym, ap, _∙_}
-use Prim.Native.Nat.{ℕ}
-use lib.Dec.{eqb}
-use Rattle.base_words.specs.Record.{cutOf}
-use Rattle.base_words.proofs.Stored.{four-leaves}
+-- `cover_choice::alone` meets its contract: by the word of the cut's size.
+use Rattle.base.specs.{sym, ap, _∙_, ℕ, eqb, needs}
+use Rattle.base_words.specs.{cutOf}
+use Rattle.base_words.proofs.{four-leaves}
 use Rattle.cover_choice.proofs.Leaves.{alone-one, alone-not}
-use borrow.Author.Needs.{needs}
 use Rattle.cover_choice.proofs.alone.Statement.{statement}
 use Rattle.cover_choice.proofs.alone.Tie as tie
 
@@ -25,6 +22,4 @@ returns-2 c =
     (λ e. c .if1 .left (c .before .cut-size .ensures ∙ e))
 
 pub alone-spec : {M : Type 1} → statement M
-alone-spec = tie.close
-    (tie.spec
-    (λ c κs. search needs) (λ c κs. search needs) (λ c κs. search needs) returns returns-2)
+alone-spec = tie.close (tie.spec (λ c κs. search needs) (λ c κs. search needs) (λ c κs. search needs) returns returns-2)

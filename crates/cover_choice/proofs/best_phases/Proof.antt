@@ -1,17 +1,12 @@
--- `cover_choice::best_phases` meets its contract. The invariant: `positive` and `negative` are the choice among the cuts below number k; the measure is how many are left. Assumes nothing.
-use mathlib.Core.Path.{_≡_, ap, _∙_}
-use mathlib.Core.Bool.{true, false}
-use mathlib.Core.List.{List}
-use Prim.Native.Nat.{ℕ, _-_, _≤_}
-use native.Mathlib.Omega.{arith}
-use Rattle.model.specs.Choice.{choose, earlier}
+-- `cover_choice::best_phases` meets its contract. The invariant: `positive` and `negative` are the choice among the cuts below number k; the measure is how many are left.
+use Rattle.base.specs.{_≡_, ap, _∙_, true, false, List, ℕ, _-_, _≤_, arith, needs}
+use Rattle.model.specs.{choose, earlier}
 use Rattle.model.specs.declared.Cell.{Cell}
 use Rattle.model.specs.declared.Phase.{Phase}
-use Rattle.base_words.specs.Layout.{countAt}
-use Rattle.cells_matching.specs.Sheet.{SheetOf}
-use Rattle.cover_choice.specs.Choosing.{foundPhase, foundAt, foundFrom}
+use Rattle.base_words.specs.{countAt}
+use Rattle.cells_matching.specs.{SheetOf}
+use Rattle.cover_choice.specs.{foundPhase, foundAt, foundFrom}
 use Rattle.cover_choice.proofs.Found.{from-none, from-more, from-all}
-use borrow.Author.Needs.{needs}
 use Rattle.cover_choice.proofs.best_phases.Statement.{statement}
 use Rattle.cover_choice.proofs.best_phases.Tie as tie
 
@@ -77,8 +72,6 @@ returns c =
     )
 
 pub best-phases-spec : {M : Type 1} → statement M
-best-phases-spec =
-    tie.close
-    (tie.spec
+best-phases-spec = tie.close (tie.spec
     Inv-loop μ-loop (λ c κs. search needs) (λ c κs. search needs) count-requires loop-holds cut-phases-requires (λ c. omega arith) loop-less
     loop-again (λ c κs. search needs) (λ c κs. search needs) returns)

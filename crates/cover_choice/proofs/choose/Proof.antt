@@ -1,10 +1,9 @@
--- `cover_choice::choose` meets its contract: the sheet is that of the cells to map with, and the listed cells' inverter is theirs. Assumes nothing.
-use mathlib.Core.Path.{sym, ap, subst, _∙_}
-use Rattle.model.specs.Cells.{cellsOf}
-use Rattle.cells_pairs.specs.Codes.{cellsBy}
-use Rattle.cells_matching.proofs.Pairing.{inverter-by}
-use Rattle.cover_choice.specs.Choosing.{chosenUp, ToolsIn, Unchosen}
-use borrow.Author.Needs.{needs}
+-- `cover_choice::choose` meets its contract: the sheet is that of the cells to map with, and the listed cells' inverter is theirs.
+use Rattle.base.specs.{sym, ap, subst, _∙_, needs}
+use Rattle.model.specs.{cellsOf}
+use Rattle.cells_pairs.specs.{cellsBy}
+use Rattle.cells_matching.proofs.{inverter-by}
+use Rattle.cover_choice.specs.{chosenUp, ToolsIn, Unchosen}
 use Rattle.cover_choice.proofs.choose.Statement.{statement}
 use Rattle.cover_choice.proofs.choose.Tie as tie
 
@@ -31,7 +30,4 @@ returns c =
     ∙ ap (chosenUp (cellsBy (cellsOf (a .lib)) (a .codes .now)) (a .work .now) (a .h .size)) (c .before .before .before .placed .ensures)
 
 pub choose-spec : {M : Type 1} → statement M
-choose-spec =
-    tie.close
-    (tie.spec
-    (λ c κs. search needs) (λ c κs. search needs) choose-variables-requires (λ c. search needs) returns)
+choose-spec = tie.close (tie.spec (λ c κs. search needs) (λ c κs. search needs) choose-variables-requires (λ c. search needs) returns)

@@ -1,21 +1,12 @@
--- `cover_choice::choose_variable` meets its contract: what is stored has room, and is the choice with inverters. Assumes nothing.
-use mathlib.Core.Path.{_≡_, sym, ap, subst, _∙_}
-use mathlib.Core.Bool.{true, false}
-use mathlib.Core.List.{List}
-use Prim.Native.Nat.{ℕ, _+_}
-use native.Mathlib.Omega.{arith}
-use lib.ListN.{length}
-use Rattle.model.specs.Choice.{joined}
+-- `cover_choice::choose_variable` meets its contract: what is stored has room, and is the choice with inverters.
+use Rattle.base.specs.{_≡_, sym, ap, subst, _∙_, true, false, List, ℕ, _+_, arith, length, needs}
+use Rattle.model.specs.{joined}
 use Rattle.model.specs.declared.Phase.{Phase}
-use Rattle.base_words.specs.Put.{putAt}
-use Rattle.base_words.specs.Layout.{Room, positiveAddr, negativeAddr}
-use Rattle.base_words.specs.Phases.{PhaseFits, phaseWords}
-use Rattle.base_words.proofs.Putting.{length-put}
-use Rattle.base_words.proofs.Chosen.{length-phase}
-use Rattle.cover_choice.specs.Choosing.{directAt, putPhases, chosenTurn}
+use Rattle.base_words.specs.{putAt, Room, positiveAddr, negativeAddr, PhaseFits, phaseWords}
+use Rattle.base_words.proofs.{length-put, length-phase}
+use Rattle.cover_choice.specs.{directAt, putPhases, chosenTurn}
 use Rattle.cover_choice.proofs.Fitting.{Fitting, direct-fit}
 use Rattle.cover_choice.proofs.Turning.{sooner-is, turn-fit}
-use borrow.Author.Needs.{needs}
 use Rattle.cover_choice.proofs.choose_variable.Statement.{statement}
 use Rattle.cover_choice.proofs.choose_variable.Tie as tie
 
@@ -96,8 +87,6 @@ returns c =
     ∙ (λ i. putAt (putAt w (positiveAddr (a .m) (a .v)) (phaseWords (one i))) (negativeAddr (a .m) (a .v)) (phaseWords (two i)))
 
 pub choose-variable-spec : {M : Type 1} → statement M
-choose-variable-spec =
-    tie.close
-    (tie.spec
-    direct-requires invert-requires (λ c κs. search needs) invert-requires-2 (λ c κs. search needs) set-positive-requires set-negative-requires
-    (λ c. search needs) returns)
+choose-variable-spec = tie.close (tie.spec
+    direct-requires invert-requires (λ c κs. search needs) invert-requires-2 (λ c κs. search needs) set-positive-requires
+    set-negative-requires (λ c. search needs) returns)

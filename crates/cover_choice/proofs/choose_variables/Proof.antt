@@ -1,12 +1,8 @@
--- `cover_choice::choose_variables` meets its contract. The invariant: the first i variables are chosen; the measure is what is left of them. Assumes nothing.
-use mathlib.Core.Path.{_≡_, refl, sym, ap, subst, _∙_}
-use mathlib.Core.List.{List}
-use Prim.Native.Nat.{ℕ, suc, _+_, _-_, _≤_}
-use native.Mathlib.Omega.{arith}
-use lib.ListN.{length}
+-- `cover_choice::choose_variables` meets its contract. The invariant: the first i variables are chosen; the measure is what is left of them.
+use Rattle.base.specs.{_≡_, refl, sym, ap, subst, _∙_, List, ℕ, suc, _+_, _-_, _≤_, arith, length}
 use Rattle.model.specs.declared.Cell.{Cell}
-use Rattle.base_words.specs.Layout.{slotAt}
-use Rattle.cover_choice.specs.Choosing.{chosenTurn, chosenUp, Choosable, ToolsIn}
+use Rattle.base_words.specs.{slotAt}
+use Rattle.cover_choice.specs.{chosenTurn, chosenUp, Choosable, ToolsIn}
 use Rattle.cover_choice.proofs.Turning.{up-after, up-choosable, after-slot}
 use Rattle.cover_choice.proofs.choose_variables.Statement.{statement}
 use Rattle.cover_choice.proofs.choose_variables.Tie as tie
@@ -78,7 +74,5 @@ returns c =
     λ cells tools. l .loop .inv .1 cells tools ∙ ap (chosenUp cells (a .work .now) (a .m)) e
 
 pub choose-variables-spec : {M : Type 1} → statement M
-choose-variables-spec =
-    tie.close
-    (tie.spec
+choose-variables-spec = tie.close (tie.spec
     Inv-loop μ-loop loop-holds slot-requires choose-variable-requires (λ c. omega arith) (λ c. omega arith) loop-again same-length returns)

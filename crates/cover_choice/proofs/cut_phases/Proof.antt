@@ -1,20 +1,13 @@
--- `cover_choice::cut_phases` meets its contract: by whether the cut is the variable alone, and whether its function is a cell's in either phase. Assumes nothing.
-use mathlib.Core.Path.{_≡_, sym, ap, _∙_}
-use mathlib.Core.Bool.{true, false}
-use mathlib.Core.List.{List}
-use Prim.Native.Nat.{ℕ, _<_}
-use native.Mathlib.Omega.{arith}
-use Rattle.model.specs.Choice.{noPhase, earlier, choose}
-use Rattle.model.specs.Matching.{phaseTable}
+-- `cover_choice::cut_phases` meets its contract: by whether the cut is the variable alone, and whether its function is a cell's in either phase.
+use Rattle.base.specs.{_≡_, sym, ap, _∙_, true, false, List, ℕ, _<_, arith, needs, not-true}
+use Rattle.model.specs.{noPhase, earlier, choose, phaseTable}
 use Rattle.model.specs.declared.Phase.{Phase}
-use Rattle.cells_matching.proofs.Matching.{phase-end}
-use Rattle.base_words.specs.Record.{leavesAt}
-use Rattle.base_words.proofs.Tabled.{function-fits}
+use Rattle.base_words.specs.{leavesAt}
+use Rattle.base_words.proofs.{function-fits}
+use Rattle.cells_matching.proofs.{phase-end}
 use Rattle.cover_choice.specs.declared.CutMatch.{CutMatch}
-use Rattle.cover_choice.specs.Choosing.{foundPhase, foundOn}
+use Rattle.cover_choice.specs.{foundPhase, foundOn}
 use Rattle.cover_choice.proofs.Found.{few-leaves, table-small, table-straight, on-none, at-alone, at-cut}
-use borrow.Author.Needs.{needs}
-use borrow.Author.Tests.{not-true}
 use Rattle.cover_choice.proofs.cut_phases.Statement.{statement}
 use Rattle.cover_choice.proofs.cut_phases.Tie as tie
 
@@ -85,7 +78,4 @@ returns-3 c =
     )
 
 pub cut-phases-spec : {M : Type 1} → statement M
-cut-phases-spec =
-    tie.close
-    (tie.spec
-    alone-requires returns table-requires is-matched-requires returns-2 (λ c κs. search needs) returns-3)
+cut-phases-spec = tie.close (tie.spec alone-requires returns table-requires is-matched-requires returns-2 (λ c κs. search needs) returns-3)

@@ -1,16 +1,9 @@
--- `cover_choice::direct` meets its contract: by what the variable is. Assumes nothing.
-use mathlib.Core.Path.{_≡_, sym, ap, _∙_}
-use mathlib.Core.Bool.{Bool, true, false}
-use mathlib.Core.List.{List}
-use mathlib.Core.Logic.{⊎-elim, inl, inr}
-use Prim.Native.Nat.{ℕ}
-use borrow.Author.Tests.{ne-eqb}
-use Rattle.model.specs.Choice.{noPhase}
+-- `cover_choice::direct` meets its contract: by what the variable is.
+use Rattle.base.specs.{_≡_, sym, ap, _∙_, Bool, true, false, List, ⊎-elim, inl, inr, ℕ, ne-eqb, needs}
+use Rattle.model.specs.{noPhase}
 use Rattle.model.specs.declared.Cell.{Cell}
-use Rattle.base_words.specs.Layout.{constantKind, inputKind, andKind, kindAt, leftAt, rightAt}
-use Rattle.base_words.specs.Record.{nodeOf, nodeAt}
-use Rattle.cover_choice.specs.Choosing.{bestAt, ownPhase, directOf, directAt}
-use borrow.Author.Needs.{needs}
+use Rattle.base_words.specs.{constantKind, inputKind, andKind, kindAt, leftAt, rightAt, nodeOf, nodeAt}
+use Rattle.cover_choice.specs.{bestAt, ownPhase, directOf, directAt}
 use Rattle.cover_choice.proofs.direct.Statement.{statement}
 use Rattle.cover_choice.proofs.direct.Tie as tie
 
@@ -65,7 +58,5 @@ returns-3 c =
     )
 
 pub direct-spec : {M : Type 1} → statement M
-direct-spec =
-    tie.close
-    (tie.spec
+direct-spec = tie.close (tie.spec
     (λ c κs. search needs) (λ c κs. search needs) own-requires (λ c κs. search needs) returns returns-2 returns-3)

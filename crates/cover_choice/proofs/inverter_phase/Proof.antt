@@ -1,11 +1,8 @@
--- `cover_choice::inverter_phase` meets its contract: by whether there is something to feed the inverter. Assumes nothing.
-use mathlib.Core.Path.{sym, ap, _∙_}
-use mathlib.Core.Bool.{Bool, cond}
-use Prim.Native.Nat.{_+_}
-use Rattle.model.specs.Choice.{noPhase}
+-- `cover_choice::inverter_phase` meets its contract: by whether there is something to feed the inverter.
+use Rattle.base.specs.{sym, ap, _∙_, Bool, cond, _+_, needs}
+use Rattle.model.specs.{noPhase}
 use Rattle.model.specs.declared.Source.the-variants.{Inverter as Inverted}
-use Rattle.cells_matching.specs.Inverters.{inverted}
-use borrow.Author.Needs.{needs}
+use Rattle.cells_matching.specs.{inverted}
 use Rattle.cover_choice.proofs.inverter_phase.Statement.{statement}
 use Rattle.cover_choice.proofs.inverter_phase.Tie as tie
 
@@ -23,7 +20,4 @@ returns-2 c =
     sym (ap (λ (b : Bool). cond b noPhase (record { source = Inverted (a .line); arrival = a .from .arrival + a .d })) (sym (c .before .before .is-absent .ensures) ∙ c .before .if1 .left))
 
 pub inverter-phase-spec : {M : Type 1} → statement M
-inverter-phase-spec =
-    tie.close
-    (tie.spec
-    (λ c κs. search needs) (λ c κs. search needs) returns (λ c. search needs) returns-2)
+inverter-phase-spec = tie.close (tie.spec (λ c κs. search needs) (λ c κs. search needs) returns (λ c. search needs) returns-2)

@@ -1,9 +1,6 @@
--- `cover_choice::is_matched` meets its contract. Assumes nothing.
-use mathlib.Core.Path.{sym, ap, _∙_}
-use mathlib.Core.Bool.{true≢false}
-use Prim.Native.Nat.{ℕ}
-use Rattle.cells_matching.specs.Sheet.{isListed}
-use borrow.Author.Needs.{needs}
+-- `cover_choice::is_matched` meets its contract.
+use Rattle.base.specs.{sym, ap, _∙_, true≢false, ℕ, needs}
+use Rattle.cells_matching.specs.{isListed}
 use Rattle.cover_choice.proofs.is_matched.Statement.{statement}
 use Rattle.cover_choice.proofs.is_matched.Tie as tie
 
@@ -18,6 +15,4 @@ returns-2 c =
     λ e. (sym (tested .is-listed .ensures) ∙ turned .before .if1 .left, ap (λ (x : ℕ). isListed (a .sheet .now) x) (sym (turned .in-phase .ensures)) ∙ sym (c .is-listed2 .ensures) ∙ e)
 
 pub is-matched-spec : {M : Type 1} → statement M
-is-matched-spec = tie.close
-    (tie.spec
-    (λ c κs. search needs) (λ c κs. search needs) (λ c κs. search needs) returns returns-2)
+is-matched-spec = tie.close (tie.spec (λ c κs. search needs) (λ c κs. search needs) (λ c κs. search needs) returns returns-2)

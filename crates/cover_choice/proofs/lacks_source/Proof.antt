@@ -1,11 +1,9 @@
--- `cover_choice::lacks_source` meets its contract. Assumes nothing.
-use mathlib.Core.Path.{ap, subst, sym, _∙_}
-use Prim.Native.Nat.{ℕ, _≤_, _/_}
+-- `cover_choice::lacks_source` meets its contract.
+use Rattle.base.specs.{ap, subst, sym, _∙_, ℕ, _≤_, _/_, needs}
 use Rattle.model.specs.declared.Phase.{Phase}
-use Rattle.model.specs.Choice.{absent}
-use Rattle.base_words.specs.Phases.{phaseAt}
-use Rattle.base_words.proofs.Columns.{room-need}
-use borrow.Author.Needs.{needs}
+use Rattle.model.specs.{absent}
+use Rattle.base_words.specs.{phaseAt}
+use Rattle.base_words.proofs.{room-need}
 use Rattle.cover_choice.proofs.lacks_source.Statement.{statement}
 use Rattle.cover_choice.proofs.lacks_source.Tie as tie
 
@@ -24,6 +22,4 @@ returns c =
     ∙ ap (λ (x : Phase). absent (x .source)) (c .before .phase .ensures ∙ ap (phaseAt (a .work .now) (a .m)) (c .before .before .output .ensures))
 
 pub lacks-source-spec : {M : Type 1} → statement M
-lacks-source-spec = tie.close
-    (tie.spec
-    (λ c κs. search needs) phase-requires (λ c κs. search needs) returns)
+lacks-source-spec = tie.close (tie.spec (λ c κs. search needs) phase-requires (λ c κs. search needs) returns)

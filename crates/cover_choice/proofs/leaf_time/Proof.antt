@@ -1,14 +1,8 @@
--- `cover_choice::leaf_time` meets its contract: by whether there is such a leaf. Assumes nothing.
-use mathlib.Core.Path.{_≡_, ap, subst, _∙_}
-use Prim.Native.Nat.{ℕ, _≤_, _<_}
-use native.Mathlib.Omega.{arith}
-use lib.Dec.{eqb}
-use lib.ListN.{length, getD, length-take}
-use lib.Seq.{getD-take}
-use Rattle.base_words.specs.Record.{leavesOf}
-use Rattle.cells_matching.specs.Best.{timeOf}
+-- `cover_choice::leaf_time` meets its contract: by whether there is such a leaf.
+use Rattle.base.specs.{_≡_, ap, subst, _∙_, ℕ, _≤_, _<_, arith, eqb, length, getD, length-take, getD-take, needs}
+use Rattle.base_words.specs.{leavesOf}
+use Rattle.cells_matching.specs.{timeOf}
 use Rattle.cover_choice.proofs.Leaves.{leaf-there, leaf-past}
-use borrow.Author.Needs.{needs}
 use Rattle.cover_choice.proofs.leaf_time.Statement.{statement}
 use Rattle.cover_choice.proofs.leaf_time.Tie as tie
 
@@ -37,8 +31,6 @@ returns-2 c =
     leaf-past (a .work .now) (a .m) (a .cut) (a .i) (eqb (a .neg) 1) (subst (λ (n : ℕ). n ≤ a .i) (c .before .size .ensures) (c .if1 .left))
 
 pub leaf-time-spec : {M : Type 1} → statement M
-leaf-time-spec =
-    tie.close
-    (tie.spec
-    (λ c κs. search needs) (λ c. search needs) (λ c. search needs) (λ c κs. search needs) (λ c. search needs) (λ c. search needs) phase-requires
-    (λ c κs. search needs) returns returns-2)
+leaf-time-spec = tie.close (tie.spec
+    (λ c κs. search needs) (λ c. search needs) (λ c. search needs) (λ c κs. search needs) (λ c. search needs) (λ c. search needs)
+    phase-requires (λ c κs. search needs) returns returns-2)

@@ -1,16 +1,11 @@
--- `cover_choice::mark` meets its contract: marking the outputs leaves what marking the variables reads. Assumes nothing.
-use mathlib.Core.Path.{sym, ap, subst, _∙_}
-use mathlib.Core.List.{List}
-use Prim.Native.Nat.{ℕ}
-use native.Mathlib.Omega.{arith}
-use Rattle.model.specs.Cells.{cellsOf}
-use Rattle.base_words.specs.Layout.{placedOf}
-use Rattle.cells_pairs.specs.Codes.{cellsBy}
-use Rattle.cover_choice.specs.Asked.{MatchesIn, SlotsIn}
-use Rattle.cover_choice.specs.Marking.{fedDown, marked}
+-- `cover_choice::mark` meets its contract: marking the outputs leaves what marking the variables reads.
+use Rattle.base.specs.{sym, ap, subst, _∙_, List, ℕ, arith, needs}
+use Rattle.model.specs.{cellsOf}
+use Rattle.base_words.specs.{placedOf}
+use Rattle.cells_pairs.specs.{cellsBy}
+use Rattle.cover_choice.specs.{MatchesIn, SlotsIn, fedDown, marked}
 use Rattle.cover_choice.proofs.Keeping.{NeedsKept}
 use Rattle.cover_choice.proofs.Marks.{outputs-kept, needs-matches, needs-slots}
-use borrow.Author.Needs.{needs}
 use Rattle.cover_choice.proofs.mark.Statement.{statement}
 use Rattle.cover_choice.proofs.mark.Tie as tie
 
@@ -49,7 +44,5 @@ returns c =
     ∙ ap (λ (x : List ℕ). fedDown (cellsBy (cellsOf (a .lib)) (a .codes .now)) x (a .h .size) (placedOf (a .h))) (o .mark-outputs .ensures)
 
 pub mark-spec : {M : Type 1} → statement M
-mark-spec =
-    tie.close
-    (tie.spec
+mark-spec = tie.close (tie.spec
     (λ c κs. search needs) (λ c κs. search needs) (λ c κs. search needs) mark-variables-requires (λ c. search needs) returns)

@@ -1,14 +1,11 @@
--- `cover_choice::mark_feeds` meets its contract: in each arm the source is known to be that arm's. Assumes nothing.
-use mathlib.Core.Path.{sym, ap, _∙_}
-use Prim.Native.Nat.{ℕ, _/_}
-use native.Mathlib.Omega.{arith}
-use Rattle.model.specs.Graph.{varOf}
+-- `cover_choice::mark_feeds` meets its contract: in each arm the source is known to be that arm's.
+use Rattle.base.specs.{sym, ap, _∙_, ℕ, _/_, arith, needs}
+use Rattle.model.specs.{varOf}
 use Rattle.model.specs.declared.Phase.{Phase}
-use Rattle.theory_graph.proofs.Literals.{opposite-var}
-use Rattle.base_words.specs.Phases.{putNeeded}
-use Rattle.cover_choice.specs.Marking.{putAll}
+use Rattle.theory_graph.proofs.{opposite-var}
+use Rattle.base_words.specs.{putNeeded}
+use Rattle.cover_choice.specs.{putAll}
 use Rattle.cover_choice.proofs.Marks.{feeds-matched, feeds-inverted, feeds-input, feeds-nothing}
-use borrow.Author.Needs.{needs}
 use Rattle.cover_choice.proofs.mark_feeds.Statement.{statement}
 use Rattle.cover_choice.proofs.mark_feeds.Tie as tie
 
@@ -65,8 +62,7 @@ returns-4 c cells r pins =
     ap (putAll (a .work .now) (a .m)) (sym (feeds-nothing cells (a .work .now) (a .m) (a .l) e))
 
 pub mark-feeds-spec : {M : Type 1} → statement M
-mark-feeds-spec =
-    tie.close
-    (tie.spec
+mark-feeds-spec = tie.close (tie.spec
     (λ c κs. search needs) (λ c. search needs) mark-match-requires enum-told (λ c κs. search needs) mark-needed-requires (λ c. search needs)
-    (λ c. search needs) (λ c. search needs) returns (λ c. search needs) returns-2 (λ c. search needs) returns-3 (λ c. search needs) returns-4)
+    (λ c. search needs) (λ c. search needs) returns (λ c. search needs) returns-2 (λ c. search needs) returns-3 (λ c. search needs)
+    returns-4)

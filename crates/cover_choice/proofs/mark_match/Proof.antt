@@ -1,15 +1,10 @@
--- `cover_choice::mark_match` meets its contract: the leaves and the cell that are read are those of the match. Assumes nothing.
-use mathlib.Core.Path.{_≡_, sym, ap, subst, _∙_}
-use Prim.Native.Nat.{ℕ}
-use native.Mathlib.Omega.{arith}
-use Rattle.model.specs.Cells.{cellAt}
-use Rattle.model.specs.Matching.{fedNets}
+-- `cover_choice::mark_match` meets its contract: the leaves and the cell that are read are those of the match.
+use Rattle.base.specs.{_≡_, sym, ap, subst, _∙_, ℕ, arith, needs}
+use Rattle.model.specs.{cellAt, fedNets}
 use Rattle.model.specs.declared.Cut.{Cut}
-use Rattle.base_truth.specs.Variant.{placesOf}
-use Rattle.cover_choice.specs.Asked.{PinsIn}
-use Rattle.cover_choice.specs.Marking.{putAll}
+use Rattle.base_truth.specs.{placesOf}
+use Rattle.cover_choice.specs.{PinsIn, putAll}
 use Rattle.cover_choice.proofs.Marks.{match-pins, match-nets}
-use borrow.Author.Needs.{needs}
 use Rattle.cover_choice.proofs.mark_match.Statement.{statement}
 use Rattle.cover_choice.proofs.mark_match.Tie as tie
 
@@ -46,7 +41,5 @@ returns c cells ok i pins =
     ∙ ap (putAll (a .work .now) (a .m)) (sym (match-nets cells (a .work .now) (a .m) (a .v) (a .x) ok (s .pre .1) (s .pre .2) i))
 
 pub mark-match-spec : {M : Type 1} → statement M
-mark-match-spec =
-    tie.close
-    (tie.spec
+mark-match-spec = tie.close (tie.spec
     load-cut-requires (λ c. search needs) (λ c. search needs) (λ c κs. search needs) mark-pins-requires (λ c. search needs) returns)

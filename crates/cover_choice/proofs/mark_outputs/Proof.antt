@@ -1,16 +1,9 @@
 -- one output more
 -- `cover_choice::mark_outputs` meets its contract. The invariant: the outputs that are left, marked, give the same words as all; the measure is what is left of them.
--- Assumes nothing.
-use mathlib.Core.Path.{_≡_, refl, sym, ap, subst, _∙_}
-use mathlib.Core.List.{List}
-use Prim.Native.Nat.{ℕ, suc, _+_, _-_, _/_, _≤_, _<_}
-use native.Mathlib.Omega.{arith}
-use lib.ListN.{length}
-use Rattle.base_words.specs.Layout.{Room, outputAt}
-use Rattle.base_words.specs.Phases.{putNeeded}
-use Rattle.base_words.proofs.Columns.{room-need}
-use Rattle.cover_choice.specs.Marking.{putOutputs}
-use Rattle.cover_choice.specs.Asked.{OutputsIn}
+use Rattle.base.specs.{_≡_, refl, sym, ap, subst, _∙_, List, ℕ, suc, _+_, _-_, _/_, _≤_, _<_, arith, length}
+use Rattle.base_words.specs.{Room, outputAt, putNeeded}
+use Rattle.base_words.proofs.{room-need}
+use Rattle.cover_choice.specs.{putOutputs, OutputsIn}
 use Rattle.cover_choice.proofs.Marks.{mark-outputs-in, mark-size}
 use Rattle.cover_choice.proofs.mark_outputs.Statement.{statement}
 use Rattle.cover_choice.proofs.mark_outputs.Tie as tie
@@ -80,7 +73,5 @@ returns c =
     sym (done (l .loop .work) (a .m) (l .loop .k) (a .outputs) (c .loop-test .left)) ∙ l .loop .inv .3
 
 pub mark-outputs-spec : {M : Type 1} → statement M
-mark-outputs-spec =
-    tie.close
-    (tie.spec
+mark-outputs-spec = tie.close (tie.spec
     Inv-loop μ-loop loop-holds output-requires mark-needed-requires (λ c. omega arith) (λ c. omega arith) loop-again same-length returns)

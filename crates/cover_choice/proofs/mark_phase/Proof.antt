@@ -1,10 +1,6 @@
--- `cover_choice::mark_phase` meets its contract: by whether the phase is needed. Assumes nothing.
-use mathlib.Core.Path.{sym, ap, _∙_}
-use mathlib.Core.List.{List}
-use mathlib.Core.Bool.{Bool, cond}
-use Prim.Native.Nat.{ℕ}
-use Rattle.cover_choice.specs.Marking.{fedOnce, feedsAt, putAll}
-use borrow.Author.Needs.{needs}
+-- `cover_choice::mark_phase` meets its contract: by whether the phase is needed.
+use Rattle.base.specs.{sym, ap, _∙_, List, Bool, cond, ℕ, needs}
+use Rattle.cover_choice.specs.{fedOnce, feedsAt, putAll}
 use Rattle.cover_choice.proofs.mark_phase.Statement.{statement}
 use Rattle.cover_choice.proofs.mark_phase.Tie as tie
 
@@ -26,7 +22,5 @@ returns-2 c cells r pins =
     sym (ap (λ (b : Bool). cond b (putAll w (a .m) (feedsAt cells w (a .m) (a .l))) w) e)
 
 pub mark-phase-spec : {M : Type 1} → statement M
-mark-phase-spec =
-    tie.close
-    (tie.spec
+mark-phase-spec = tie.close (tie.spec
     (λ c κs. search needs) (λ c κs. search needs) (λ c. search needs) returns (λ c. search needs) returns-2)

@@ -1,21 +1,12 @@
 -- `cover_choice::mark_pins` meets its contract. The invariant: what is left of the nets, marked, gives the same words as all; the measure is what is left of the pins.
--- Assumes nothing.
-use mathlib.Core.Path.{_≡_, refl, sym, ap, subst, _∙_}
-use mathlib.Core.List.{List}
-use Prim.Native.Nat.{ℕ, suc, _+_, _-_, _/_, _≤_, _<_}
-use native.Mathlib.Omega.{arith}
-use lib.ListN.{length, drop, getD}
-use lib.Seq.{drop-cons, drop-length}
-use Rattle.model.specs.Base.{bit}
-use Rattle.model.specs.Graph.{varOf}
-use Rattle.model.specs.Matching.{fedNets}
-use Rattle.theory_graph.proofs.Literals.{lit-var}
-use Rattle.base_truth.specs.Variant.{placesOf, pinNet}
-use Rattle.base_truth.proofs.Variants.{places-four}
-use Rattle.base_truth.proofs.Nets.{nets-length, nets-get}
-use Rattle.base_words.specs.Layout.{Room}
-use Rattle.base_words.specs.Phases.{putNeeded}
-use Rattle.cover_choice.specs.Marking.{putAll}
+use Rattle.base.specs.{_≡_, refl, sym, ap, subst, _∙_, List, ℕ, suc, _+_, _-_, _/_, _≤_, _<_, arith, length, drop, getD, drop-cons}
+use Rattle.base.specs.{drop-length}
+use Rattle.model.specs.{bit, varOf, fedNets}
+use Rattle.theory_graph.proofs.{lit-var}
+use Rattle.base_words.specs.{Room, putNeeded}
+use Rattle.base_truth.specs.{placesOf, pinNet}
+use Rattle.base_truth.proofs.{places-four, nets-length, nets-get}
+use Rattle.cover_choice.specs.{putAll}
 use Rattle.cover_choice.proofs.Marks.{mark-size}
 use Rattle.cover_choice.proofs.mark_pins.Statement.{statement}
 use Rattle.cover_choice.proofs.mark_pins.Tie as tie
@@ -101,7 +92,5 @@ returns c =
     sym (done (l .loop .work) (a .m) (a .leaves) (a .order) (a .mask) (a .pins) (l .loop .j) (s .pre .1 .known) (s .pre .1 .four) e) ∙ l .loop .inv .2
 
 pub mark-pins-spec : {M : Type 1} → statement M
-mark-pins-spec =
-    tie.close
-    (tie.spec
+mark-pins-spec = tie.close (tie.spec
     Inv-loop μ-loop loop-holds pin-net-requires mark-needed-requires (λ c. omega arith) (λ c. omega arith) loop-again same-length returns)

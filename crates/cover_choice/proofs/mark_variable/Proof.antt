@@ -1,14 +1,9 @@
--- `cover_choice::mark_variable` meets its contract: by whether an inverter drives the positive phase. Assumes nothing.
-use mathlib.Core.Path.{_≡_, sym, ap, subst, _∙_}
-use mathlib.Core.List.{List}
-use Prim.Native.Nat.{ℕ, _+_, _*_}
-use native.Mathlib.Omega.{arith}
-use Rattle.model.specs.Netlist.{isInverted}
+-- `cover_choice::mark_variable` meets its contract: by whether an inverter drives the positive phase.
+use Rattle.base.specs.{_≡_, sym, ap, subst, _∙_, List, ℕ, _+_, _*_, arith, needs}
+use Rattle.model.specs.{isInverted}
 use Rattle.model.specs.declared.Phase.{Phase}
-use Rattle.cover_choice.specs.Asked.{MatchesIn}
-use Rattle.cover_choice.specs.Marking.{fedOnce}
+use Rattle.cover_choice.specs.{MatchesIn, fedOnce}
 use Rattle.cover_choice.proofs.Marks.{once-kept, needs-matches, turn-inverted, turn-direct}
-use borrow.Author.Needs.{needs}
 use Rattle.cover_choice.proofs.mark_variable.Statement.{statement}
 use Rattle.cover_choice.proofs.mark_variable.Tie as tie
 
@@ -61,9 +56,7 @@ returns-2 c cells r pins =
     ∙ sym (turn-direct cells w (a .m) (a .v) (ap (λ (p : Phase). isInverted (p .source)) (sym (c .before .before .before .before .before .before .before .before .before .before .positive .ensures)) ∙ sym (c .before .before .before .before .before .before .before .before .before .is-inverted .ensures) ∙ c .before .before .before .before .before .before .before .before .if1 .left))
 
 pub mark-variable-spec : {M : Type 1} → statement M
-mark-variable-spec =
-    tie.close
-    (tie.spec
+mark-variable-spec = tie.close (tie.spec
     (λ c κs. search needs) (λ c κs. search needs) (λ c. search needs) (λ c κs. search needs) (λ c. search needs) (λ c. search needs)
     mark-phase-requires-2 (λ c. search needs) (λ c. search needs) (λ c κs. search needs) (λ c. search needs) mark-phase-requires-4
     (λ c. search needs) returns (λ c. search needs) returns-2)

@@ -1,14 +1,8 @@
 -- `cover_choice::mark_variables` meets its contract. The invariant: the variables that are left, done, give the same words as all; the measure is how many they are.
--- Assumes nothing.
-use mathlib.Core.Path.{_≡_, refl, sym, ap, subst, _∙_}
-use mathlib.Core.List.{List}
-use Prim.Native.Nat.{ℕ, suc, _-_, _≤_, _<_}
-use native.Mathlib.Omega.{arith}
-use lib.ListN.{length}
+use Rattle.base.specs.{_≡_, refl, sym, ap, subst, _∙_, List, ℕ, suc, _-_, _≤_, _<_, arith, length}
 use Rattle.model.specs.declared.Cell.{Cell}
-use Rattle.base_words.specs.Layout.{slotAt}
-use Rattle.cover_choice.specs.Asked.{PinsOf, MatchesIn, SlotsIn}
-use Rattle.cover_choice.specs.Marking.{fedTurn, fedDown}
+use Rattle.base_words.specs.{slotAt}
+use Rattle.cover_choice.specs.{PinsOf, MatchesIn, SlotsIn, fedTurn, fedDown}
 use Rattle.cover_choice.proofs.Keeping.{NeedsKept}
 use Rattle.cover_choice.proofs.Marks.{turn-kept, needs-matches, needs-slots}
 use Rattle.cover_choice.proofs.mark_variables.Statement.{statement}
@@ -88,7 +82,5 @@ returns c cells r p =
     sym (done cells (l .loop .work) (a .m) (l .loop .i) e) ∙ l .loop .inv .3 cells r p .1
 
 pub mark-variables-spec : {M : Type 1} → statement M
-mark-variables-spec =
-    tie.close
-    (tie.spec
+mark-variables-spec = tie.close (tie.spec
     Inv-loop μ-loop loop-holds (λ c. omega arith) slot-requires mark-variable-requires (λ c. omega arith) loop-again same-length returns)

@@ -1,21 +1,13 @@
--- `cover_choice::match_cut` meets its contract: the best of either chain is the choice. Assumes nothing.
-use mathlib.Core.Path.{_≡_, sym, ap, subst, _∙_}
-use mathlib.Core.Bool.{true}
-use mathlib.Core.List.{List}
-use Prim.Native.Nat.{ℕ, _≤_, _<_}
-use native.Mathlib.Omega.{arith}
-use Rattle.model.specs.Choice.{earlier}
-use Rattle.model.specs.Matching.{phaseTable}
+-- `cover_choice::match_cut` meets its contract: the best of either chain is the choice.
+use Rattle.base.specs.{_≡_, sym, ap, subst, _∙_, true, List, ℕ, _≤_, _<_, arith, needs}
+use Rattle.model.specs.{earlier, phaseTable}
 use Rattle.model.specs.declared.Cut.{Cut}
-use Rattle.base_words.specs.Layout.{countAt}
-use Rattle.base_words.specs.Record.{cutOf, leavesOf, leavesAt}
-use Rattle.base_words.proofs.Stored.{four-leaves}
-use Rattle.cover_choice.specs.Asked.{LeavesIn, CutsIn}
-use Rattle.cover_choice.specs.Choosing.{timesAt, foundPhase}
-use Rattle.cells_matching.specs.Best.{Timely, bestOf, phaseAs}
+use Rattle.base_words.specs.{countAt, cutOf, leavesOf, leavesAt}
+use Rattle.base_words.proofs.{four-leaves}
+use Rattle.cells_matching.specs.{Timely, bestOf, phaseAs}
+use Rattle.cover_choice.specs.{LeavesIn, CutsIn, timesAt, foundPhase}
 use Rattle.cover_choice.proofs.Leaves.{times-timely}
 use Rattle.cover_choice.proofs.Found.{few-leaves, table-small, on-best}
-use borrow.Author.Needs.{needs}
 use Rattle.cover_choice.proofs.match_cut.Statement.{statement}
 use Rattle.cover_choice.proofs.match_cut.Tie as tie
 
@@ -77,7 +69,5 @@ returns c =
     )
 
 pub match-cut-spec : {M : Type 1} → statement M
-match-cut-spec =
-    tie.close
-    (tie.spec
+match-cut-spec = tie.close (tie.spec
     load-cut-requires times-requires match-phase-requires (λ c κs. search needs) match-phase-requires-2 returns)

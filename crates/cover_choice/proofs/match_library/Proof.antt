@@ -1,9 +1,8 @@
--- `cover_choice::match_library` meets its contract: the pairs matched and then the listed cells are all cells matched. Assumes nothing.
-use mathlib.Core.Path.{ap, _∙_}
-use Rattle.model.specs.Cells.{cellsOf}
-use Rattle.cells_matching.specs.Sheet.{listMatched}
-use Rattle.cells_matching.proofs.Pairing.{pairs-first}
-use borrow.Author.Needs.{needs}
+-- `cover_choice::match_library` meets its contract: the pairs matched and then the listed cells are all cells matched.
+use Rattle.base.specs.{ap, _∙_, needs}
+use Rattle.model.specs.{cellsOf}
+use Rattle.cells_matching.specs.{listMatched}
+use Rattle.cells_matching.proofs.{pairs-first}
 use Rattle.cover_choice.proofs.match_library.Statement.{statement}
 use Rattle.cover_choice.proofs.match_library.Tie as tie
 
@@ -18,7 +17,4 @@ returns c =
     ∙ pairs-first (a .lib) (a .codes .now) (a .sheet .now) (s .pre .0 .joinable .whole)
 
 pub match-library-spec : {M : Type 1} → statement M
-match-library-spec =
-    tie.close
-    (tie.spec
-    (λ c κs. search needs) (λ c κs. search needs) (λ c. search needs) returns)
+match-library-spec = tie.close (tie.spec (λ c κs. search needs) (λ c κs. search needs) (λ c. search needs) returns)

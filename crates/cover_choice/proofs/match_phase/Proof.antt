@@ -1,10 +1,8 @@
--- `cover_choice::match_phase` meets its contract: by whether a match is earlier. Assumes nothing.
-use mathlib.Core.Path.{ap, _∙_}
-use native.Mathlib.Omega.{arith}
+-- `cover_choice::match_phase` meets its contract: by whether a match is earlier.
+use Rattle.base.specs.{ap, _∙_, arith, needs}
 use Rattle.cells_matching.specs.declared.Best.{Best}
-use Rattle.cells_matching.specs.Best.{phaseAs}
-use Rattle.cells_matching.proofs.Matching.{under-first, under-rest}
-use borrow.Author.Needs.{needs}
+use Rattle.cells_matching.specs.{phaseAs}
+use Rattle.cells_matching.proofs.{under-first, under-rest}
 use Rattle.cover_choice.proofs.match_phase.Statement.{statement}
 use Rattle.cover_choice.proofs.match_phase.Tie as tie
 
@@ -26,6 +24,4 @@ returns-2 c =
     under-rest (a .former .cut) (a .former .best) cells (a .t .now) (a .k) (a .f) (omega (arith, c .if1 .left, ap (λ (z : Best). z .arrival) e))
 
 pub match-phase-spec : {M : Type 1} → statement M
-match-phase-spec = tie.close
-    (tie.spec
-    (λ c κs. search needs) returns returns-2)
+match-phase-spec = tie.close (tie.spec (λ c κs. search needs) returns returns-2)

@@ -1,6 +1,6 @@
--- `cover_choice::none_found` meets its contract: it arrives never. Assumes nothing.
-use native.Mathlib.Omega.{arith}
-use Rattle.cells_matching.proofs.Arriving.{phase-late}
+-- `cover_choice::none_found` meets its contract: it arrives never.
+use Rattle.base.specs.{arith}
+use Rattle.cells_matching.proofs.{phase-late}
 use Rattle.cover_choice.proofs.none_found.Statement.{statement}
 use Rattle.cover_choice.proofs.none_found.Tie as tie
 

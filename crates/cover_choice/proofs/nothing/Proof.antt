@@ -1,6 +1,6 @@
--- `cover_choice::nothing` meets its contract. Assumes nothing.
-use mathlib.Core.Path.{refl}
-use Rattle.model.specs.Choice.{noPhase}
+-- `cover_choice::nothing` meets its contract.
+use Rattle.base.specs.{refl}
+use Rattle.model.specs.{noPhase}
 use Rattle.cover_choice.proofs.nothing.Statement.{statement}
 use Rattle.cover_choice.proofs.nothing.Tie as tie
 

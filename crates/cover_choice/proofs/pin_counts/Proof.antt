@@ -1,18 +1,10 @@
 -- `cover_choice::pin_counts` meets its contract. The invariant: the numbers before the k-th have their cells' pins; the measure is how many are left.
--- Assumes nothing.
-use mathlib.Core.Path.{_≡_, refl, sym, ap, _∙_}
-use mathlib.Core.Bool.{Bool, true, false}
-use mathlib.Core.List.{List}
-use Prim.Native.Nat.{ℕ, _+_, _-_, _<_}
-use native.Mathlib.Omega.{arith}
-use lib.Dec.{eqb}
-use lib.ListN.{length, getD, set, length-set}
-use lib.Seq.{getD-set-same, getD-set-other}
-use borrow.Author.Tests.{eqb-true, eqb-false}
-use Rattle.model.specs.Cells.{cellAt, cellsOf}
+use Rattle.base.specs.{_≡_, refl, sym, ap, _∙_, Bool, true, false, List, ℕ, _+_, _-_, _<_, arith, eqb, length, getD, set, length-set}
+use Rattle.base.specs.{getD-set-same, getD-set-other, eqb-true, eqb-false}
+use Rattle.model.specs.{cellAt, cellsOf}
 use Rattle.model.specs.declared.Cell.{Cell}
-use Rattle.cells_pairs.specs.Codes.{cellsBy}
-use Rattle.cells_pairs.proofs.Cells.{by-length}
+use Rattle.cells_pairs.specs.{cellsBy}
+use Rattle.cells_pairs.proofs.{by-length}
 use Rattle.cover_choice.proofs.pin_counts.Statement.{statement}
 use Rattle.cover_choice.proofs.pin_counts.Tie as tie
 
@@ -70,17 +62,5 @@ returns c =
     record { listed = λ j h. l .loop .inv .1 j (omega (arith, h, by-length (cellsOf (a .lib)) (a .codes .now), s .pre .joinable .whole, c .loop-test .left)) }
 
 pub pin-counts-spec : {M : Type 1} → statement M
-pin-counts-spec =
-    tie.close
-    (tie.spec
-    Inv-loop
-    μ-loop
-    add-n
-    loop-holds
-    pins-of-requires
-    mul-pins
-    array-write-pins
-    add-k
-    loop-less
-    loop-again
-    returns)
+pin-counts-spec = tie.close (tie.spec
+    Inv-loop μ-loop add-n loop-holds pins-of-requires mul-pins array-write-pins add-k loop-less loop-again returns)

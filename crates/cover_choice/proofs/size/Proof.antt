@@ -1,4 +1,4 @@
--- `cover_choice::size` meets its contract. Assumes nothing.
+-- `cover_choice::size` meets its contract.
 use Rattle.cover_choice.proofs.Leaves.{size-few, size-four}
 use Rattle.cover_choice.proofs.size.Statement.{statement}
 use Rattle.cover_choice.proofs.size.Tie as tie

@@ -1,7 +1,6 @@
--- `cover_choice::sooner` meets its contract: by which of the phases have a source, and the test of their arrivals. Assumes nothing.
-use mathlib.Core.Path.{sym, _∙_}
-use Rattle.cells_matching.proofs.Choosing.{earlier-second, earlier-first, earlier-strict, earlier-tie}
-use borrow.Author.Needs.{needs}
+-- `cover_choice::sooner` meets its contract: by which of the phases have a source, and the test of their arrivals.
+use Rattle.base.specs.{sym, _∙_, needs}
+use Rattle.cells_matching.proofs.{earlier-second, earlier-first, earlier-strict, earlier-tie}
 use Rattle.cover_choice.proofs.sooner.Statement.{statement}
 use Rattle.cover_choice.proofs.sooner.Tie as tie
 
@@ -24,7 +23,4 @@ returns-4 c =
     sym (earlier-tie (a .a) (a .b) (sym (c .before .before .before .before .before .before .is-absent .ensures) ∙ c .before .before .before .before .before .if1 .left) (sym (c .before .before .before .before .is-absent2 .ensures) ∙ c .before .before .before .if2 .left) (c .if3 .left))
 
 pub sooner-spec : {M : Type 1} → statement M
-sooner-spec =
-    tie.close
-    (tie.spec
-    (λ c κs. search needs) returns (λ c κs. search needs) returns-2 returns-3 returns-4)
+sooner-spec = tie.close (tie.spec (λ c κs. search needs) returns (λ c κs. search needs) returns-2 returns-3 returns-4)

@@ -1,7 +1,6 @@
--- `cover_choice::table` meets its contract: a word fits. Assumes nothing.
-use native.Mathlib.Omega.{arith}
-use Rattle.base_words.proofs.Tabled.{function-fits}
-use borrow.Author.Needs.{needs}
+-- `cover_choice::table` meets its contract: a word fits.
+use Rattle.base.specs.{arith, needs}
+use Rattle.base_words.proofs.{function-fits}
 use Rattle.cover_choice.proofs.table.Statement.{statement}
 use Rattle.cover_choice.proofs.table.Tie as tie
 
@@ -11,6 +10,4 @@ cast-result c =
     omega (arith, c .function .ensures, function-fits (a .work .now) (a .m) (a .v) (a .k) 65536 (λ i. omega (arith, c .before .shared-slice-known .given i)))
 
 pub table-spec : {M : Type 1} → statement M
-table-spec = tie.close
-    (tie.spec
-    (λ c κs. search needs) cast-result (λ c. search needs))
+table-spec = tie.close (tie.spec (λ c κs. search needs) cast-result (λ c. search needs))

@@ -1,7 +1,6 @@
--- `cover_choice::times` meets its contract. Assumes nothing.
-use mathlib.Core.List.{_∷_, []}
-use Rattle.cover_choice.specs.Choosing.{timesAt}
-use borrow.Author.Needs.{needs}
+-- `cover_choice::times` meets its contract.
+use Rattle.base.specs.{_∷_, [], needs}
+use Rattle.cover_choice.specs.{timesAt}
 use Rattle.cover_choice.proofs.times.Statement.{statement}
 use Rattle.cover_choice.proofs.times.Tie as tie
 
@@ -14,8 +13,6 @@ returns c =
     ∷ 0 ∷ 0 ∷ 0 ∷ 0 ∷ 0 ∷ 0 ∷ 0 ∷ 0 ∷ []
 
 pub times-spec : {M : Type 1} → statement M
-times-spec =
-    tie.close
-    (tie.spec
-    (λ c κs. search needs) (λ c κs. search needs) (λ c κs. search needs) (λ c κs. search needs) (λ c κs. search needs) (λ c κs. search needs)
-    (λ c κs. search needs) (λ c κs. search needs) returns)
+times-spec = tie.close (tie.spec
+    (λ c κs. search needs) (λ c κs. search needs) (λ c κs. search needs) (λ c κs. search needs) (λ c κs. search needs)
+    (λ c κs. search needs) (λ c κs. search needs) (λ c κs. search needs) returns)

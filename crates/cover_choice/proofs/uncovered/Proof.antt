@@ -1,17 +1,9 @@
--- `cover_choice::uncovered` meets its contract. The invariant: the outputs from k on say the same as all. Assumes nothing.
-use mathlib.Core.Path.{_≡_, sym, ap, _∙_}
-use mathlib.Core.Bool.{true, false}
-use mathlib.Core.List.{List}
-use Prim.Native.Nat.{ℕ, suc, _+_, _-_, _≤_, _<_}
-use native.Mathlib.Omega.{arith}
-use Rattle.model.specs.Base.{from}
-use Rattle.model.specs.Reading.{refusedAt, firstOf}
-use Rattle.model.specs.Choice.{absent}
-use Rattle.model.specs.Netlist.{uncovered}
+-- `cover_choice::uncovered` meets its contract. The invariant: the outputs from k on say the same as all.
+use Rattle.base.specs.{_≡_, sym, ap, _∙_, true, false, List, ℕ, suc, _+_, _-_, _≤_, _<_, arith}
+use Rattle.model.specs.{from, refusedAt, firstOf, absent, uncovered}
 use Rattle.model.specs.declared.Verdict.the-variants.{Refused}
-use Rattle.base_words.specs.Layout.{outputAt}
-use Rattle.base_words.specs.Phases.{phaseAt}
-use Rattle.cover_choice.specs.Missing.{outputsFrom, missingFrom, missing}
+use Rattle.base_words.specs.{outputAt, phaseAt}
+use Rattle.cover_choice.specs.{outputsFrom, missingFrom, missing}
 use Rattle.cover_choice.proofs.uncovered.Statement.{statement}
 use Rattle.cover_choice.proofs.uncovered.Tie as tie
 
@@ -75,7 +67,5 @@ returns-2 c =
     sym (sym (c .before .loop .inv .1) ∙ ap (missingFrom (a .work .now) (a .h .size) k) e)
 
 pub uncovered-spec : {M : Type 1} → statement M
-uncovered-spec =
-    tie.close
-    (tie.spec
+uncovered-spec = tie.close (tie.spec
     Inv-loop μ-loop loop-holds lacks-source-requires returns (λ c. omega arith) (λ c. omega arith) loop-again returns-2)

@@ -1,15 +1,12 @@
 -- The proof of the cycle of calls {deep}. The measure is the variable's place, which falls from an AND to its operands.
--- Assumes nothing.
-use mathlib.Core.Path.{_≡_, refl}
-use mathlib.Core.Logic.{⊎-elim}
-use Prim.Native.Nat.{ℕ, _/_, _<_}
-use native.Mathlib.Omega.{arith}
-use borrow.Author.Needs.{needs}
-use Rattle.base_words.specs.Layout.{placeAt}
-use Rattle.cut_functions.proofs.Walks.{Operand, left-operand, right-operand, never, moved}
-use Rattle.cut_functions.proofs.Walks.{Found, found-near, found-then, near-and, near-behind}
 use borrow.Fn.Kinds.{In}
 use borrow.Fn.PlainCycle.{Measures, is, falls, and}
+use Rattle.base.specs.{_≡_, refl, ⊎-elim, ℕ, _/_, _<_, arith, needs}
+use Rattle.base_words.specs.{placeAt}
+use Rattle.cut_functions.proofs.Walks.{Operand, left-operand, right-operand, never, moved, Found, found-near, found-then, near-and}
+use Rattle.cut_functions.proofs.Walks.{near-behind}
+use Rattle.cut_functions.proofs.+deep.{statement}
+use Rattle.cut_functions.proofs.+deep.Tie.{close}
 use Rattle.cut_functions.proofs.deep.Reads as deep
 use Rattle.cut_functions.proofs.deep.Kinds as deep-kinds
 use Rattle.cut_functions.proofs.+deep.Lts-deep as lts
@@ -18,8 +15,6 @@ use Rattle.cut_functions.proofs.note_and.Reads as note-and-reads
 use Rattle.cut_functions.proofs.wide.Reads as wide-reads
 use Rattle.base_words.proofs.left.Reads as left-reads
 use Rattle.base_words.proofs.right.Reads as right-reads
-use Rattle.cut_functions.proofs.+deep.{statement}
-use Rattle.cut_functions.proofs.+deep.Tie.{close}
 
 abbrev μ-deep : Measures 2 deep-kinds.ps ℕ
 μ-deep κs a = placeAt (a .0 .now) (a .1 .0) (a .1 .1 .1 .1 .0)

@@ -1,15 +1,7 @@
 -- `cut_functions::cut_word` meets its contract: a leaf, no AND, or the AND of both operands.
--- Assumes nothing.
-use mathlib.Core.Path.{_≡_, sym, _∙_, subst}
-use mathlib.Core.Logic.{⊎-elim}
-use mathlib.Core.List.{List}
-use Prim.Native.Nat.{ℕ, _+_, _/_}
-use native.Mathlib.Omega.{arith}
-use borrow.Author.Needs.{needs}
-use lib.ListN.{take}
-use Rattle.base_words.specs.Layout.{andKind, kindAt, placeAt}
-use Rattle.cut_functions.specs.Table.{Early, Walked}
-use Rattle.cut_functions.specs.Filling.{Done, cutWord}
+use Rattle.base.specs.{_≡_, sym, _∙_, subst, ⊎-elim, List, ℕ, _+_, _/_, arith, needs, take}
+use Rattle.base_words.specs.{andKind, kindAt, placeAt}
+use Rattle.cut_functions.specs.{Early, Walked, Done, cutWord}
 use Rattle.cut_functions.proofs.Walks.{Operand, left-operand, right-operand, walked-known, walked-none, and-found, moved}
 use Rattle.cut_functions.proofs.cut_word.Statement.{statement}
 use Rattle.cut_functions.proofs.cut_word.Tie as tie
@@ -115,8 +107,6 @@ returns-3 c =
     )
 
 pub cut-word-spec : {M : Type 1} → statement M
-cut-word-spec =
-    tie.close
-    (tie.spec
+cut-word-spec = tie.close (tie.spec
     (λ c. search needs) (λ c. search needs) cast-result returns returns-2 near-requires (λ c. search needs) far-requires near-requires-2
     (λ c. search needs) far-requires-2 (λ c κs. search needs) returns-3)

@@ -1,12 +1,6 @@
 -- `cut_functions::far` meets its contract: a shallow walk, the function that is stored, or a walk.
--- Assumes nothing.
-use mathlib.Core.Path.{_≡_, refl, sym, _∙_}
-use Prim.Native.Nat.{_<_}
-use native.Mathlib.Omega.{arith}
-use borrow.Author.Needs.{needs}
-use lib.ListN.{length, take}
-use lib.Seq.{take-all}
-use Rattle.base_words.proofs.Tabled.{function-fits}
+use Rattle.base.specs.{_≡_, refl, sym, _∙_, _<_, arith, needs, length, take, take-all}
+use Rattle.base_words.proofs.{function-fits}
 use Rattle.cut_functions.proofs.Walks.{early-more}
 use Rattle.cut_functions.proofs.Fills.{walked-recalled}
 use Rattle.cut_functions.proofs.far.Statement.{statement}
@@ -63,9 +57,7 @@ returns-3 c =
     (c .deep2 .ensures .0 .walked (c .deep2 .ensures .1 refl) _ (n .kept (e .if1 .left) _ (s .pre .1)), c .deep2 .ensures .0 .early)
 
 pub far-spec : {M : Type 1} → statement M
-far-spec =
-    tie.close
-    (tie.spec
+far-spec = tie.close (tie.spec
     (λ c κs. search needs) (λ c. search needs) returns (λ c κs. search needs) (λ c κs. search needs) (λ c. omega (arith, small c))
     (λ c. search needs) (λ c. search needs) (λ c. omega (arith, small c)) returns-2 deep-requires-2
     (λ c. omega (arith, c .deep2 .ensures .1 refl)) returns-3)

@@ -1,14 +1,8 @@
 -- `cut_functions::fill` meets its contract. The invariant: the functions of the first i variables are stored, and the notes are below those of the next walk.
 -- The measure is the variables that are left.
--- Assumes nothing.
-use mathlib.Core.Path.{_≡_, refl, ap, _∙_}
-use Prim.Native.Nat.{_+_, _-_, _*_, _≤_}
-use native.Mathlib.Omega.{arith}
-use borrow.Author.Needs.{needs}
-use lib.ListN.{length}
-use Rattle.model.specs.Limits.{cutLimit}
-use Rattle.cut_functions.specs.Table.{Early}
-use Rattle.cut_functions.specs.Filling.{filled}
+use Rattle.base.specs.{_≡_, refl, ap, _∙_, _+_, _-_, _*_, _≤_, arith, needs, length}
+use Rattle.model.specs.{cutLimit}
+use Rattle.cut_functions.specs.{Early, filled}
 use Rattle.cut_functions.proofs.Fills.{pass-begin, pass-room, pass-reached, pass-turn}
 use Rattle.cut_functions.proofs.fill.Statement.{statement}
 use Rattle.cut_functions.proofs.fill.Tie as tie
@@ -70,7 +64,6 @@ returns c =
     l .loop .inv .2 ∙ ap (filled (a .work .now) (a .m)) all
 
 pub fill-spec : {M : Type 1} → statement M
-fill-spec =
-    tie.close
-    (tie.spec
-    Inv-loop μ-loop loop-holds slot-requires fill-node-requires (λ c. search needs) (λ c. search needs) loop-again (λ c. search needs) returns)
+fill-spec = tie.close (tie.spec
+    Inv-loop μ-loop loop-holds slot-requires fill-node-requires (λ c. search needs) (λ c. search needs) loop-again (λ c. search needs)
+    returns)

@@ -1,14 +1,7 @@
 -- `cut_functions::fill_node` meets its contract. The invariant: the first k functions are stored, and the notes are below those of the next walk. The measure is the cuts that are left.
--- Assumes nothing.
-use mathlib.Core.Path.{_≡_, refl, sym, _∙_, subst}
-use mathlib.Core.List.{List}
-use Prim.Native.Nat.{ℕ, _+_, _-_, _*_, _≤_, _<_}
-use native.Mathlib.Omega.{arith}
-use borrow.Author.Needs.{needs}
-use lib.ListN.{length}
-use Rattle.base_words.specs.Layout.{countAt}
-use Rattle.cut_functions.specs.Table.{Early}
-use Rattle.cut_functions.specs.Filling.{Reached}
+use Rattle.base.specs.{_≡_, refl, sym, _∙_, subst, List, ℕ, _+_, _-_, _*_, _≤_, _<_, arith, needs, length}
+use Rattle.base_words.specs.{countAt}
+use Rattle.cut_functions.specs.{Early, Reached}
 use Rattle.cut_functions.proofs.Fills.{part, node-begin, node-same, node-reached, node-turn, node-end}
 use Rattle.cut_functions.proofs.fill_node.Statement.{statement}
 use Rattle.cut_functions.proofs.fill_node.Tie as tie
@@ -90,8 +83,6 @@ returns c =
     (inv .3 ∙ node-end (a .work .now) (a .m) (a .v) (s .pre .0) (l .loop .k) all, (inv .4, omega (arith, inv .5, few)))
 
 pub fill-node-spec : {M : Type 1} → statement M
-fill-node-spec =
-    tie.close
-    (tie.spec
+fill-node-spec = tie.close (tie.spec
     Inv-loop μ-loop (λ c κs. search needs) (λ c κs. search needs) (λ c κs. search needs) (λ c κs. search needs) loop-holds fill-one-requires
     add-next (λ c. search needs) (λ c. search needs) loop-again (λ c. search needs) returns)

@@ -1,10 +1,8 @@
 -- `cut_functions::fill_one` meets its contract: the cut is loaded, its leaves noted, and the function found and stored.
--- Assumes nothing.
-use native.Mathlib.Omega.{arith}
-use Rattle.base_words.specs.Record.{leavesOf}
+use Rattle.base.specs.{arith, needs}
+use Rattle.base_words.specs.{leavesOf}
 use Rattle.cut_functions.proofs.Leaves.{cut-narrow, cut-leaves, cut-small, begun}
 use Rattle.cut_functions.proofs.Fills.{one-filled}
-use borrow.Author.Needs.{needs}
 use Rattle.cut_functions.proofs.fill_one.Statement.{statement}
 use Rattle.cut_functions.proofs.fill_one.Tie as tie
 
@@ -59,7 +57,5 @@ returns c =
     )
 
 pub fill-one-spec : {M : Type 1} → statement M
-fill-one-spec =
-    tie.close
-    (tie.spec
+fill-one-spec = tie.close (tie.spec
     load-cut-requires note-leaves-requires cut-word-requires set-function-requires (λ c. search needs) returns)

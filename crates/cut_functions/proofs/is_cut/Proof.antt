@@ -1,14 +1,9 @@
 -- `cut_functions::is_cut` meets its contract: four leaves, each the same.
--- Assumes nothing.
-use mathlib.Core.Path.{refl, sym, ap, _∙_}
-use native.Mathlib.Omega.{arith}
-use lib.ListN.{length}
+use Rattle.base.specs.{refl, sym, ap, _∙_, arith, length, take-all, needs}
 use Rattle.model.specs.declared.Cut.{Cut}
-use lib.Seq.{take-all}
-use Rattle.base_words.specs.Record.{leavesOf}
-use Rattle.base_words.proofs.Stored.{four-leaves}
+use Rattle.base_words.specs.{leavesOf}
+use Rattle.base_words.proofs.{four-leaves}
 use Rattle.cut_functions.proofs.Walks.{never}
-use borrow.Author.Needs.{needs}
 use Rattle.cut_functions.proofs.is_cut.Statement.{statement}
 use Rattle.cut_functions.proofs.is_cut.Tie as tie
 
@@ -23,6 +18,4 @@ returns c = λ e.
     ∙ c .same-leaves .ensures e
 
 pub is-cut-spec : {M : Type 1} → statement M
-is-cut-spec = tie.close
-    (tie.spec
-    (λ c κs. search needs) (λ c κs. search needs) returns (λ c e. absurd (never e refl)))
+is-cut-spec = tie.close (tie.spec (λ c κs. search needs) (λ c κs. search needs) returns (λ c e. absurd (never e refl)))

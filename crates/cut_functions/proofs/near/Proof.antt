@@ -1,11 +1,7 @@
 -- `cut_functions::near` meets its contract: what is noted, what is no AND, and an AND whose operands are noted.
--- Assumes nothing.
-use mathlib.Core.Path.{_≡_, refl, sym, _∙_}
-use Prim.Native.Nat.{_/_, _<_}
-use native.Mathlib.Omega.{arith}
-use borrow.Author.Needs.{needs}
-use Rattle.base_words.specs.Layout.{andKind, kindAt}
-use Rattle.cut_functions.specs.Table.{Near}
+use Rattle.base.specs.{_≡_, refl, sym, _∙_, _/_, _<_, arith, needs}
+use Rattle.base_words.specs.{andKind, kindAt}
+use Rattle.cut_functions.specs.{Near}
 use Rattle.cut_functions.proofs.Walks.{Operand, left-operand, right-operand, found-known, found-none, near-found, near-and}
 use Rattle.cut_functions.proofs.near.Statement.{statement}
 use Rattle.cut_functions.proofs.near.Tie as tie
@@ -82,9 +78,7 @@ returns-5 c =
     (made .note-and .ensures .0) small (made .note-and .ensures .1) (c .wide .ensures)
 
 pub near-spec : {M : Type 1} → statement M
-near-spec =
-    tie.close
-    (tie.spec
+near-spec = tie.close (tie.spec
     (λ c. search needs) (λ c. search needs) returns (λ c κs. search needs) returns-2 (λ c κs. search needs)
     (λ c. omega (arith, left-small c)) (λ c. omega (arith, left-small c)) (λ c. missing (c .before .before .before)) (λ c κs. search needs)
     (λ c. omega (arith, right-small c)) (λ c. omega (arith, right-small c)) (λ c. missing (behind (c .before .before))) cast-note-and

@@ -1,8 +1,5 @@
 -- `cut_functions::note_and` meets its contract: the AND, and its note.
--- Assumes nothing.
-use Prim.Native.Nat.{_+_}
-use lib.ListN.{set}
-use borrow.Author.Needs.{needs}
+use Rattle.base.specs.{_+_, set, needs}
 use Rattle.cut_functions.proofs.note_and.Statement.{statement}
 use Rattle.cut_functions.proofs.note_and.Tie as tie
 
@@ -12,6 +9,5 @@ returns c =
     (c .before .and-word .ensures, λ i. set (a .notes .now) (a .v) (a .base + c .wide .ensures i))
 
 pub note-and-spec : {M : Type 1} → statement M
-note-and-spec = tie.close
-    (tie.spec
+note-and-spec = tie.close (tie.spec
     (λ c κs. search needs) (λ c κs. search needs) (λ c. search needs) (λ c. search needs) (λ c. search needs) returns)

@@ -1,12 +1,6 @@
 -- `cut_functions::note_leaves` meets its contract. The invariant: the leaves from the i-th on are noted. The measure is the turns that are left.
--- Assumes nothing.
-use mathlib.Core.Path.{_≡_, sym, _∙_}
-use Prim.Native.Nat.{_-_, _≤_, _<_}
-use native.Mathlib.Omega.{arith}
-use borrow.Author.Needs.{needs}
-use lib.ListN.{length, take, drop, getD}
-use lib.Seq.{length-take-le, getD-take}
-use Rattle.cut_functions.specs.Table.{leafNotes}
+use Rattle.base.specs.{_≡_, sym, _∙_, _-_, _≤_, _<_, arith, needs, length, take, drop, getD, length-take-le, getD-take}
+use Rattle.cut_functions.specs.{leafNotes}
 use Rattle.cut_functions.proofs.Leaves.{leaf-begin, leaf-turn}
 use Rattle.cut_functions.proofs.note_leaves.Statement.{statement}
 use Rattle.cut_functions.proofs.note_leaves.Tie as tie
@@ -67,9 +61,7 @@ returns c =
     l .loop .inv .1 ∙ (λ q. leafNotes (drop (none q) (take (a .n) (a .t3))) (none q) (a .base) (a .notes .now))
 
 pub note-leaves-spec : {M : Type 1} → statement M
-note-leaves-spec =
-    tie.close
-    (tie.spec
+note-leaves-spec = tie.close (tie.spec
     Inv-loop μ-loop loop-holds (λ c. search needs) (λ c. search needs) (λ c. search needs) (λ c κs. search needs) (λ c κs. search needs)
     (λ c κs. search needs) (λ c. search needs) (λ c. omega (arith, inside (c .before .before)))
     (λ c. omega (arith, inside (c .before .before))) (λ c. search needs) loop-again (λ c. search needs) loop-again-2 returns)

@@ -1,11 +1,7 @@
 -- `cut_functions::same_cut` meets its contract. The invariant: cut k is none, or one of the list. The measure is the cuts that are left.
--- Assumes nothing.
-use mathlib.Core.List.{List}
-use Prim.Native.Nat.{ℕ, _≤_}
-use native.Mathlib.Omega.{arith}
-use borrow.Author.Needs.{needs}
-use Rattle.base_words.specs.Layout.{countAt}
-use Rattle.cut_functions.specs.Filling.{SameCut}
+use Rattle.base.specs.{List, ℕ, _≤_, arith, needs}
+use Rattle.base_words.specs.{countAt}
+use Rattle.cut_functions.specs.{SameCut}
 use Rattle.cut_functions.proofs.same_cut.Statement.{statement}
 use Rattle.cut_functions.proofs.same_cut.Tie as tie
 
@@ -24,8 +20,6 @@ returns-2 c =
     record { listed = λ h. omega (arith, l .loop .inv, l .before .count .ensures, c .before .before .before .before .loop-test .taken); same = λ h. c .before .is-cut .ensures (c .if2 .taken) }
 
 pub same-cut-spec : {M : Type 1} → statement M
-same-cut-spec =
-    tie.close
-    (tie.spec
+same-cut-spec = tie.close (tie.spec
     Inv-loop μ-loop (λ c κs. search needs) (λ c. search needs) (λ c. search needs) (λ c κs. search needs) (λ c. none _ _ _ _)
     (λ c κs. search needs) returns-2 (λ c. search needs) (λ c. search needs) (λ c. none _ _ _ _))

@@ -1,11 +1,7 @@
 -- `cut_functions::same_leaves` meets its contract: equal one by one.
--- Assumes nothing.
-use mathlib.Core.Path.{_≡_, refl}
-use lib.ListN.{length}
-use borrow.Author.Tests.{eqb-true}
+use Rattle.base.specs.{_≡_, refl, length, eqb-true, needs}
 use Rattle.cut_functions.proofs.Walks.{never}
 use Rattle.cut_functions.proofs.Leaves.{four-same}
-use borrow.Author.Needs.{needs}
 use Rattle.cut_functions.proofs.same_leaves.Statement.{statement}
 use Rattle.cut_functions.proofs.same_leaves.Tie as tie
 
@@ -17,9 +13,7 @@ returns-4 c = λ e.
     four-same (a .t1) (a .t2) la lb (c .before .before .if1 .left) (c .before .if2 .left) (c .if3 .left) (eqb-true _ _ e)
 
 pub same-leaves-spec : {M : Type 1} → statement M
-same-leaves-spec =
-    tie.close
-    (tie.spec
+same-leaves-spec = tie.close (tie.spec
     (λ c. search needs) (λ c. search needs) (λ c e. absurd (never e refl)) (λ c. search needs) (λ c. search needs)
     (λ c e. absurd (never e refl)) (λ c. search needs) (λ c. search needs) (λ c e. absurd (never e refl)) (λ c. search needs)
     (λ c. search needs) returns-4)

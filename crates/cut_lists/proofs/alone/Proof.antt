@@ -1,7 +1,6 @@
--- `cut_lists::alone` meets its contract. Assumes nothing.
-use native.Mathlib.Omega.{arith}
-use borrow.Author.Needs.{needs}
-use Rattle.cut_lists.specs.Keys.{keyFrom, key}
+-- `cut_lists::alone` meets its contract.
+use Rattle.base.specs.{arith, needs}
+use Rattle.cut_lists.specs.{keyFrom, key}
 use Rattle.cut_lists.proofs.alone.Statement.{statement}
 use Rattle.cut_lists.proofs.alone.Tie as tie
 

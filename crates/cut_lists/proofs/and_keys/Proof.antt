@@ -1,12 +1,7 @@
 -- `cut_lists::and_keys` meets its contract: the two lists crossed, and the variable alone added.
--- Assumes nothing.
-use mathlib.Core.Path.{_∙_}
-use mathlib.Core.List.{List}
-use Prim.Native.Nat.{ℕ, _/_, _≤_}
-use native.Mathlib.Omega.{arith}
-use Rattle.base_words.specs.Record.{cutsAt}
-use Rattle.cut_lists.specs.Keys.{added, crossKeys}
-use borrow.Author.Needs.{needs}
+use Rattle.base.specs.{_∙_, List, ℕ, _/_, _≤_, arith, needs}
+use Rattle.base_words.specs.{cutsAt}
+use Rattle.cut_lists.specs.{added, crossKeys}
 use Rattle.cut_lists.proofs.and_keys.Statement.{statement}
 use Rattle.cut_lists.proofs.and_keys.Tie as tie
 
@@ -43,9 +38,7 @@ returns c =
     (i .insert .ensures .0 ∙ (λ z. added (i .before .alone .ensures z) (e z)), i .insert .ensures .1)
 
 pub and-keys-spec : {M : Type 1} → statement M
-and-keys-spec =
-    tie.close
-    (tie.spec
+and-keys-spec = tie.close (tie.spec
     (λ c κs. search needs) (λ c κs. search needs) cross-requires
     (λ c κs. omega (arith, c .before .before .before .before .before .before .before .before .before .pre)) insert-requires
     (λ c. c .before .before .insert .kept .0 ∙ crossed (c .before .before .before) .cross .kept .1 .1 .1 .1 .0) returns)

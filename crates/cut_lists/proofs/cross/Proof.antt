@@ -1,16 +1,9 @@
 -- `cut_lists::cross` meets its contract. The invariant: the keys are `crossKeys` over the cuts of a from the i-th on. The measure is the number of cuts that are left.
--- Assumes nothing.
-use mathlib.Core.Path.{_≡_, refl, sym, ap, _∙_, subst}
-use mathlib.Core.List.{List, [], _∷_}
-use Prim.Native.Nat.{ℕ, suc, _-_, _≤_}
-use native.Mathlib.Omega.{arith}
-use lib.ListN.{length, drop, drop-of-length-le}
+use Rattle.base.specs.{_≡_, refl, sym, ap, _∙_, subst, List, [], _∷_, ℕ, suc, _-_, _≤_, arith, length, drop, drop-of-length-le, needs}
 use Rattle.model.specs.declared.Cut.{Cut}
-use Rattle.base_words.specs.Layout.{countAt}
-use Rattle.base_words.specs.Record.{leavesOf, cutsAt, Good}
-use Rattle.cut_lists.specs.Keys.{rowKeys, crossKeys, keyRoom}
+use Rattle.base_words.specs.{countAt, leavesOf, cutsAt, Good}
+use Rattle.cut_lists.specs.{rowKeys, crossKeys, keyRoom}
 use Rattle.cut_lists.proofs.Rows.{at-hand, cut-good, none-left}
-use borrow.Author.Needs.{needs}
 use Rattle.cut_lists.proofs.cross.Statement.{statement}
 use Rattle.cut_lists.proofs.cross.Tie as tie
 
@@ -89,9 +82,7 @@ returns c =
     (l .loop .inv .3 ∙ ap (λ (i : ℕ). crossKeys (drop i (cutsAt w (s .args .m) (s .args .a))) (cutsAt w (s .args .m) (s .args .b))) zero-left, l .loop .inv .1)
 
 pub cross-spec : {M : Type 1} → statement M
-cross-spec =
-    tie.close
-    (tie.spec
+cross-spec = tie.close (tie.spec
     Inv-loop μ-loop (λ c. search needs) (λ c. search needs) (λ c κs. search needs) (λ c κs. search needs) loop-holds
     (λ c. omega (arith, c .loop-test .taken)) (λ c κs. search needs) row-requires
     (λ c. omega (arith, c .before .before .before .before .before .before .before .loop-test .taken)) loop-again

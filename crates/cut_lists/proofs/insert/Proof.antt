@@ -1,12 +1,8 @@
--- `cut_lists::insert` meets its contract. Assumes nothing.
-use mathlib.Core.Path.{_≡_, sym, ap, _∙_}
-use mathlib.Core.List.{List, _∷_, _++_}
-use Prim.Native.Nat.{ℕ, suc, _-_, _≤_, _<_, compare}
-use native.Mathlib.Omega.{arith}
-use borrow.Author.Needs.{needs}
-use lib.ListN.{length, take, drop, length-drop, length-set}
-use Rattle.model.specs.Base.{insert}
-use Rattle.cut_lists.specs.Keys.{keyRoom}
+-- `cut_lists::insert` meets its contract.
+use Rattle.base.specs.{_≡_, sym, ap, _∙_, List, _∷_, _++_, ℕ, suc, _-_, _≤_, _<_, compare, arith, needs, length, take, drop, length-drop}
+use Rattle.base.specs.{length-set}
+use Rattle.model.specs.{insert}
+use Rattle.cut_lists.specs.{keyRoom}
 use Rattle.cut_lists.proofs.Inserting.{put-at, added-room, added-full}
 use Rattle.cut_lists.proofs.insert.Statement.{statement}
 use Rattle.cut_lists.proofs.insert.Tie as tie
@@ -72,9 +68,7 @@ returns-3 c =
     )
 
 pub insert-spec : {M : Type 1} → statement M
-insert-spec =
-    tie.close
-    (tie.spec
+insert-spec = tie.close (tie.spec
     returns (λ c κs. search needs) (λ c. search needs) returns-2 move-up-requires (λ c. search needs) (λ c. omega (arith, free (was c)))
     (λ c. omega (arith, free (was c), long c, was c .if2 .left)) (λ c. search needs)
     (λ c. length-set (c .before .before .move-up .last .0) _ _ ∙ c .before .before .move-up .kept .0) returns-3)

@@ -1,7 +1,6 @@
--- `cut_lists::key_words` meets its contract. Assumes nothing.
-use mathlib.Core.Path.{refl}
-use Rattle.cut_lists.specs.Keys.{keyWords}
-use borrow.Author.Needs.{needs}
+-- `cut_lists::key_words` meets its contract.
+use Rattle.base.specs.{refl, needs}
+use Rattle.cut_lists.specs.{keyWords}
 use Rattle.cut_lists.proofs.key_words.Statement.{statement}
 use Rattle.cut_lists.proofs.key_words.Tie as tie
 
@@ -10,6 +9,5 @@ unfolding keyWords
 returns c = refl
 
 pub key-words-spec : {M : Type 1} → statement M
-key-words-spec = tie.close
-    (tie.spec
+key-words-spec = tie.close (tie.spec
     (λ c. search needs) (λ c. search needs) (λ c. search needs) (λ c. search needs) (λ c. search needs) returns)

@@ -1,13 +1,7 @@
 -- `cut_lists::list_node` meets its contract: a list of 19 keys says that there are too many cuts, and a shorter one has them all.
--- Assumes nothing.
-use mathlib.Core.Path.{_≡_, _∙_}
-use mathlib.Core.List.{List}
-use Prim.Native.Nat.{ℕ, _-_}
-use native.Mathlib.Omega.{arith}
-use lib.ListN.{length, drop, length-drop}
-use Rattle.cut_lists.specs.Keys.{keyRoom}
+use Rattle.base.specs.{_≡_, _∙_, List, ℕ, _-_, arith, length, drop, length-drop, needs}
+use Rattle.cut_lists.specs.{keyRoom}
 use Rattle.cut_lists.proofs.Nodes.{too-many, few-enough, keys-small}
-use borrow.Author.Needs.{needs}
 use Rattle.cut_lists.proofs.list_node.Statement.{statement}
 use Rattle.cut_lists.proofs.list_node.Tie as tie
 
@@ -52,7 +46,6 @@ returns-2 c =
     (few .0, c .before .before .store-keys .ensures ∙ few .1)
 
 pub list-node-spec : {M : Type 1} → statement M
-list-node-spec =
-    tie.close
-    (tie.spec
-    (λ c. search needs) (λ c κs. search needs) (λ c. search needs) returns (λ c. search needs) store-keys-requires (λ c. search needs) returns-2)
+list-node-spec = tie.close (tie.spec
+    (λ c. search needs) (λ c κs. search needs) (λ c. search needs) returns (λ c. search needs) store-keys-requires (λ c. search needs)
+    returns-2)

@@ -1,14 +1,8 @@
 -- `cut_lists::lists` meets its contract. The invariant: the first i variables are listed, and the words hold exactly their lists. The measure is the variables that are left.
--- Assumes nothing.
-use mathlib.Core.Path.{_≡_, refl, sym, ap, _∙_}
-use mathlib.Core.List.{List}
-use Prim.Native.Nat.{ℕ, _-_, _≤_}
-use native.Mathlib.Omega.{arith}
-use borrow.Author.Needs.{needs}
+use Rattle.base.specs.{_≡_, refl, sym, ap, _∙_, List, ℕ, _-_, _≤_, arith, needs, not-true, not-false}
 use Rattle.model.specs.declared.Verdict.the-variants.{Accepted}
-use Rattle.cut_lists.specs.Listing.{listing, stored}
+use Rattle.cut_lists.specs.{listing, stored}
 use Rattle.cut_lists.proofs.Listings.{Held, held-begin, held-operands, turn-inside, turn-on, turn-off}
-use borrow.Author.Tests.{not-true, not-false}
 use Rattle.cut_lists.proofs.lists.Statement.{statement}
 use Rattle.cut_lists.proofs.lists.Tie as tie
 
@@ -69,8 +63,6 @@ returns-2 c =
     )
 
 pub lists-spec : {M : Type 1} → statement M
-lists-spec =
-    tie.close
-    (tie.spec
+lists-spec = tie.close (tie.spec
     Inv-loop μ-loop loop-holds slot-requires list-node-requires (λ c. search needs) returns (λ c. search needs) (λ c. search needs)
     loop-again (λ c. search needs) returns-2)

@@ -1,14 +1,7 @@
 -- `cut_lists::move_up` meets its contract. The invariant: the keys before the i-th are moved. The measure is the number of keys that are left.
--- Assumes nothing.
-use mathlib.Core.Path.{_≡_, refl, sym, ap, _∙_}
-use mathlib.Core.List.{List, [], _∷_, _++_}
-use Prim.Native.Nat.{ℕ, suc, _+_, _-_, _≤_, _<_}
-use native.Mathlib.Numerals.{add-one}
-use native.Mathlib.Omega.{arith}
-use borrow.Author.Needs.{needs}
-use lib.ListN.{length, take, drop, getD, set, length-set}
-use lib.Seq.{drop-set-lt}
-use Rattle.cut_lists.specs.Keys.{keyRoom}
+use Rattle.base.specs.{_≡_, refl, sym, ap, _∙_, List, [], _∷_, _++_, ℕ, suc, _+_, _-_, _≤_, _<_, add-one, arith, needs, length, take, drop}
+use Rattle.base.specs.{getD, set, length-set, drop-set-lt}
+use Rattle.cut_lists.specs.{keyRoom}
 use Rattle.cut_lists.proofs.Inserting.{none-between, one-more, put-more, heads}
 use Rattle.cut_lists.proofs.move_up.Statement.{statement}
 use Rattle.cut_lists.proofs.move_up.Tie as tie
@@ -57,8 +50,6 @@ returns c =
     record { ahead = rw e at (l .loop .inv .3); behind = rw e at (l .loop .inv .4) }
 
 pub move-up-spec : {M : Type 1} → statement M
-move-up-spec =
-    tie.close
-    (tie.spec
+move-up-spec = tie.close (tie.spec
     Inv-loop μ-loop loop-holds (λ c. search needs) (λ c. search needs) (λ c. search needs) (λ c. search needs) (λ c. search needs)
     (λ c. search needs) (λ c. search needs) loop-again (λ c. c .before .loop .inv .2 ∙ sym (c .before .before .pre .0)) returns)

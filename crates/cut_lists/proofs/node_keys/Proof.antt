@@ -1,16 +1,8 @@
 -- `cut_lists::node_keys` meets its contract: in each arm the kind is known, at which `nodeAt` computes.
--- Assumes nothing.
-use mathlib.Core.Path.{_≡_, sym, ap, _∙_}
-use mathlib.Core.List.{List, [], _∷_}
-use Prim.Native.Nat.{ℕ, _/_}
-use native.Mathlib.Omega.{arith}
-use lib.ListN.{drop-of-length-le}
-use borrow.Author.Tests.{ne-eqb}
-use Rattle.base_words.specs.Layout.{constantKind, inputKind, andKind, kindAt, leftAt, rightAt}
-use Rattle.base_words.specs.Record.{nodeAt}
-use Rattle.model.specs.Graph.{varOf}
-use Rattle.cut_lists.specs.Keys.{nodeKeys, keyFrom, key, added, crossKeys}
-use borrow.Author.Needs.{needs}
+use Rattle.base.specs.{_≡_, sym, ap, _∙_, List, [], _∷_, ℕ, _/_, arith, drop-of-length-le, ne-eqb, needs}
+use Rattle.model.specs.{varOf}
+use Rattle.base_words.specs.{constantKind, inputKind, andKind, kindAt, leftAt, rightAt, nodeAt}
+use Rattle.cut_lists.specs.{nodeKeys, keyFrom, key, added, crossKeys}
 use Rattle.cut_lists.proofs.node_keys.Statement.{statement}
 use Rattle.cut_lists.proofs.node_keys.Tie as tie
 
@@ -47,8 +39,6 @@ returns-4 c =
     (drop-of-length-le (s .args .keys .now) {i = 19} (omega (arith, s .pre .2)) ∙ sym (undefined-at _ _ _ _ (λ h. c .match .rest .0 .0 .1 (e ∙ h)) (λ h. c .match .rest .0 .1 (e ∙ h)) (λ h. c .match .rest .1 (e ∙ h))), omega arith)
 
 pub node-keys-spec : {M : Type 1} → statement M
-node-keys-spec =
-    tie.close
-    (tie.spec
-    (λ c κs. search needs) (λ c κs. search needs) (λ c κs. search needs) (λ c κs. search needs) (λ c κs. search needs)
-    (λ c. search needs) returns (λ c. search needs) returns-2 (λ c. search needs) returns-3 returns-4)
+node-keys-spec = tie.close (tie.spec
+    (λ c κs. search needs) (λ c κs. search needs) (λ c κs. search needs) (λ c κs. search needs) (λ c κs. search needs) (λ c. search needs)
+    returns (λ c. search needs) returns-2 (λ c. search needs) returns-3 returns-4)

@@ -1,19 +1,10 @@
--- `cut_lists::pack_cuts` meets its contract. The invariant: the cuts before the i-th are packed; the measure is how many are left. Assumes nothing.
-use mathlib.Core.Path.{_≡_, refl, sym, ap, _∙_, subst}
-use mathlib.Core.Bool.{Bool, true, false}
-use mathlib.Core.List.{List}
-use Prim.Native.Nat.{ℕ, _+_, _-_, _*_, _≤_, _<_}
-use native.Mathlib.Omega.{arith}
-use lib.Dec.{eqb}
-use lib.ListN.{length, getD, set, length-set}
-use lib.Seq.{getD-set-same, getD-set-other, length-take-le}
-use borrow.Author.Needs.{needs}
-use borrow.Author.Tests.{eqb-true, eqb-false}
+-- `cut_lists::pack_cuts` meets its contract. The invariant: the cuts before the i-th are packed; the measure is how many are left.
+use Rattle.base.specs.{_≡_, refl, sym, ap, _∙_, subst, Bool, true, false, List, ℕ, _+_, _-_, _*_, _≤_, _<_, arith, eqb, length, getD, set}
+use Rattle.base.specs.{length-set, getD-set-same, getD-set-other, length-take-le, needs, eqb-true, eqb-false}
 use Rattle.model.specs.declared.Cut.{Cut}
-use Rattle.base_words.specs.Layout.{countAt}
-use Rattle.base_words.specs.Record.{leavesOf, leavesAt, cutOf, Good}
-use Rattle.base_words.proofs.Stored.{four-leaves}
-use Rattle.cut_lists.specs.Packs.{pack, shut, columnMask}
+use Rattle.base_words.specs.{countAt, leavesOf, leavesAt, cutOf, Good}
+use Rattle.base_words.proofs.{four-leaves}
+use Rattle.cut_lists.specs.{pack, shut, columnMask}
 use Rattle.cut_lists.proofs.Rows.{cut-good}
 use Rattle.cut_lists.proofs.pack_cuts.Statement.{statement}
 use Rattle.cut_lists.proofs.pack_cuts.Tie as tie

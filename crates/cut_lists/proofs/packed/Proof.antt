@@ -1,10 +1,6 @@
--- `cut_lists::packed` meets its contract. Assumes nothing.
-use mathlib.Core.Path.{_≡_}
-use Prim.Native.Nat.{ℕ, _<_}
-use native.Mathlib.Omega.{arith}
-use lib.ListN.{length, getD}
+-- `cut_lists::packed` meets its contract.
+use Rattle.base.specs.{_≡_, ℕ, _<_, arith, length, getD, needs}
 use Rattle.cut_lists.proofs.Packing.{leaf-small, pack-digits}
-use borrow.Author.Needs.{needs}
 use Rattle.cut_lists.proofs.packed.Statement.{statement}
 use Rattle.cut_lists.proofs.packed.Tie as tie
 
@@ -21,9 +17,7 @@ returns c =
     pack-digits (s .args .c .leaves) (s .args .c .count) _ _ _ _ (four s) (s .pre .0) (c .before .before .before .digit .ensures) (c .before .before .digit2 .ensures) (c .before .digit3 .ensures) (c .digit4 .ensures)
 
 pub packed-spec : {M : Type 1} → statement M
-packed-spec =
-    tie.close
-    (tie.spec
+packed-spec = tie.close (tie.spec
     (λ c κs. (omega arith, low (c .before) 0)) (λ c κs. (omega arith, low (c .before .before) 1))
     (λ c κs. (omega arith, low (c .before .before .before) 2)) (λ c κs. (omega arith, low (c .before .before .before .before) 3))
     (λ c. search needs) (λ c. search needs) (λ c. search needs) (λ c. search needs) (λ c. search needs) (λ c. search needs) returns)

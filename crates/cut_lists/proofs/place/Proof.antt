@@ -1,13 +1,7 @@
 -- `cut_lists::place` meets its contract. The invariant: the keys before the i-th are below k. The measure is the number of keys that are left.
--- Assumes nothing.
-use mathlib.Core.Path.{_≡_, sym, ap, _∙_}
-use mathlib.Core.List.{List, _++_}
-use Prim.Native.Nat.{ℕ, _-_, _≤_, _<_, compare}
-use native.Mathlib.Omega.{arith}
-use borrow.Author.Needs.{needs}
-use lib.ListN.{length, take, drop, getD}
-use Rattle.model.specs.Base.{insert}
-use Rattle.cut_lists.specs.Keys.{keyRoom}
+use Rattle.base.specs.{_≡_, sym, ap, _∙_, List, _++_, ℕ, _-_, _≤_, _<_, compare, arith, needs, length, take, drop, getD}
+use Rattle.model.specs.{insert}
+use Rattle.cut_lists.specs.{keyRoom}
 use Rattle.cut_lists.proofs.Inserting.{none-between, rejoin, passed, stopped, same, ended}
 use Rattle.cut_lists.proofs.place.Statement.{statement}
 use Rattle.cut_lists.proofs.place.Tie as tie
@@ -71,7 +65,6 @@ returns-3 c =
     record { there = λ z. absurd (omega (arith, z, c .loop-test .left)); free = λ h. (l .loop .inv .0, l .loop .inv .1, e) }
 
 pub place-spec : {M : Type 1} → statement M
-place-spec =
-    tie.close
-    (tie.spec
-    Inv-loop μ-loop loop-holds (λ c. search needs) (λ c. search needs) returns returns-2 (λ c. search needs) (λ c. search needs) loop-again returns-3)
+place-spec = tie.close (tie.spec
+    Inv-loop μ-loop loop-holds (λ c. search needs) (λ c. search needs) returns returns-2 (λ c. search needs) (λ c. search needs) loop-again
+    returns-3)

@@ -1,22 +1,15 @@
 -- `cut_lists::row` meets its contract. The outer invariant: the keys are `rowKeys` over the cuts of v from the j-th on; the inner one: the merge is under way. Of x only its
 -- leaves, packed, and their number are at hand in the loops, so both are said of every cut that is packed so. The inner measure is what is left to merge, the outer one
--- the number of cuts that are left. Assumes nothing.
-use mathlib.Core.Path.{_≡_, sym, ap, _∙_}
-use mathlib.Core.List.{List, [], _∷_}
-use Prim.Native.Nat.{ℕ, suc, _+_, _-_, _*_, _%_, _≤_, _<_, compare}
-use native.Mathlib.Omega.{arith}
-use borrow.Author.Needs.{needs}
-use lib.Bits.{bitAnd}
-use lib.ListN.{length, drop, getD}
-use lib.Seq.{length-take-le}
-use Rattle.model.specs.Base.{union}
-use Rattle.base_words.specs.Layout.{countAt}
-use Rattle.base_words.specs.Record.{leavesOf, leavesAt, cutsAt, Good}
-use Rattle.base_words.proofs.Stored.{four-leaves}
-use Rattle.cut_lists.specs.Keys.{added, key, rowKeys, keyRoom}
-use Rattle.cut_lists.specs.Packs.{shut, rowMask}
+-- the number of cuts that are left.
+use Rattle.base.specs.{_≡_, sym, ap, _∙_, List, [], _∷_, ℕ, suc, _+_, _-_, _*_, _%_, _≤_, _<_, compare, arith, needs, bitAnd, length, drop}
+use Rattle.base.specs.{getD, length-take-le}
+use Rattle.model.specs.{union}
+use Rattle.base_words.specs.{countAt, leavesOf, leavesAt, cutsAt, Good}
+use Rattle.base_words.proofs.{four-leaves}
+use Rattle.cut_lists.specs.{added, key, rowKeys, keyRoom, shut, rowMask}
 use Rattle.cut_lists.proofs.Rows.{row-narrow, row-wide, at-hand, cut-good, none-left}
-use Rattle.cut_lists.proofs.Packing.{Packs, Merged, start, on-left, on-right, on-both, left-fits, right-fits, both-fits, over-left, over-right, at-end, barred}
+use Rattle.cut_lists.proofs.Packing.{Packs, Merged, start, on-left, on-right, on-both, left-fits, right-fits, both-fits, over-left}
+use Rattle.cut_lists.proofs.Packing.{over-right, at-end, barred}
 use Rattle.cut_lists.proofs.row.Statement.{statement}
 use Rattle.cut_lists.proofs.row.Tie as tie
 

@@ -1,8 +1,6 @@
--- `cut_lists::shut` meets its contract. Assumes nothing.
-use native.Mathlib.Omega.{arith}
-use borrow.Author.Needs.{needs}
-use borrow.Author.Tests.{eq-eqb, ne-eqb}
-use Rattle.cut_lists.specs.Packs.{shut}
+-- `cut_lists::shut` meets its contract.
+use Rattle.base.specs.{arith, needs, eq-eqb, ne-eqb}
+use Rattle.cut_lists.specs.{shut}
 use Rattle.cut_lists.proofs.shut.Statement.{statement}
 use Rattle.cut_lists.proofs.shut.Tie as tie
 

@@ -1,10 +1,5 @@
--- `cut_lists::single` meets its contract. Assumes nothing.
-use mathlib.Core.Path.{_∙_}
-use mathlib.Core.List.{List, _∷_, _++_}
-use Prim.Native.Nat.{ℕ}
-use native.Mathlib.Omega.{arith}
-use lib.ListN.{drop-of-length-le}
-use borrow.Author.Needs.{needs}
+-- `cut_lists::single` meets its contract.
+use Rattle.base.specs.{_∙_, List, _∷_, _++_, ℕ, arith, drop-of-length-le, needs}
 use Rattle.cut_lists.proofs.Inserting.{none-between, put-at}
 use Rattle.cut_lists.proofs.single.Statement.{statement}
 use Rattle.cut_lists.proofs.single.Tie as tie

@@ -1,16 +1,8 @@
 -- `cut_lists::store_keys` meets its contract. The invariant: the first i keys are stored. The measure is the number of keys that are left.
--- Assumes nothing.
-use mathlib.Core.Path.{_≡_, refl, sym, ap, _∙_}
-use mathlib.Core.List.{List, [], _∷_, map}
-use Prim.Native.Nat.{ℕ, _-_, _≤_}
-use native.Mathlib.Omega.{arith}
-use borrow.Author.Needs.{needs}
-use lib.ListN.{length, take, drop, length-drop}
-use lib.Seq.{getD-drop, take-all}
-use Rattle.base_words.specs.Put.{putAt}
-use Rattle.base_words.specs.Layout.{countAddr}
-use Rattle.base_words.specs.Record.{putCut, putCuts}
-use Rattle.cut_lists.specs.Keys.{keyRoom, keyWords, putKeys}
+use Rattle.base.specs.{_≡_, refl, sym, ap, _∙_, List, [], _∷_, map, ℕ, _-_, _≤_, arith, needs, length, take, drop, length-drop, getD-drop}
+use Rattle.base.specs.{take-all}
+use Rattle.base_words.specs.{putAt, countAddr, putCut, putCuts}
+use Rattle.cut_lists.specs.{keyRoom, keyWords, putKeys}
 use Rattle.cut_lists.proofs.Storing.{keys-more}
 use Rattle.cut_lists.proofs.store_keys.Statement.{statement}
 use Rattle.cut_lists.proofs.store_keys.Tie as tie
@@ -63,8 +55,6 @@ returns c =
     ∙ (λ j. putCuts (putAt (a .work .now) (countAddr (a .m) (a .v)) (n j ∷ [])) (a .m) (a .v) 0 (map keyWords ks))
 
 pub store-keys-spec : {M : Type 1} → statement M
-store-keys-spec =
-    tie.close
-    (tie.spec
+store-keys-spec = tie.close (tie.spec
     Inv-loop μ-loop (λ c. search needs) (λ c κs. search needs) loop-holds (λ c. search needs) (λ c. search needs) (λ c. search needs)
     key-words-requires (λ c κs. search needs) (λ c. search needs) (λ c. search needs) loop-again (λ c. search needs) returns)

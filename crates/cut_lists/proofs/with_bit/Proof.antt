@@ -1,10 +1,5 @@
--- `cut_lists::with_bit` meets its contract: the shift loses nothing. Assumes nothing.
-use mathlib.Core.Path.{ap, _∙_}
-use Prim.Native.Nat.{_%_}
-use native.Mathlib.Omega.{arith}
-use lib.Bits.{bitOr}
-use lib.Pow.{shl-exact}
-use borrow.Author.Needs.{needs}
+-- `cut_lists::with_bit` meets its contract: the shift loses nothing.
+use Rattle.base.specs.{ap, _∙_, _%_, arith, bitOr, shl-exact, needs}
 use Rattle.cut_lists.proofs.with_bit.Statement.{statement}
 use Rattle.cut_lists.proofs.with_bit.Tie as tie
 

@@ -1,15 +1,10 @@
 -- `cut_pass::enumerate` meets its contract: the lists, and where they are all there the functions.
--- Assumes nothing.
-use mathlib.Core.Path.{sym, ap, _∙_, subst}
-use mathlib.Core.List.{List}
-use Prim.Native.Nat.{ℕ}
-use native.Mathlib.Omega.{arith}
-use borrow.Author.Needs.{needs}
-use Rattle.cut_lists.specs.Listing as lists
-use Rattle.cut_functions.specs.Filling as filling
-use Rattle.cut_pass.specs.Enumerated.{Ready, enumerated}
+use Rattle.base.specs.{sym, ap, _∙_, subst, List, ℕ, arith, needs}
+use Rattle.cut_pass.specs.{Ready, enumerated}
 use Rattle.cut_pass.proofs.Passes.{ready-filling, after-accepted, after-refused}
 use Rattle.cut_pass.proofs.enumerate.Statement.{statement}
+use Rattle.cut_lists.specs.Listing as lists
+use Rattle.cut_functions.specs.Filling as filling
 use Rattle.cut_pass.proofs.enumerate.Tie as tie
 
 placed-requires : tie.Need-placed-requires
@@ -66,7 +61,6 @@ returns-2 c =
     )
 
 pub enumerate-spec : {M : Type 1} → statement M
-enumerate-spec =
-    tie.close
-    (tie.spec
-    placed-requires lists-requires enum-told functions-requires (λ c. search needs) (λ c. search needs) returns (λ c. search needs) returns-2)
+enumerate-spec = tie.close (tie.spec
+    placed-requires lists-requires enum-told functions-requires (λ c. search needs) (λ c. search needs) returns (λ c. search needs)
+    returns-2)

@@ -1,10 +1,6 @@
--- `from_genlib::convert_file` is safe: the length that `convert` answers is within text memory. Assumes nothing.
-use Prim.Native.Nat.{_≤_}
-use native.Mathlib.Omega.{arith}
-use mathlib.Core.Path.{sym, _∙_}
-use lib.ListN.{length, length-take}
-use Rattle.genlib_call.proofs.Passing.{length-within}
-use borrow.Author.Needs.{needs}
+-- `from_genlib::convert_file` is safe: the length that `convert` answers is within text memory.
+use Rattle.base.specs.{_≤_, arith, sym, _∙_, length, length-take, needs}
+use Rattle.genlib_call.proofs.{length-within}
 use Rattle.from_genlib.proofs.convert_file.Statement.{statement}
 use Rattle.from_genlib.proofs.convert_file.Tie as tie
 
@@ -21,9 +17,7 @@ slice-aggregate-put : tie.Need-slice-aggregate-put
 slice-aggregate-put c = let h = within (c .before) in omega (arith, length-take (c .before .before .n .given .0 .0) (at-convert (c .before) .convert .last .1 .0))
 
 pub convert-file-spec : {M : Type 1} → statement M
-convert-file-spec =
-    tie.close
-    (tie.spec
+convert-file-spec = tie.close (tie.spec
     (λ c κs. search needs) (λ c. search needs) slice-reshare-prefix-put slice-aggregate-put (λ c κs. search needs) (λ c. search needs)
     (λ c κs. search needs) (λ c. search needs) (λ c κs. search needs) (λ c. search needs) (λ c κs. search needs) (λ c. search needs)
     (λ c. search needs) (λ c. search needs) (λ c. search needs))

@@ -1,9 +1,8 @@
--- `from_genlib::main` is safe: what `load` counts is within its buffer. Assumes nothing.
-use mathlib.Core.Path.{subst}
-use Rattle.program_files.specs.Loading.{Loaded-in}
+-- `from_genlib::main` is safe: what `load` counts is within its buffer.
+use Rattle.base.specs.{subst, needs}
+use Rattle.program_files.specs.{Loaded-in}
 use Rattle.program_files.specs.declared.Loaded.{Loaded}
 use Rattle.program_files.specs.declared.Loaded.the-variants.{Bytes}
-use borrow.Author.Needs.{needs}
 use Rattle.from_genlib.proofs.main.Statement.{statement}
 use Rattle.from_genlib.proofs.main.Tie as tie
 
@@ -19,8 +18,7 @@ slice-aggregate-convert-file : tie.Need-slice-aggregate-convert-file
 slice-aggregate-convert-file c = counted (c .before) .1
 
 pub main-spec : {M : Type 1} → statement M
-main-spec =
-    tie.close
-    (tie.spec
-    (λ c. search needs) (λ c. search needs) (λ c. search needs) (λ c κs. search needs) (λ c. search needs) (λ c. search needs) (λ c. search needs)
-    array-share-prefix-genlib slice-aggregate-convert-file (λ c. search needs) (λ c κs. search needs) (λ c. search needs))
+main-spec = tie.close (tie.spec
+    (λ c. search needs) (λ c. search needs) (λ c. search needs) (λ c κs. search needs) (λ c. search needs) (λ c. search needs)
+    (λ c. search needs) array-share-prefix-genlib slice-aggregate-convert-file (λ c. search needs) (λ c κs. search needs)
+    (λ c. search needs))

@@ -1,15 +1,12 @@
--- `genlib_call::convert` meets its contract: 1, 22 to 24, 18, or the text. Assumes nothing.
-use mathlib.Core.Path.{_≡_, sym, _∙_}
-use native.Mathlib.Omega.{arith}
-use lib.ListN.{length}
-use Rattle.model.specs.Genlib.{readGenlib}
+-- `genlib_call::convert` meets its contract: 1, 22 to 24, 18, or the text.
+use Rattle.base.specs.{_≡_, sym, _∙_, arith, length, needs}
+use Rattle.model.specs.{readGenlib}
 use Rattle.model.specs.declared.Written.the-variants.{Length}
-use Rattle.model.proofs.Answers.{written-ruled}
-use Rattle.theory_genlib.proofs.Demanded.{demand-genlib}
-use Rattle.theory_foundry.proofs.TextExactly.{demand-genlib-refusals}
-use Rattle.genlib_call.specs.Passes.{measured, textFor}
+use Rattle.model.proofs.{written-ruled}
+use Rattle.theory_genlib.proofs.{demand-genlib}
+use Rattle.theory_foundry.proofs.{demand-genlib-refusals}
+use Rattle.genlib_call.specs.{measured, textFor}
 use Rattle.genlib_call.proofs.Passing.{too-long, refused, over, fine, text-long, refuses, writes}
-use borrow.Author.Needs.{needs}
 use Rattle.genlib_call.proofs.convert.Statement.{statement}
 use Rattle.genlib_call.proofs.convert.Tie as tie
 
@@ -60,7 +57,5 @@ returns-4 c =
     (r .0, (r .1, (demand-genlib _ _, (demand-genlib-refusals _ _, written-ruled _ _ (r .0)))))
 
 pub convert-spec : {M : Type 1} → statement M
-convert-spec =
-    tie.close
-    (tie.spec
+convert-spec = tie.close (tie.spec
     returns (λ c κs. search needs) (λ c. search needs) returns-2 write-requires (λ c. search needs) (λ c. search needs) returns-3 returns-4)

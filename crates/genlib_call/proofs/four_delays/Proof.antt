@@ -1,14 +1,10 @@
--- `genlib_call::four_delays` meets its contract, delay by delay. Assumes nothing.
-use mathlib.Core.Path.{_≡_, sym, _∙_}
-use mathlib.Core.Option.{some}
-use mathlib.Core.List.{List}
-use Prim.Native.Nat.{ℕ}
-use Rattle.model.specs.Genlib.{pinDelay}
-use Rattle.genlib_expression.specs.Places.{namesAt}
-use Rattle.genlib_groups.specs.Lines.{linesBehind}
-use Rattle.genlib_groups.proofs.Grouping.{value-some, value-none}
+-- `genlib_call::four_delays` meets its contract, delay by delay.
+use Rattle.base.specs.{_≡_, sym, _∙_, some, List, ℕ, needs}
+use Rattle.model.specs.{pinDelay}
+use Rattle.genlib_expression.specs.{namesAt}
+use Rattle.genlib_groups.specs.{linesBehind}
+use Rattle.genlib_groups.proofs.{value-some, value-none}
 use Rattle.genlib_call.proofs.Judging.{four-is, none-0, none-1, none-2, none-3}
-use borrow.Author.Needs.{needs}
 use Rattle.genlib_call.proofs.four_delays.Statement.{statement}
 use Rattle.genlib_call.proofs.four_delays.Tie as tie
 
@@ -81,9 +77,7 @@ returns-5 c =
     sym (none-0 (lines s) (names s) (value-none _ (sym (c .enum-told4 .given .1) ∙ c .before .before .pin-delay .ensures)))
 
 pub four-delays-spec : {M : Type 1} → statement M
-four-delays-spec =
-    tie.close
-    (tie.spec
+four-delays-spec = tie.close (tie.spec
     (λ c κs. search needs) (λ c. search needs) (λ c κs. search needs) (λ c. search needs) (λ c κs. search needs) (λ c. search needs)
-    (λ c κs. search needs) (λ c. search needs) enum-told (λ c. search needs) (λ c. search needs) (λ c. search needs) returns returns-2 returns-3
-    returns-4 returns-5)
+    (λ c κs. search needs) (λ c. search needs) enum-told (λ c. search needs) (λ c. search needs) (λ c. search needs) returns returns-2
+    returns-3 returns-4 returns-5)

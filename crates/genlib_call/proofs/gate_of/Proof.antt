@@ -1,20 +1,12 @@
--- `genlib_call::gate_of` meets its contract: the figures, the delays and the table. Assumes nothing.
-use mathlib.Core.Path.{_≡_, refl, sym, ap, _∙_}
-use mathlib.Core.Option.{some}
-use mathlib.Core.List.{List, []}
-use Prim.Native.Nat.{ℕ, _+_}
-use native.Mathlib.Omega.{arith}
-use lib.ListN.{length, drop, getD}
-use Rattle.model.specs.GenlibWords.{tokens, thousandths}
-use Rattle.model.specs.GenlibFormula.{pinsOf}
-use Rattle.model.specs.Genlib.{delaysOf, tableOf}
-use Rattle.genlib_expression.specs.Places.{part, restAt, namesAt}
-use Rattle.genlib_expression.proofs.Pinning.{length-names}
-use Rattle.genlib_groups.specs.Lines.{linesBehind}
-use Rattle.genlib_groups.proofs.Grouping.{value-some, value-none}
-use Rattle.genlib_call.specs.Gates.{delaysIn}
+-- `genlib_call::gate_of` meets its contract: the figures, the delays and the table.
+use Rattle.base.specs.{_≡_, refl, sym, ap, _∙_, some, List, [], ℕ, _+_, arith, length, drop, getD, needs}
+use Rattle.model.specs.{tokens, thousandths, pinsOf, delaysOf, tableOf}
+use Rattle.genlib_expression.specs.{part, restAt, namesAt}
+use Rattle.genlib_expression.proofs.{length-names}
+use Rattle.genlib_groups.specs.{linesBehind}
+use Rattle.genlib_groups.proofs.{value-some, value-none}
+use Rattle.genlib_call.specs.{delaysIn}
 use Rattle.genlib_call.proofs.Judging.{gate-found, no-area, no-delays, table-is, part-part, same-gate}
-use borrow.Author.Needs.{needs}
 use Rattle.genlib_call.proofs.gate_of.Statement.{statement}
 use Rattle.genlib_call.proofs.gate_of.Tie as tie
 
@@ -75,8 +67,7 @@ returns-3 c =
     (tt, sym (no-area (lines s) (ts s) (value-none _ (sym (c .enum-told2 .given .1) ∙ f .figure-at .ensures))), refl)
 
 pub gate-of-spec : {M : Type 1} → statement M
-gate-of-spec =
-    tie.close
-    (tie.spec
+gate-of-spec = tie.close (tie.spec
     (λ c κs. search needs) (λ c κs. search needs) (λ c κs. search needs) (λ c. search needs) (λ c κs. search needs) (λ c. search needs)
-    (λ c κs. search needs) (λ c. search needs) (λ c. search needs) (λ c. search needs) enum-told (λ c. search needs) returns returns-2 returns-3)
+    (λ c κs. search needs) (λ c. search needs) (λ c. search needs) (λ c. search needs) enum-told (λ c. search needs) returns returns-2
+    returns-3)

@@ -1,13 +1,9 @@
--- `genlib_call::judge` meets its contract: the line and its end, the form, and the gate. Assumes nothing.
-use mathlib.Core.Path.{_≡_, sym, _∙_}
-use mathlib.Core.Bool.{true}
-use native.Mathlib.Omega.{arith}
-use borrow.Author.Tests.{le-ltb, not-true, not-false}
-use Rattle.model.specs.Text.{ended}
-use Rattle.base_text.specs.Lines.{lineAt}
-use Rattle.genlib_groups.proofs.LineLaws.{Bounded, bounded}
+-- `genlib_call::judge` meets its contract: the line and its end, the form, and the gate.
+use Rattle.base.specs.{_≡_, sym, _∙_, true, arith, le-ltb, not-true, not-false, needs}
+use Rattle.model.specs.{ended}
+use Rattle.base_text.specs.{lineAt}
+use Rattle.genlib_groups.proofs.{Bounded, bounded}
 use Rattle.genlib_call.proofs.Judging.{at-unended, at-broken, at-formed, apart, in-line}
-use borrow.Author.Needs.{needs}
 use Rattle.genlib_call.proofs.judge.Statement.{statement}
 use Rattle.genlib_call.proofs.judge.Tie as tie
 
@@ -67,8 +63,6 @@ returns-3 c =
     (r .0, r .1 ∙ sym (at-formed _ _ _ (b .lines) _ (b .bytes) (has-end e) (sym (q .before .is-group .ensures) ∙ not-false _ (q .if2 .left))))
 
 pub judge-spec : {M : Type 1} → statement M
-judge-spec =
-    tie.close
-    (tie.spec
+judge-spec = tie.close (tie.spec
     (λ c κs. search needs) returns sub-is-group part-is-group-start part-is-group-end is-group-requires returns-2 sub-sized-gate
     part-sized-gate-start part-sized-gate-end sized-gate-requires returns-3)

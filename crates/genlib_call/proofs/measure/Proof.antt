@@ -1,18 +1,11 @@
 -- `genlib_call::measure` meets its contract. The invariant: the length so far and that of the groups from here on is the whole; each group adds at most 65,600 bytes.
--- The measure is what is left of the text. Assumes nothing.
-use mathlib.Core.Path.{_≡_, sym, ap, subst, _∙_}
-use mathlib.Core.List.{List}
-use Prim.Native.Nat.{ℕ, _+_, _-_, _*_, _≤_}
-use native.Mathlib.Omega.{arith}
-use lib.ListN.{length}
-use Rattle.model.specs.Reading.{holds, fault}
-use Rattle.model.specs.Genlib.{Group, groups, readGroup, readGroups, readGenlib}
-use Rattle.genlib_groups.specs.Lines.{linesOf, groupAt}
-use Rattle.genlib_celltext.specs.Gates.{gateIn, Stands}
-use Rattle.genlib_call.specs.Gates.{GateIs, judgedRead}
-use Rattle.genlib_call.specs.Passes.{measured}
+-- The measure is what is left of the text.
+use Rattle.base.specs.{_≡_, sym, ap, subst, _∙_, List, ℕ, _+_, _-_, _*_, _≤_, arith, length, needs}
+use Rattle.model.specs.{holds, fault, Group, groups, readGroup, readGroups, readGenlib}
+use Rattle.genlib_groups.specs.{linesOf, groupAt}
+use Rattle.genlib_celltext.specs.{gateIn, Stands}
+use Rattle.genlib_call.specs.{GateIs, judgedRead, measured}
 use Rattle.genlib_call.proofs.Passing.{read-start, groupsBehind, groups-here, measure-more, measure-stop, measure-end}
-use borrow.Author.Needs.{needs}
 use Rattle.genlib_call.proofs.measure.Statement.{statement}
 use Rattle.genlib_call.proofs.measure.Tie as tie
 
@@ -83,8 +76,6 @@ returns-2 c =
     sym (l .inv .2 ∙ measure-end (c .before .before .before .args .s .now) (l .at) (l .len) (c .loop-test .left))
 
 pub measure-spec : {M : Type 1} → statement M
-measure-spec =
-    tie.close
-    (tie.spec
+measure-spec = tie.close (tie.spec
     Inv-loop μ-loop loop-holds judge-requires (λ c. search needs) gate-len-requires add-len group-end-requires loop-less loop-again
     (λ c. search needs) returns returns-2)

@@ -1,11 +1,9 @@
--- `genlib_call::pin_delay` meets its contract. Assumes nothing.
-use mathlib.Core.Path.{sym, ap, _∙_}
-use native.Mathlib.Omega.{arith}
-use Rattle.genlib_expression.specs.Places.{nameAt, namesAt}
-use Rattle.genlib_expression.proofs.Pinning.{length-names, name-of}
-use Rattle.genlib_groups.specs.Lines.{valueIn, linesBehind}
+-- `genlib_call::pin_delay` meets its contract.
+use Rattle.base.specs.{sym, ap, _∙_, arith, needs}
+use Rattle.genlib_expression.specs.{nameAt, namesAt}
+use Rattle.genlib_expression.proofs.{length-names, name-of}
+use Rattle.genlib_groups.specs.{valueIn, linesBehind}
 use Rattle.genlib_call.proofs.Judging.{pin-there, pin-absent}
-use borrow.Author.Needs.{needs}
 use Rattle.genlib_call.proofs.pin_delay.Statement.{statement}
 use Rattle.genlib_call.proofs.pin_delay.Tie as tie
 
@@ -23,7 +21,4 @@ returns-2 c =
     sym (ap valueIn (pin-absent (linesBehind (a .s .now) (a .from)) (namesAt w (a .t4)) (a .j) (omega (arith, length-names w (a .t4), c .if1 .left))))
 
 pub pin-delay-spec : {M : Type 1} → statement M
-pin-delay-spec =
-    tie.close
-    (tie.spec
-    (λ c. search needs) (λ c. search needs) (λ c κs. search needs) returns returns-2)
+pin-delay-spec = tie.close (tie.spec (λ c. search needs) (λ c. search needs) (λ c κs. search needs) returns returns-2)

@@ -1,18 +1,10 @@
--- `genlib_call::sized_gate` meets its contract: the pins, the depth, and the gate. Assumes nothing.
-use mathlib.Core.Path.{_≡_, sym, ap, subst, _∙_}
-use mathlib.Core.Bool.{true}
-use mathlib.Core.List.{List}
-use Prim.Native.Nat.{ℕ, _≤_, _<_}
-use native.Mathlib.Omega.{arith}
-use lib.ListN.{length, drop}
-use borrow.Author.Tests.{not-true, not-false}
-use Rattle.model.specs.GenlibWords.{tokens}
-use Rattle.model.specs.GenlibFormula.{pinsOf, shallow}
-use Rattle.genlib_expression.specs.Places.{namesAt}
-use Rattle.genlib_expression.proofs.Pinning.{length-names}
-use Rattle.genlib_groups.specs.Lines.{linesBehind}
+-- `genlib_call::sized_gate` meets its contract: the pins, the depth, and the gate.
+use Rattle.base.specs.{_≡_, sym, ap, subst, _∙_, true, List, ℕ, _≤_, _<_, arith, length, drop, not-true, not-false, needs}
+use Rattle.model.specs.{tokens, pinsOf, shallow}
+use Rattle.genlib_expression.specs.{namesAt}
+use Rattle.genlib_expression.proofs.{length-names}
+use Rattle.genlib_groups.specs.{linesBehind}
 use Rattle.genlib_call.proofs.Judging.{sized-many, sized-deep, sized-fits, as-read}
-use borrow.Author.Needs.{needs}
 use Rattle.genlib_call.proofs.sized_gate.Statement.{statement}
 use Rattle.genlib_call.proofs.sized_gate.Tie as tie
 
@@ -64,7 +56,5 @@ returns-3 c =
     (r .0, as-read (s .args .s .now) (s .args .at) (c .gate-of .result) _ (r .1) (r .2) ∙ sym (sized-fits (lines s) (ts s) (s .args .at) (few f (e .if1 .left)) flat))
 
 pub sized-gate-spec : {M : Type 1} → statement M
-sized-gate-spec =
-    tie.close
-    (tie.spec
+sized-gate-spec = tie.close (tie.spec
     (λ c κs. search needs) (λ c κs. search needs) returns (λ c κs. search needs) returns-2 gate-of-requires returns-3)

@@ -1,15 +1,10 @@
--- `genlib_call::write` meets its contract: the names line and the lines of the gates. Assumes nothing.
-use mathlib.Core.Path.{refl, sym}
-use mathlib.Core.List.{List, [], _++_, append-nil}
-use Prim.Native.Nat.{ℕ, _+_, _≤_}
-use native.Mathlib.Omega.{arith}
-use lib.ListN.{length}
-use Rattle.model.specs.Genlib.{groups}
-use Rattle.base_text.proofs.Progress.{Partly, begin, step, room, finish}
-use Rattle.genlib_groups.specs.Lines.{linesOf}
-use Rattle.genlib_call.specs.Passes.{linesFor, textFor}
+-- `genlib_call::write` meets its contract: the names line and the lines of the gates.
+use Rattle.base.specs.{refl, sym, List, [], _++_, append-nil, ℕ, _+_, _≤_, arith, length, needs}
+use Rattle.model.specs.{groups}
+use Rattle.base_text.proofs.{Partly, begin, step, room, finish}
+use Rattle.genlib_groups.specs.{linesOf}
+use Rattle.genlib_call.specs.{linesFor, textFor}
 use Rattle.genlib_call.proofs.Passing.{namesLine, text-parts}
-use borrow.Author.Needs.{needs}
 use Rattle.genlib_call.proofs.write.Statement.{statement}
 use Rattle.genlib_call.proofs.write.Tie as tie
 
@@ -44,7 +39,4 @@ returns c =
     finish (fits (start p)) (names p) (c .before .before .write-gates .ensures)
 
 pub write-spec : {M : Type 1} → statement M
-write-spec =
-    tie.close
-    (tie.spec
-    (λ c. search needs) put-bytes-requires write-gates-requires (λ c. search needs) returns)
+write-spec = tie.close (tie.spec (λ c. search needs) put-bytes-requires write-gates-requires (λ c. search needs) returns)

@@ -1,18 +1,12 @@
--- `genlib_call::write_gate` meets its contract: one line more, or none. Assumes nothing.
-use mathlib.Core.Path.{_≡_, sym, ap, subst, _∙_}
-use mathlib.Core.List.{List}
-use Prim.Native.Nat.{ℕ}
-use native.Mathlib.Omega.{arith}
-use lib.ListN.{length}
-use Rattle.model.specs.Genlib.{gateText}
-use Rattle.base_text.specs.Writing.{Wrote}
-use Rattle.base_text.proofs.Progress.{idle}
-use Rattle.genlib_groups.specs.Lines.{groupAt}
-use Rattle.genlib_celltext.specs.Gates.{gateIn}
-use Rattle.genlib_call.specs.Gates.{GateIs, judgedRead}
-use Rattle.genlib_call.specs.Passes.{lineOf}
+-- `genlib_call::write_gate` meets its contract: one line more, or none.
+use Rattle.base.specs.{_≡_, sym, ap, subst, _∙_, List, ℕ, arith, length, needs}
+use Rattle.model.specs.{gateText}
+use Rattle.base_text.specs.{Wrote}
+use Rattle.base_text.proofs.{idle}
+use Rattle.genlib_groups.specs.{groupAt}
+use Rattle.genlib_celltext.specs.{gateIn}
+use Rattle.genlib_call.specs.{GateIs, judgedRead, lineOf}
 use Rattle.genlib_call.proofs.Passing.{line-held, line-none}
-use borrow.Author.Needs.{needs}
 use Rattle.genlib_call.proofs.write_gate.Statement.{statement}
 use Rattle.genlib_call.proofs.write_gate.Tie as tie
 
@@ -45,7 +39,5 @@ returns-2 c =
     idle (a .out .now) (a .to) (line-none (groupAt (a .s .now) (a .at)) _ _ (sym (j .judge .ensures .1) ∙ ap (judgedRead (a .s .now) (a .at)) (c .enum-told .given .1)))
 
 pub write-gate-spec : {M : Type 1} → statement M
-write-gate-spec =
-    tie.close
-    (tie.spec
+write-gate-spec = tie.close (tie.spec
     (λ c κs. search needs) (λ c. search needs) put-gate-requires enum-told (λ c. search needs) returns returns-2)

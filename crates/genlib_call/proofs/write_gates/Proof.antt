@@ -1,13 +1,10 @@
 -- `genlib_call::write_gates` meets its contract. The invariant: of the lines of all groups, those of the groups from here on are left to write.
--- The measure is what is left of the text. Assumes nothing.
-use mathlib.Core.Path.{refl, ap, _∙_}
-use Prim.Native.Nat.{_-_, _≤_}
-use native.Mathlib.Omega.{arith}
-use lib.ListN.{length}
-use Rattle.model.specs.Genlib.{groups}
-use Rattle.base_text.proofs.Progress.{Partly, begin, step, room, kept, end}
-use Rattle.genlib_groups.specs.Lines.{linesOf, groupAt}
-use Rattle.genlib_call.specs.Passes.{lineOf, linesFor}
+-- The measure is what is left of the text.
+use Rattle.base.specs.{refl, ap, _∙_, _-_, _≤_, arith, length}
+use Rattle.model.specs.{groups}
+use Rattle.base_text.proofs.{Partly, begin, step, room, kept, end}
+use Rattle.genlib_groups.specs.{linesOf, groupAt}
+use Rattle.genlib_call.specs.{lineOf, linesFor}
 use Rattle.genlib_call.proofs.Passing.{groupsBehind, lines-more, lines-here, lines-end}
 use Rattle.genlib_call.proofs.write_gates.Statement.{statement}
 use Rattle.genlib_call.proofs.write_gates.Tie as tie
@@ -57,15 +54,5 @@ returns c =
     end (s .pre .1) (c .before .loop .inv .1) (lines-end (s .args .s .now) (c .before .loop .at) (c .loop-test .left))
 
 pub write-gates-spec : {M : Type 1} → statement M
-write-gates-spec =
-    tie.close
-    (tie.spec
-    Inv-loop
-    μ-loop
-    loop-holds
-    write-gate-requires
-    group-end-requires
-    loop-less
-    loop-again
-    same-length
-    returns)
+write-gates-spec = tie.close (tie.spec
+    Inv-loop μ-loop loop-holds write-gate-requires group-end-requires loop-less loop-again same-length returns)

@@ -1,7 +1,6 @@
--- `genlib_celltext::field_len` meets its contract: a space and at most five digits. Assumes nothing.
-use native.Mathlib.Omega.{arith}
+-- `genlib_celltext::field_len` meets its contract: a space and at most five digits.
+use Rattle.base.specs.{arith, needs}
 use Rattle.genlib_celltext.proofs.Counting.{field-length, five-digits}
-use borrow.Author.Needs.{needs}
 use Rattle.genlib_celltext.proofs.field_len.Statement.{statement}
 use Rattle.genlib_celltext.proofs.field_len.Tie as tie
 
@@ -12,6 +11,4 @@ returns : tie.Need-returns
 returns c = let n = c .before .args .n in (omega (arith, field-length n), omega (arith, five-digits n (omega arith)))
 
 pub field-len-spec : {M : Type 1} → statement M
-field-len-spec = tie.close
-    (tie.spec
-    (λ c κs. search needs) add-result returns)
+field-len-spec = tie.close (tie.spec (λ c κs. search needs) add-result returns)

@@ -1,10 +1,6 @@
--- `genlib_celltext::hex_byte` meets its contract. Assumes nothing.
-use mathlib.Core.Path.{sym, ap}
-use mathlib.Core.Bool.{Bool, cond}
-use Prim.Native.Nat.{_+_}
-use Rattle.model.specs.Genlib.{hexByte}
-use borrow.Author.Needs.{needs}
-use borrow.Author.Tests.{lt-ltb, le-ltb}
+-- `genlib_celltext::hex_byte` meets its contract.
+use Rattle.base.specs.{sym, ap, Bool, cond, _+_, needs, lt-ltb, le-ltb}
+use Rattle.model.specs.{hexByte}
 use Rattle.genlib_celltext.proofs.hex_byte.Statement.{statement}
 use Rattle.genlib_celltext.proofs.hex_byte.Tie as tie
 
@@ -17,7 +13,4 @@ unfolding hexByte
 returns-2 c = let d = c .before .args .d in sym (ap (λ (b : Bool). cond b (48 + d) (87 + d)) (le-ltb d 10 (c .if1 .left)))
 
 pub hex-byte-spec : {M : Type 1} → statement M
-hex-byte-spec =
-    tie.close
-    (tie.spec
-    (λ c. search needs) (λ c. search needs) (λ c. search needs) (λ c. search needs) returns returns-2)
+hex-byte-spec = tie.close (tie.spec (λ c. search needs) (λ c. search needs) (λ c. search needs) (λ c. search needs) returns returns-2)

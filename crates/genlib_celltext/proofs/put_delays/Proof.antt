@@ -1,14 +1,9 @@
--- `genlib_celltext::put_delays` meets its contract: four fields and the line's end. Assumes nothing.
-use mathlib.Core.Path.{refl}
-use mathlib.Core.List.{List, _∷_, [], _++_}
-use Prim.Native.Nat.{ℕ}
-use native.Mathlib.Omega.{arith}
-use Rattle.model.specs.Base.{each}
-use Rattle.model.specs.Genlib.{numberText}
-use Rattle.base_text.proofs.Progress.{Partly, begin, step, room, finish}
-use Rattle.genlib_celltext.specs.Gates.{delaysOf}
+-- `genlib_celltext::put_delays` meets its contract: four fields and the line's end.
+use Rattle.base.specs.{refl, List, _∷_, [], _++_, ℕ, arith, needs}
+use Rattle.model.specs.{each, numberText}
+use Rattle.base_text.proofs.{Partly, begin, step, room, finish}
+use Rattle.genlib_celltext.specs.{delaysOf}
 use Rattle.genlib_celltext.proofs.Counting.{four-is}
-use borrow.Author.Needs.{needs}
 use Rattle.genlib_celltext.proofs.put_delays.Statement.{statement}
 use Rattle.genlib_celltext.proofs.put_delays.Tie as tie
 
@@ -81,7 +76,5 @@ returns c =
     finish (start4 p .pre) (four p) (c .before .before .put-byte .ensures)
 
 pub put-delays-spec : {M : Type 1} → statement M
-put-delays-spec =
-    tie.close
-    (tie.spec
+put-delays-spec = tie.close (tie.spec
     put-field-requires put-field-requires-2 put-field-requires-3 put-field-requires-4 put-byte-requires (λ c. search needs) returns)

@@ -1,12 +1,8 @@
--- `genlib_celltext::put_field` meets its contract: a space, and the number behind it. Assumes nothing.
-use mathlib.Core.Path.{refl, sym}
-use mathlib.Core.List.{_∷_, [], append-nil}
-use native.Mathlib.Omega.{arith}
-use Rattle.model.specs.Text.{decimal}
-use Rattle.model.specs.Genlib.{numberText}
-use Rattle.base_text.proofs.Progress.{Partly, begin, step, room, finish, as-wrote}
+-- `genlib_celltext::put_field` meets its contract: a space, and the number behind it.
+use Rattle.base.specs.{refl, sym, _∷_, [], append-nil, arith, needs}
+use Rattle.model.specs.{decimal, numberText}
+use Rattle.base_text.proofs.{Partly, begin, step, room, finish, as-wrote}
 use Rattle.genlib_celltext.proofs.Counting.{field-is, field-length}
-use borrow.Author.Needs.{needs}
 use Rattle.genlib_celltext.proofs.put_field.Statement.{statement}
 use Rattle.genlib_celltext.proofs.put_field.Tie as tie
 
@@ -34,6 +30,4 @@ returns c =
     finish (at-start p .pre) (one p) (as-wrote (c .before .before .put-number .ensures))
 
 pub put-field-spec : {M : Type 1} → statement M
-put-field-spec = tie.close
-    (tie.spec
-    put-byte-requires put-number-requires (λ c. search needs) returns)
+put-field-spec = tie.close (tie.spec put-byte-requires put-number-requires (λ c. search needs) returns)

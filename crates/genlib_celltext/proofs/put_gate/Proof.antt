@@ -1,14 +1,9 @@
--- `genlib_celltext::put_gate` meets its contract: the name, pins, table, area and delays. Assumes nothing.
-use mathlib.Core.Path.{refl, sym}
-use mathlib.Core.List.{List, _∷_, [], _++_, append-nil}
-use Prim.Native.Nat.{ℕ}
-use native.Mathlib.Omega.{arith}
-use Rattle.model.specs.Base.{each}
-use Rattle.model.specs.Genlib.{numberText, hexText, gateText}
-use Rattle.base_text.proofs.Progress.{Partly, begin, step, room, finish}
-use Rattle.genlib_celltext.specs.Gates.{delaysOf, nameIn, gateIn}
+-- `genlib_celltext::put_gate` meets its contract: the name, pins, table, area and delays.
+use Rattle.base.specs.{refl, sym, List, _∷_, [], _++_, append-nil, ℕ, arith, needs}
+use Rattle.model.specs.{each, numberText, hexText, gateText}
+use Rattle.base_text.proofs.{Partly, begin, step, room, finish}
+use Rattle.genlib_celltext.specs.{delaysOf, nameIn, gateIn}
 use Rattle.genlib_celltext.proofs.Counting.{gate-is, behindName, hex-length}
-use borrow.Author.Needs.{needs}
 use Rattle.genlib_celltext.proofs.put_gate.Statement.{statement}
 use Rattle.genlib_celltext.proofs.put_gate.Tie as tie
 
@@ -84,8 +79,6 @@ returns c =
     finish (start4 p .pre .1) (area p) (c .before .before .put-delays .ensures)
 
 pub put-gate-spec : {M : Type 1} → statement M
-put-gate-spec =
-    tie.close
-    (tie.spec
+put-gate-spec = tie.close (tie.spec
     (λ c. search needs) (λ c. search needs) (λ c. search needs) put-bytes-requires put-field-requires put-hex-requires put-field-requires-2
     put-delays-requires (λ c. search needs) returns)

@@ -1,10 +1,7 @@
--- `genlib_celltext::put_hex` meets its contract. Assumes nothing.
-use mathlib.Core.Path.{_≡_, subst}
-use mathlib.Core.List.{List, [], _∷_}
-use Prim.Native.Nat.{ℕ}
-use Rattle.model.specs.Genlib.{hexText}
-use Rattle.base_text.specs.Writing.{Wrote}
-use borrow.Author.Needs.{needs}
+-- `genlib_celltext::put_hex` meets its contract.
+use Rattle.base.specs.{_≡_, subst, List, [], _∷_, ℕ, needs}
+use Rattle.model.specs.{hexText}
+use Rattle.base_text.specs.{Wrote}
 use Rattle.genlib_celltext.proofs.put_hex.Statement.{statement}
 use Rattle.genlib_celltext.proofs.put_hex.Tie as tie
 
@@ -19,8 +16,6 @@ returns c =
     subst (λ (bs : List ℕ). Wrote (s .args .out .now) (p .last .0) (s .args .at) (p .result) (32 ∷ bs)) word (p .ensures)
 
 pub put-hex-spec : {M : Type 1} → statement M
-put-hex-spec =
-    tie.close
-    (tie.spec
+put-hex-spec = tie.close (tie.spec
     (λ c κs. search needs) (λ c κs. search needs) (λ c κs. search needs) (λ c κs. search needs) (λ c. search needs) (λ c κs. search needs)
     (λ c. search needs) returns)

@@ -1,23 +1,19 @@
 -- `genlib_expression::sum`, `product` and `factor` meet their contracts. The measure of the cycle is three for each bracket that may still open, and 2, 1, 0 for the
 -- three functions; that of a loop is what is left of the line. The invariant of a loop: the chain from the start is the value so far joined with the chain from
--- here on (`Values.Chained`). Assumes nothing.
-use borrow.Author.Needs.{needs}
-use Prim.Native.Nat.{ℕ, _<_, _≤_, _+_, _-_, _*_}
-use native.Mathlib.Nat.{le-refl}
-use native.Mathlib.Omega.{arith}
-use mathlib.Core.Path.{refl, sym, ap, subst, _∙_}
-use mathlib.Core.Option.{some}
-use mathlib.Core.Bool.{Bool, true, false, _&&_, _||_}
-use mathlib.Core.List.{List}
-use lib.ListN.{length}
-use Rattle.model.specs.Base.{bit}
-use Rattle.model.specs.GenlibFormula.{Taken, nameValue, factorOf, productOf, sumOf, within}
-use Rattle.genlib_expression.specs.declared.Pins.{Pins}
-use Rattle.genlib_expression.specs.Places.{namesAt, restAt}
-use Rattle.genlib_expression.proofs.Tokens.{behind-yes, behind-no}
-use Rattle.genlib_expression.proofs.Values.{Chained, chain-bad, chain-end, chain-on, factor-is, atom-name, atom-bad, atom-closed, within-none, within-sum, known, ends, later, no-row, every-row}
+-- here on (`Values.Chained`).
 use borrow.Fn.Kinds.{In}
 use borrow.Fn.PlainCycle.{Measures, is, falls, and}
+use Rattle.base.specs.{needs, ℕ, _<_, _≤_, _+_, _-_, _*_, le-refl, arith, refl, sym, ap, subst, _∙_, some, Bool, true, false, _&&_, _||_}
+use Rattle.base.specs.{List, length}
+use Rattle.model.specs.{bit, Taken, nameValue, factorOf, productOf, sumOf}
+use Rattle.model.specs.GenlibFormula.{within}
+use Rattle.genlib_expression.specs.declared.Pins.{Pins}
+use Rattle.genlib_expression.specs.{namesAt, restAt}
+use Rattle.genlib_expression.proofs.Tokens.{behind-yes, behind-no}
+use Rattle.genlib_expression.proofs.Values.{Chained, chain-bad, chain-end, chain-on, factor-is, atom-name, atom-bad, atom-closed}
+use Rattle.genlib_expression.proofs.Values.{within-none, within-sum, known, ends, later, no-row, every-row}
+use Rattle.genlib_expression.proofs.+factor+product+sum.{statement}
+use Rattle.genlib_expression.proofs.+factor+product+sum.Tie.{close}
 use Rattle.genlib_expression.proofs.factor.Reads as factor
 use Rattle.genlib_expression.proofs.factor.Kinds as factor-kinds
 use Rattle.genlib_expression.proofs.+factor+product+sum.Lts-factor as factor-lts
@@ -33,8 +29,6 @@ use Rattle.genlib_expression.proofs.close.Reads as close-reads
 use Rattle.genlib_expression.proofs.either.Reads as either-reads
 use Rattle.genlib_expression.proofs.name.Reads as name-reads
 use Rattle.genlib_expression.proofs.turn.Reads as turn-reads
-use Rattle.genlib_expression.proofs.+factor+product+sum.{statement}
-use Rattle.genlib_expression.proofs.+factor+product+sum.Tie.{close}
 
 abbrev μ-factor : Measures 1 factor-kinds.ps ℕ
 μ-factor κs a = 3 * a .1 .1 .1 .0

@@ -1,16 +1,10 @@
--- `genlib_expression::add_pin` meets its contract, by whether the token is a pin. Assumes nothing.
-use mathlib.Core.Path.{_≡_, sym, subst, _∙_}
-use mathlib.Core.Bool.{true, false}
-use native.Mathlib.Omega.{arith}
-use Prim.Native.Nat.{ℕ, _≤_, _<_}
-use borrow.Author.Tests.{lt-ltb, le-ltb}
-use Rattle.model.specs.GenlibFormula.{isPin}
+-- `genlib_expression::add_pin` meets its contract, by whether the token is a pin.
+use Rattle.base.specs.{_≡_, sym, subst, _∙_, true, false, arith, ℕ, _≤_, _<_, lt-ltb, le-ltb, List, needs}
+use Rattle.model.specs.{isPin}
 use Rattle.genlib_expression.specs.declared.Pins.{Pins}
 use Rattle.genlib_expression.specs.declared.Token.{Token}
-use mathlib.Core.List.{List}
-use Rattle.genlib_expression.specs.Places.{part, namesAt, withPin, addPin, Listed}
+use Rattle.genlib_expression.specs.{part, namesAt, withPin, addPin, Listed}
 use Rattle.genlib_expression.proofs.Pinning.{pin-word, add-one-pin, add-no-pin, add-none}
-use borrow.Author.Needs.{needs}
 use Rattle.genlib_expression.proofs.add_pin.Statement.{statement}
 use Rattle.genlib_expression.proofs.add_pin.Tie as tie
 
@@ -57,8 +51,6 @@ returns-3 c =
     (s .pre .1, record { few = λ h. sym e; many = λ h. absurd (omega (arith, s .pre .0)) }, none (s .args .w .now) (s .args .p) (s .args .t) (c .if1 .left))
 
 pub add-pin-spec : {M : Type 1} → statement M
-add-pin-spec =
-    tie.close
-    (tie.spec
+add-pin-spec = tie.close (tie.spec
     (λ c. search needs) (λ c. search needs) part-is-pin-end (λ c κs. search needs) (λ c. search needs) (λ c. search needs) part-with-pin-end
     with-pin-requires returns returns-2 returns-3)

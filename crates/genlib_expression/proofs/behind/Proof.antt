@@ -1,7 +1,5 @@
--- `genlib_expression::behind` meets its contract, by its three ways. Assumes nothing.
-use borrow.Author.Needs.{needs}
-use borrow.Author.Tests.{lt-ltb, le-ltb, eq-eqb, ne-eqb}
-use mathlib.Core.Path.{sym}
+-- `genlib_expression::behind` meets its contract, by its three ways.
+use Rattle.base.specs.{needs, lt-ltb, le-ltb, eq-eqb, ne-eqb, sym}
 use Rattle.genlib_expression.proofs.behind.Statement.{statement}
 use Rattle.genlib_expression.proofs.behind.Tie as tie
 
@@ -17,7 +15,4 @@ returns-3 : tie.Need-returns-3
 returns-3 c = rw (sym (c .before .skip .ensures), le-ltb _ _ (c .if1 .left))
 
 pub behind-spec : {M : Type 1} → statement M
-behind-spec =
-    tie.close
-    (tie.spec
-    (λ c κs. search needs) (λ c. search needs) (λ c κs. search needs) returns returns-2 returns-3)
+behind-spec = tie.close (tie.spec (λ c κs. search needs) (λ c. search needs) (λ c κs. search needs) returns returns-2 returns-3)

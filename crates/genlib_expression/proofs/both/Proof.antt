@@ -1,6 +1,6 @@
--- `genlib_expression::both` meets its contract. Assumes nothing.
-use Rattle.model.specs.Table.{value}
-use Rattle.base_truth.proofs.Tables.{value-and}
+-- `genlib_expression::both` meets its contract.
+use Rattle.model.specs.{value}
+use Rattle.base_truth.proofs.{value-and}
 use Rattle.genlib_expression.proofs.both.Statement.{statement}
 use Rattle.genlib_expression.proofs.both.Tie as tie
 

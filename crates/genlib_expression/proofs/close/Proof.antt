@@ -1,7 +1,5 @@
--- `genlib_expression::close` meets its contract, by the bracket that stands there or not. Assumes nothing.
-use borrow.Author.Needs.{needs}
-use mathlib.Core.Path.{sym, _∙_}
-use native.Mathlib.Omega.{arith}
+-- `genlib_expression::close` meets its contract, by the bracket that stands there or not.
+use Rattle.base.specs.{needs, sym, _∙_, arith}
 use Rattle.genlib_expression.proofs.Tokens.{behind-yes, behind-no}
 use Rattle.genlib_expression.proofs.Values.{close-yes, close-no, quoted-is}
 use Rattle.genlib_expression.proofs.close.Statement.{statement}
@@ -23,6 +21,4 @@ returns-2 c =
     )
 
 pub close-spec : {M : Type 1} → statement M
-close-spec = tie.close
-    (tie.spec
-    (λ c κs. search needs) returns turn-requires (λ c κs. search needs) returns-2)
+close-spec = tie.close (tie.spec (λ c κs. search needs) returns turn-requires (λ c κs. search needs) returns-2)

@@ -1,13 +1,7 @@
--- `genlib_expression::differ` meets its contract, by its two cases. Assumes nothing.
-use mathlib.Core.Path.{_≡_, refl, ap, _∙_}
-use mathlib.Core.Bool.{Bool, true, false}
-use Prim.Native.Nat.{ℕ, _<_}
-use native.Mathlib.Omega.{arith}
-use Rattle.model.specs.Base.{bit, flip}
-use Rattle.model.specs.Table.{value}
-use Rattle.model.specs.Matching.{phaseTable}
-use Rattle.base_truth.proofs.Tables.{value-complement}
-use borrow.Author.Needs.{needs}
+-- `genlib_expression::differ` meets its contract, by its two cases.
+use Rattle.base.specs.{_≡_, refl, ap, _∙_, Bool, true, false, ℕ, _<_, arith, needs}
+use Rattle.model.specs.{bit, flip, value, phaseTable}
+use Rattle.base_truth.proofs.{value-complement}
 use Rattle.genlib_expression.proofs.differ.Statement.{statement}
 use Rattle.genlib_expression.proofs.differ.Tie as tie
 
@@ -20,6 +14,4 @@ returns : tie.Need-returns
 returns c = λ row h. ap (λ (x : ℕ). bit x row) (c .in-phase .ensures) ∙ turned _ _ row (omega arith) h
 
 pub differ-spec : {M : Type 1} → statement M
-differ-spec = tie.close
-    (tie.spec
-    (λ c κs. search needs) returns)
+differ-spec = tie.close (tie.spec (λ c κs. search needs) returns)

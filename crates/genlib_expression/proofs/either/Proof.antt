@@ -1,6 +1,6 @@
--- `genlib_expression::either` meets its contract. Assumes nothing.
-use Rattle.model.specs.Table.{value}
-use Rattle.base_truth.proofs.Tables.{value-or}
+-- `genlib_expression::either` meets its contract.
+use Rattle.model.specs.{value}
+use Rattle.base_truth.proofs.{value-or}
 use Rattle.genlib_expression.proofs.either.Statement.{statement}
 use Rattle.genlib_expression.proofs.either.Tie as tie
 

@@ -1,15 +1,9 @@
--- `genlib_expression::find_pins` meets its contract. The invariant: what the tokens that are left add to the list at hand is the whole list; the measure is what is left of the line. Assumes nothing.
-use mathlib.Core.Path.{_≡_, refl, sym, ap, _∙_}
-use native.Mathlib.Omega.{arith}
-use Prim.Native.Nat.{ℕ, _-_, _≤_}
-use lib.ListN.{length}
-use mathlib.Core.List.{List}
-use Rattle.model.specs.Base.{below}
-use Rattle.model.specs.GenlibFormula.{addPins, pinsOf}
-use Rattle.genlib_expression.specs.Places.{restAt, namesAt, partsAt, pinsFrom, noPins}
+-- `genlib_expression::find_pins` meets its contract. The invariant: what the tokens that are left add to the list at hand is the whole list; the measure is what is left of the line.
+use Rattle.base.specs.{_≡_, refl, sym, ap, _∙_, arith, ℕ, _-_, _≤_, length, List, needs}
+use Rattle.model.specs.{below, addPins, pinsOf}
+use Rattle.genlib_expression.specs.{restAt, namesAt, partsAt, pinsFrom, noPins}
 use Rattle.genlib_expression.proofs.Walk.{step, word-part, nothing-left}
 use Rattle.genlib_expression.proofs.Pinning.{add-turn, add-grows, PinsOn, pins-end, pins-fifth, pins-on}
-use borrow.Author.Needs.{needs}
 use Rattle.genlib_expression.proofs.find_pins.Statement.{statement}
 use Rattle.genlib_expression.proofs.find_pins.Tie as tie
 
@@ -58,7 +52,5 @@ returns-2 c =
     (l .inv .1, record { few = λ h. sym (l .inv .3 ∙ ap (addPins (namesAt (c .before .before .before .args .w .now) (l .p))) (nothing-left _ _ (c .loop-test .left))); many = λ h. absurd (omega (arith, l .inv .2)) }, pins-end _ (c .before .before .before .args .w .now) (l .p) (l .at) (c .loop-test .left) ∙ sym (l .inv .4 .2))
 
 pub find-pins-spec : {M : Type 1} → statement M
-find-pins-spec =
-    tie.close
-    (tie.spec
+find-pins-spec = tie.close (tie.spec
     Inv-loop μ-loop loop-holds (λ c κs. search needs) add-pin-requires returns loop-less loop-again returns-2)

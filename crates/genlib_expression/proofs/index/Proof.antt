@@ -1,13 +1,7 @@
--- `genlib_expression::index` meets its contract. The invariant: the name is not among the pins passed; the measure is what is left of them. Assumes nothing.
-use borrow.Author.Needs.{needs}
-use mathlib.Core.Path.{_≡_, refl, sym, _∙_}
-use mathlib.Core.List.{map}
-use native.Mathlib.Omega.{arith}
-use native.Mathlib.Nat.{zero-add}
-use Prim.Native.Nat.{_+_, _-_, _≤_}
-use Rattle.model.specs.Base.{from, below}
-use Rattle.model.specs.GenlibFormula.{indexOf}
-use Rattle.genlib_expression.specs.Places.{nameAt, namesAt}
+-- `genlib_expression::index` meets its contract. The invariant: the name is not among the pins passed; the measure is what is left of them.
+use Rattle.base.specs.{needs, _≡_, refl, sym, _∙_, map, arith, zero-add, _+_, _-_, _≤_}
+use Rattle.model.specs.{from, below, indexOf}
+use Rattle.genlib_expression.specs.{nameAt, namesAt}
 use Rattle.genlib_expression.proofs.Values.{index-hit, index-miss, index-none}
 use Rattle.genlib_expression.proofs.index.Statement.{statement}
 use Rattle.genlib_expression.proofs.index.Tie as tie
@@ -44,8 +38,6 @@ returns-2 c =
     (omega (arith, z, l .inv .3), omega arith)
 
 pub index-spec : {M : Type 1} → statement M
-index-spec =
-    tie.close
-    (tie.spec
-    Inv-loop μ-loop loop-holds (λ c. search needs) (λ c. search needs) (λ c κs. search needs) returns (λ c. search needs) (λ c. search needs)
-    loop-again returns-2)
+index-spec = tie.close (tie.spec
+    Inv-loop μ-loop loop-holds (λ c. search needs) (λ c. search needs) (λ c κs. search needs) returns (λ c. search needs)
+    (λ c. search needs) loop-again returns-2)

@@ -1,11 +1,7 @@
--- `genlib_expression::is_blank` meets its contract, by the tests of the `match`. Assumes nothing.
-use mathlib.Core.Path.{_≡_}
-use mathlib.Core.Logic.{⊎-elim, inl, inr}
-use mathlib.Core.Bool.{true}
-use Prim.Native.Nat.{ℕ}
-use borrow.Author.Tests.{eq-eqb, ne-eqb}
-use Rattle.base_text.proofs.Bytes.{or-true}
-use Rattle.model.specs.GenlibWords.{isBlank}
+-- `genlib_expression::is_blank` meets its contract, by the tests of the `match`.
+use Rattle.base.specs.{_≡_, ⊎-elim, inl, inr, true, ℕ, eq-eqb, ne-eqb}
+use Rattle.model.specs.{isBlank}
+use Rattle.base_text.proofs.{or-true}
 use Rattle.genlib_expression.proofs.is_blank.Statement.{statement}
 use Rattle.genlib_expression.proofs.is_blank.Tie as tie
 

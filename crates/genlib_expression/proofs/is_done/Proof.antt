@@ -1,7 +1,6 @@
--- `genlib_expression::is_done` meets its contract, by its cases. Assumes nothing.
-use mathlib.Core.Path.{sym, ap}
-use Rattle.model.specs.GenlibFormula.{isDone}
-use borrow.Author.Needs.{needs}
+-- `genlib_expression::is_done` meets its contract, by its cases.
+use Rattle.base.specs.{sym, ap, needs}
+use Rattle.model.specs.{isDone}
 use Rattle.genlib_expression.proofs.is_done.Statement.{statement}
 use Rattle.genlib_expression.proofs.is_done.Tie as tie
 
@@ -22,7 +21,5 @@ unfolding isDone
 returns-4 c = sym (ap isDone (c .enum-told4 .given .1))
 
 pub is-done-spec : {M : Type 1} → statement M
-is-done-spec =
-    tie.close
-    (tie.spec
+is-done-spec = tie.close (tie.spec
     (λ c. search needs) (λ c. search needs) (λ c. search needs) (λ c. search needs) returns returns-2 returns-3 returns-4)

@@ -1,15 +1,11 @@
--- `genlib_expression::is_formed` meets its contract. The invariant: the tokens that are left take the state at hand to where all tokens take the first; the measure is what is left of the line. Assumes nothing.
-use mathlib.Core.Path.{_≡_, refl, sym, ap, _∙_}
-use native.Mathlib.Omega.{arith}
-use Prim.Native.Nat.{_-_, _≤_}
-use lib.ListN.{length}
-use Rattle.model.specs.GenlibFormula.{scan, isDone, formed}
+-- `genlib_expression::is_formed` meets its contract. The invariant: the tokens that are left take the state at hand to where all tokens take the first; the measure is what is left of the line.
+use Rattle.base.specs.{_≡_, refl, sym, ap, _∙_, arith, _-_, _≤_, length, needs}
+use Rattle.model.specs.{scan, isDone, formed}
 use Rattle.model.specs.declared.Scan.{Scan}
 use Rattle.model.specs.declared.Scan.the-variants.{Due}
-use Rattle.genlib_expression.specs.Places.{restAt, depthOf}
+use Rattle.genlib_expression.specs.{restAt, depthOf}
 use Rattle.genlib_expression.proofs.Walk.{step, nothing-left}
 use Rattle.genlib_expression.proofs.Scanning.{scan-turn, scan-depth}
-use borrow.Author.Needs.{needs}
 use Rattle.genlib_expression.proofs.is_formed.Statement.{statement}
 use Rattle.genlib_expression.proofs.is_formed.Tie as tie
 
@@ -43,7 +39,5 @@ unfolding formed scan
 returns c = c .is-done .ensures ∙ sym (ap isDone (c .before .before .loop .inv .2 ∙ ap (scan (c .before .before .loop .s)) (nothing-left _ _ (c .before .loop-test .left))))
 
 pub is-formed-spec : {M : Type 1} → statement M
-is-formed-spec =
-    tie.close
-    (tie.spec
+is-formed-spec = tie.close (tie.spec
     Inv-loop μ-loop loop-holds (λ c κs. search needs) scan-at-requires loop-less loop-again (λ c κs. search needs) returns)

@@ -1,14 +1,9 @@
--- `genlib_expression::is_shallow` meets its contract. The invariant: the line is shallow where what is left of it is; the measure is what is left. Assumes nothing.
-use mathlib.Core.Path.{_≡_, refl, sym, ap, _∙_}
-use native.Mathlib.Omega.{arith}
-use lib.ListN.{length}
-use Prim.Native.Nat.{ℕ, _+_, _-_, _≤_}
-use Rattle.genlib_expression.specs.Places.{restAt}
+-- `genlib_expression::is_shallow` meets its contract. The invariant: the line is shallow where what is left of it is; the measure is what is left.
+use Rattle.base.specs.{_≡_, refl, sym, ap, _∙_, arith, length, ℕ, _+_, _-_, _≤_, le-leb, needs}
+use Rattle.model.specs.{shallow}
+use Rattle.genlib_expression.specs.{restAt}
 use Rattle.genlib_expression.proofs.Walk.{nothing-left}
-use Rattle.model.specs.GenlibFormula.{shallow}
-use borrow.Author.Tests.{le-leb}
 use Rattle.genlib_expression.proofs.Scanning.{shallow-byte, shallow-over}
-use borrow.Author.Needs.{needs}
 use Rattle.genlib_expression.proofs.is_shallow.Statement.{statement}
 use Rattle.genlib_expression.proofs.is_shallow.Tie as tie
 
@@ -43,8 +38,6 @@ unfolding shallow
 returns-2 c = let l = c .before .loop in sym (l .inv .1 ∙ ap (shallow (l .depth)) (nothing-left _ _ (c .loop-test .left)) ∙ le-leb _ _ (l .inv .0))
 
 pub is-shallow-spec : {M : Type 1} → statement M
-is-shallow-spec =
-    tie.close
-    (tie.spec
-    Inv-loop μ-loop (λ c. (omega arith, refl)) (λ c. search needs) step-depth-requires returns (λ c. search needs) (λ c. search needs) loop-again
-    returns-2)
+is-shallow-spec = tie.close (tie.spec
+    Inv-loop μ-loop (λ c. (omega arith, refl)) (λ c. search needs) step-depth-requires returns (λ c. search needs) (λ c. search needs)
+    loop-again returns-2)

@@ -1,16 +1,7 @@
--- `genlib_expression::is_word` meets its contract, since a name reaches just to where all bytes are its. Assumes nothing.
-use borrow.Author.Needs.{needs}
-use mathlib.Core.Path.{_≡_, refl, sym, ap, _∙_}
-use mathlib.Core.Bool.{false}
-use mathlib.Core.List.{List, [], _∷_}
-use Prim.Native.Nat.{ℕ}
-use native.Mathlib.Nat.{zero-add}
-use native.Mathlib.Omega.{arith}
-use lib.Dec.{eqb}
-use lib.ListN.{length}
-use Rattle.model.specs.Text.{isNameByte}
-use Rattle.model.specs.GenlibWords.{isWord, isEmpty, span}
-use Rattle.genlib_expression.specs.Places.{spanEnd}
+-- `genlib_expression::is_word` meets its contract, since a name reaches just to where all bytes are its.
+use Rattle.base.specs.{needs, _≡_, refl, sym, ap, _∙_, false, List, [], _∷_, ℕ, zero-add, arith, eqb, length}
+use Rattle.model.specs.{isNameByte, isWord, isEmpty, span}
+use Rattle.genlib_expression.specs.{spanEnd}
 use Rattle.genlib_expression.proofs.Spans.{span-all}
 use Rattle.genlib_expression.proofs.is_word.Statement.{statement}
 use Rattle.genlib_expression.proofs.is_word.Tie as tie
@@ -32,6 +23,4 @@ returns-2 : tie.Need-returns-2
 returns-2 c = sym (word-all _ (c .before .if1 .left) ∙ ap (λ (n : ℕ). eqb n (length (c .before .before .before .args .w .now))) (sym (c .name-end .ensures)))
 
 pub is-word-spec : {M : Type 1} → statement M
-is-word-spec = tie.close
-    (tie.spec
-    returns (λ c κs. search needs) returns-2)
+is-word-spec = tie.close (tie.spec returns (λ c κs. search needs) returns-2)

@@ -1,8 +1,6 @@
--- `genlib_expression::is_word_byte` meets its contract, by what `is_name_byte` says and the test of the `match`. Assumes nothing.
-use borrow.Author.Needs.{needs}
-use mathlib.Core.Path.{sym, _∙_}
-use borrow.Author.Tests.{eq-eqb, ne-eqb}
-use Rattle.model.specs.GenlibWords.{isWordByte}
+-- `genlib_expression::is_word_byte` meets its contract, by what `is_name_byte` says and the test of the `match`.
+use Rattle.base.specs.{needs, sym, _∙_, eq-eqb, ne-eqb}
+use Rattle.model.specs.{isWordByte}
 use Rattle.genlib_expression.proofs.is_word_byte.Statement.{statement}
 use Rattle.genlib_expression.proofs.is_word_byte.Tie as tie
 
@@ -19,6 +17,4 @@ unfolding isWordByte
 returns-3 c = let b = c .before .before .before .args .b in rw (sym (c .before .before .is-name-byte .ensures) ∙ c .before .if1 .left, ne-eqb b 46 (c .match .rest .1))
 
 pub is-word-byte-spec : {M : Type 1} → statement M
-is-word-byte-spec = tie.close
-    (tie.spec
-    (λ c κs. search needs) returns returns-2 returns-3)
+is-word-byte-spec = tie.close (tie.spec (λ c κs. search needs) returns returns-2 returns-3)

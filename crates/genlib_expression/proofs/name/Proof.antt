@@ -1,17 +1,9 @@
--- `genlib_expression::name` meets its contract, by the token that stands there. Assumes nothing.
-use borrow.Author.Needs.{needs}
-use mathlib.Core.Path.{_≡_, sym, ap, subst, _∙_}
-use mathlib.Core.Bool.{Bool, true, false}
-use mathlib.Core.Option.{none}
-use mathlib.Core.List.{List}
-use Prim.Native.Nat.{ℕ, _≤_, _<_}
-use native.Mathlib.Omega.{arith}
-use lib.ListN.{length}
-use Rattle.model.specs.Base.{flip}
-use Rattle.model.specs.GenlibWords.{isWord}
-use Rattle.model.specs.GenlibFormula.{named, nameValue, quoted}
+-- `genlib_expression::name` meets its contract, by the token that stands there.
+use Rattle.base.specs.{needs, _≡_, sym, ap, subst, _∙_, Bool, true, false, none, List, ℕ, _≤_, _<_, arith, length}
+use Rattle.model.specs.{flip, isWord, nameValue, quoted}
+use Rattle.model.specs.GenlibFormula.{named}
 use Rattle.genlib_expression.specs.declared.Token.{Token}
-use Rattle.genlib_expression.specs.Places.{tokenAt, restAt, namesAt, part}
+use Rattle.genlib_expression.specs.{tokenAt, restAt, namesAt, part}
 use Rattle.genlib_expression.proofs.Values.{token-from, token-to, here, name-yes, name-no, quoted-is}
 use Rattle.genlib_expression.proofs.name.Statement.{statement}
 use Rattle.genlib_expression.proofs.name.Tie as tie

@@ -1,15 +1,7 @@
--- `genlib_expression::name_value` meets its contract, by its four ways. Assumes nothing.
-use borrow.Author.Needs.{needs}
-use mathlib.Core.Path.{_≡_, sym, ap, _∙_}
-use mathlib.Core.Bool.{false}
-use Prim.Native.Nat.{ℕ, _/_, _%_, _<_}
-use native.Mathlib.Omega.{arith}
-use lib.Dec.{eqb}
-use Rattle.model.specs.Base.{bit}
-use Rattle.model.specs.Text.{text}
-use Rattle.model.specs.Table.{value}
-use Rattle.model.specs.GenlibFormula.{nameValue, const0, const1}
-use Rattle.base_truth.proofs.Tables.{value-pattern, value-shift}
+-- `genlib_expression::name_value` meets its contract, by its four ways.
+use Rattle.base.specs.{needs, _≡_, sym, ap, _∙_, false, ℕ, _/_, _%_, _<_, arith, eqb}
+use Rattle.model.specs.{bit, text, value, nameValue, const0, const1}
+use Rattle.base_truth.proofs.{value-pattern, value-shift}
 use Rattle.genlib_expression.proofs.Values.{no-row, every-row}
 use Rattle.genlib_expression.proofs.name_value.Statement.{statement}
 use Rattle.genlib_expression.proofs.name_value.Tie as tie
@@ -49,8 +41,6 @@ returns-4 c =
     (no-row row ∙ sym (fifth row h) ∙ ap (bit row) (four ∙ i .index .ensures .0))
 
 pub name-value-spec : {M : Type 1} → statement M
-name-value-spec =
-    tie.close
-    (tie.spec
+name-value-spec = tie.close (tie.spec
     (λ c. search needs) (λ c κs. search needs) returns (λ c. search needs) (λ c κs. search needs) returns-2 (λ c κs. search needs)
     (λ c κs. search needs) returns-3 returns-4)

@@ -1,5 +1,5 @@
--- `genlib_expression::next_token` meets its contract, by what its two calls say. Assumes nothing.
-use borrow.Author.Needs.{needs}
+-- `genlib_expression::next_token` meets its contract, by what its two calls say.
+use Rattle.base.specs.{needs}
 use Rattle.genlib_expression.proofs.next_token.Statement.{statement}
 use Rattle.genlib_expression.proofs.next_token.Tie as tie
 
@@ -7,6 +7,4 @@ returns : tie.Need-returns
 returns c = rw (c .token-end .ensures, c .before .skip .ensures)
 
 pub next-token-spec : {M : Type 1} → statement M
-next-token-spec = tie.close
-    (tie.spec
-    (λ c κs. search needs) (λ c κs. search needs) returns)
+next-token-spec = tie.close (tie.spec (λ c κs. search needs) (λ c κs. search needs) returns)

@@ -1,10 +1,7 @@
--- `genlib_expression::nth` meets its contract, by counting. The invariant: the token at hand is token i; the measure is what is left to count. Assumes nothing.
-use mathlib.Core.Path.{subst}
-use Prim.Native.Nat.{ℕ, _-_, _≤_}
-use native.Mathlib.Omega.{arith}
-use Rattle.genlib_expression.specs.Places.{Nth}
+-- `genlib_expression::nth` meets its contract, by counting. The invariant: the token at hand is token i; the measure is what is left to count.
+use Rattle.base.specs.{subst, ℕ, _-_, _≤_, arith, needs}
+use Rattle.genlib_expression.specs.{Nth}
 use Rattle.genlib_expression.proofs.Walk.{nth-first, nth-next}
-use borrow.Author.Needs.{needs}
 use Rattle.genlib_expression.proofs.nth.Statement.{statement}
 use Rattle.genlib_expression.proofs.nth.Tie as tie
 
@@ -24,7 +21,5 @@ returns : tie.Need-returns Inv-loop μ-loop
 returns c = let l = c .before .loop in subst (λ (i : ℕ). Nth (c .before .before .before .before .args .w .now) i (l .t)) {x = l .i} (omega arith) (l .inv .1)
 
 pub nth-spec : {M : Type 1} → statement M
-nth-spec =
-    tie.close
-    (tie.spec
+nth-spec = tie.close (tie.spec
     Inv-loop μ-loop (λ c κs. search needs) loop-holds (λ c κs. search needs) (λ c. search needs) (λ c. search needs) loop-again returns)

@@ -1,10 +1,6 @@
--- `genlib_expression::rows` meets its contract, by its cases. Assumes nothing.
-use mathlib.Core.Path.{_≡_, sym, ap}
-use Prim.Native.Nat.{ℕ, _^_, _≤_}
-use native.Mathlib.Omega.{arith}
-use mathlib.Core.Bool.{true}
-use Rattle.model.specs.Base.{one}
-use Rattle.model.specs.GenlibFormula.{rowBits}
+-- `genlib_expression::rows` meets its contract, by its cases.
+use Rattle.base.specs.{_≡_, sym, ap, ℕ, _^_, _≤_, arith, true}
+use Rattle.model.specs.{one, rowBits}
 use Rattle.genlib_expression.proofs.rows.Statement.{statement}
 use Rattle.genlib_expression.proofs.rows.Tie as tie
 

@@ -1,7 +1,6 @@
--- `genlib_expression::scan_after` meets its contract, by its ways. Assumes nothing.
-use borrow.Author.Tests.{eq-eqb, ne-eqb}
-use Rattle.genlib_expression.specs.Places.{afterStep}
-use borrow.Author.Needs.{needs}
+-- `genlib_expression::scan_after` meets its contract, by its ways.
+use Rattle.base.specs.{eq-eqb, ne-eqb, needs}
+use Rattle.genlib_expression.specs.{afterStep}
 use Rattle.genlib_expression.proofs.scan_after.Statement.{statement}
 use Rattle.genlib_expression.proofs.scan_after.Tie as tie
 
@@ -26,7 +25,4 @@ unfolding afterStep
 returns-5 c = rw (ne-eqb _ _ (c .before .before .before .before .if1 .left), ne-eqb _ _ (c .before .before .before .if2 .left), ne-eqb _ _ (c .before .before .if3 .left), ne-eqb _ _ (c .before .if4 .left)) (c .scan-end .ensures)
 
 pub scan-after-spec : {M : Type 1} → statement M
-scan-after-spec =
-    tie.close
-    (tie.spec
-    returns (λ c κs. search needs) returns-2 returns-3 returns-4 (λ c κs. search needs) returns-5)
+scan-after-spec = tie.close (tie.spec returns (λ c κs. search needs) returns-2 returns-3 returns-4 (λ c κs. search needs) returns-5)

@@ -1,7 +1,6 @@
--- `genlib_expression::scan_at` meets its contract, by whether a token is there. Assumes nothing.
-use mathlib.Core.Path.{refl, sym, _∙_}
+-- `genlib_expression::scan_at` meets its contract, by whether a token is there.
+use Rattle.base.specs.{refl, sym, _∙_, needs}
 use Rattle.genlib_expression.proofs.Scanning.{scan-one, scan-none}
-use borrow.Author.Needs.{needs}
 use Rattle.genlib_expression.proofs.scan_at.Statement.{statement}
 use Rattle.genlib_expression.proofs.scan_at.Tie as tie
 
@@ -12,7 +11,6 @@ returns-2 : tie.Need-returns-2
 returns-2 c = sym (scan-none _ _ _ (c .if1 .left))
 
 pub scan-at-spec : {M : Type 1} → statement M
-scan-at-spec =
-    tie.close
-    (tie.spec
-    (λ c. search needs) (λ c. search needs) (λ c. search needs) (λ c κs. search needs) (λ c. search needs) (λ c κs. search needs) returns returns-2)
+scan-at-spec = tie.close (tie.spec
+    (λ c. search needs) (λ c. search needs) (λ c. search needs) (λ c κs. search needs) (λ c. search needs) (λ c κs. search needs) returns
+    returns-2)

@@ -1,7 +1,6 @@
--- `genlib_expression::scan_close` meets its contract, by its two ways. Assumes nothing.
-use borrow.Author.Tests.{lt-ltb, le-ltb}
-use Rattle.genlib_expression.specs.Places.{closeStep}
-use borrow.Author.Needs.{needs}
+-- `genlib_expression::scan_close` meets its contract, by its two ways.
+use Rattle.base.specs.{lt-ltb, le-ltb, needs}
+use Rattle.genlib_expression.specs.{closeStep}
 use Rattle.genlib_expression.proofs.scan_close.Statement.{statement}
 use Rattle.genlib_expression.proofs.scan_close.Tie as tie
 
@@ -14,6 +13,4 @@ unfolding closeStep
 returns-2 c = rw (le-ltb _ _ (c .if1 .left))
 
 pub scan-close-spec : {M : Type 1} → statement M
-scan-close-spec = tie.close
-    (tie.spec
-    (λ c. search needs) returns returns-2)
+scan-close-spec = tie.close (tie.spec (λ c. search needs) returns returns-2)

@@ -1,7 +1,6 @@
--- `genlib_expression::scan_due` meets its contract, by its four ways. Assumes nothing.
-use borrow.Author.Tests.{eq-eqb, ne-eqb}
-use Rattle.genlib_expression.specs.Places.{dueStep}
-use borrow.Author.Needs.{needs}
+-- `genlib_expression::scan_due` meets its contract, by its four ways.
+use Rattle.base.specs.{eq-eqb, ne-eqb, needs}
+use Rattle.genlib_expression.specs.{dueStep}
 use Rattle.genlib_expression.proofs.scan_due.Statement.{statement}
 use Rattle.genlib_expression.proofs.scan_due.Tie as tie
 
@@ -22,6 +21,4 @@ unfolding dueStep
 returns-4 c = rw (ne-eqb _ _ (c .before .before .if1 .left), ne-eqb _ _ (c .before .if2 .left), c .if3 .left)
 
 pub scan-due-spec : {M : Type 1} → statement M
-scan-due-spec = tie.close
-    (tie.spec
-    returns (λ c. search needs) returns-2 returns-3 returns-4)
+scan-due-spec = tie.close (tie.spec returns (λ c. search needs) returns-2 returns-3 returns-4)

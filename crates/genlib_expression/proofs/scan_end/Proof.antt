@@ -1,6 +1,6 @@
--- `genlib_expression::scan_end` meets its contract, by its three ways. Assumes nothing.
-use borrow.Author.Tests.{eq-eqb, ne-eqb}
-use Rattle.genlib_expression.specs.Places.{endStep}
+-- `genlib_expression::scan_end` meets its contract, by its three ways.
+use Rattle.base.specs.{eq-eqb, ne-eqb}
+use Rattle.genlib_expression.specs.{endStep}
 use Rattle.genlib_expression.proofs.scan_end.Statement.{statement}
 use Rattle.genlib_expression.proofs.scan_end.Tie as tie
 

@@ -1,9 +1,7 @@
--- `genlib_expression::scan_token` meets its contract, by its cases. Assumes nothing.
-use Rattle.genlib_expression.specs.Places.{depthOf, scanStep}
-use native.Mathlib.Omega.{arith}
-use mathlib.Core.Path.{sym, ap, _∙_}
+-- `genlib_expression::scan_token` meets its contract, by its cases.
+use Rattle.base.specs.{arith, sym, ap, _∙_, needs}
 use Rattle.model.specs.declared.Scan.{Scan}
-use borrow.Author.Needs.{needs}
+use Rattle.genlib_expression.specs.{depthOf, scanStep}
 use Rattle.genlib_expression.proofs.scan_token.Statement.{statement}
 use Rattle.genlib_expression.proofs.scan_token.Tie as tie
 
@@ -27,8 +25,6 @@ unfolding scanStep
 returns-4 c = sym (ap (λ (s : Scan). scanStep s (c .before .before .args .b) (c .before .before .args .name)) (c .enum-told2 .given .1))
 
 pub scan-token-spec : {M : Type 1} → statement M
-scan-token-spec =
-    tie.close
-    (tie.spec
-    (λ c. search needs) scan-due-requires (λ c. search needs) (λ c κs. search needs) (λ c. search needs) (λ c. search needs) returns returns-2 returns-3
-    returns-4)
+scan-token-spec = tie.close (tie.spec
+    (λ c. search needs) scan-due-requires (λ c. search needs) (λ c κs. search needs) (λ c. search needs) (λ c. search needs) returns
+    returns-2 returns-3 returns-4)

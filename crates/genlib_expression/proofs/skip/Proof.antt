@@ -1,12 +1,7 @@
 -- `genlib_expression::skip` meets its contract. The invariant: from here on the bytes pass up to where they do from the start; the measure is what is left.
--- Assumes nothing.
-use borrow.Author.Needs.{needs}
-use borrow.Author.Tests.{not-true, not-false}
-use mathlib.Core.Path.{_≡_, refl, sym, _∙_}
-use Prim.Native.Nat.{_-_}
-use lib.ListN.{length}
-use Rattle.model.specs.GenlibWords.{isBlank}
-use Rattle.genlib_expression.specs.Places.{spanEnd}
+use Rattle.base.specs.{needs, not-true, not-false, _≡_, refl, sym, _∙_, _-_, length}
+use Rattle.model.specs.{isBlank}
+use Rattle.genlib_expression.specs.{spanEnd}
 use Rattle.genlib_expression.proofs.Spans.{span-stop, span-step, span-out}
 use Rattle.genlib_expression.proofs.skip.Statement.{statement}
 use Rattle.genlib_expression.proofs.skip.Tie as tie
@@ -27,7 +22,6 @@ returns-2 : tie.Need-returns-2 Inv-loop μ-loop
 returns-2 c = sym (c .before .loop .inv ∙ span-out isBlank _ _ (c .loop-test .left))
 
 pub skip-spec : {M : Type 1} → statement M
-skip-spec =
-    tie.close
-    (tie.spec
-    Inv-loop μ-loop (λ c. refl) (λ c. search needs) (λ c κs. search needs) returns (λ c. search needs) (λ c. search needs) loop-again returns-2)
+skip-spec = tie.close (tie.spec
+    Inv-loop μ-loop (λ c. refl) (λ c. search needs) (λ c κs. search needs) returns (λ c. search needs) (λ c. search needs) loop-again
+    returns-2)

@@ -1,8 +1,6 @@
--- `genlib_expression::step_depth` meets its contract, by its ways. Assumes nothing.
-use borrow.Author.Tests.{eq-eqb, ne-eqb}
-use native.Mathlib.Omega.{arith}
-use Rattle.genlib_expression.specs.Places.{openedBy}
-use borrow.Author.Needs.{needs}
+-- `genlib_expression::step_depth` meets its contract, by its ways.
+use Rattle.base.specs.{eq-eqb, ne-eqb, arith, needs}
+use Rattle.genlib_expression.specs.{openedBy}
 use Rattle.genlib_expression.proofs.step_depth.Statement.{statement}
 use Rattle.genlib_expression.proofs.step_depth.Tie as tie
 
@@ -23,6 +21,4 @@ unfolding openedBy
 returns-4 c = rw (ne-eqb _ _ (c .before .if1 .left), ne-eqb _ _ (c .if2 .left))
 
 pub step-depth-spec : {M : Type 1} → statement M
-step-depth-spec = tie.close
-    (tie.spec
-    (λ c. search needs) returns (λ c. search needs) returns-2 returns-3 returns-4)
+step-depth-spec = tie.close (tie.spec (λ c. search needs) returns (λ c. search needs) returns-2 returns-3 returns-4)

@@ -1,20 +1,10 @@
--- `genlib_expression::table` meets its contract, row by row. Assumes nothing.
-use mathlib.Core.Path.{_≡_, refl, ap, _∙_}
-use mathlib.Core.Bool.{Bool, true, false, _&&_}
-use native.Mathlib.Omega.{arith}
-use native.Mathlib.Nat.{zero-add}
-use Prim.Native.Nat.{ℕ, _^_, _≤_, _<_}
-use lib.Bits.{bitAnd, and-le-l}
-use lib.Dec.{ltb}
-use lib.Pow.{pow-mono}
-use borrow.Author.Tests.{ltb-true, ltb-false}
-use Rattle.model.specs.Base.{bit}
-use Rattle.model.specs.Table.{value}
-use Rattle.model.specs.GenlibFormula.{rowBits}
-use Rattle.model.proofs.GenlibTables.{rows-most, rows-less, row-bit, row-none}
-use Rattle.base_text.proofs.Bytes.{and-true, and-false}
-use Rattle.base_truth.proofs.Tables.{tables-same, value-and}
-use borrow.Author.Needs.{needs}
+-- `genlib_expression::table` meets its contract, row by row.
+use Rattle.base.specs.{_≡_, refl, ap, _∙_, Bool, true, false, _&&_, arith, zero-add, ℕ, _^_, _≤_, _<_, bitAnd, and-le-l, ltb, pow-mono}
+use Rattle.base.specs.{ltb-true, ltb-false, needs}
+use Rattle.model.specs.{bit, value, rowBits}
+use Rattle.model.proofs.{rows-most, rows-less, row-bit, row-none}
+use Rattle.base_truth.proofs.{tables-same, value-and}
+use Rattle.base_text.proofs.{and-true, and-false}
 use Rattle.genlib_expression.proofs.table.Statement.{statement}
 use Rattle.genlib_expression.proofs.table.Tie as tie
 
@@ -45,6 +35,4 @@ returns c =
     ap (bitAnd (v .result)) (c .rows .ensures) ∙ masked _ (v .result) (2 ^ s .args .p .n) (rows-most _ (s .pre .1)) (v .ensures) (omega (arith, and-le-l (v .result) (rowBits (λ r. true) 0 (2 ^ s .args .p .n))))
 
 pub table-spec : {M : Type 1} → statement M
-table-spec = tie.close
-    (tie.spec
-    (λ c κs. search needs) (λ c κs. search needs) returns)
+table-spec = tie.close (tie.spec (λ c κs. search needs) (λ c κs. search needs) returns)

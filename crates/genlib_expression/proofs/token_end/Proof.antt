@@ -1,9 +1,7 @@
--- `genlib_expression::token_end` meets its contract, by its three ways. Assumes nothing.
-use borrow.Author.Needs.{needs}
-use borrow.Author.Tests.{lt-ltb, le-ltb}
-use mathlib.Core.Path.{sym, _∙_}
-use Rattle.model.specs.GenlibWords.{isWordByte}
-use Rattle.genlib_expression.specs.Places.{endAt}
+-- `genlib_expression::token_end` meets its contract, by its three ways.
+use Rattle.base.specs.{needs, lt-ltb, le-ltb, sym, _∙_}
+use Rattle.model.specs.{isWordByte}
+use Rattle.genlib_expression.specs.{endAt}
 use Rattle.genlib_expression.proofs.Spans.{span-step}
 use Rattle.genlib_expression.proofs.token_end.Statement.{statement}
 use Rattle.genlib_expression.proofs.token_end.Tie as tie
@@ -22,7 +20,5 @@ unfolding endAt
 returns-3 c = rw (lt-ltb _ _ (c .before .before .before .if1 .left), sym (c .before .is-word-byte .ensures) ∙ c .if2 .left)
 
 pub token-end-spec : {M : Type 1} → statement M
-token-end-spec =
-    tie.close
-    (tie.spec
+token-end-spec = tie.close (tie.spec
     returns (λ c. search needs) (λ c κs. search needs) (λ c. search needs) (λ c κs. search needs) (λ c. search needs) returns-2 returns-3)

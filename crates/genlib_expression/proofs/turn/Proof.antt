@@ -1,12 +1,7 @@
--- `genlib_expression::turn` meets its contract. The invariant: what the signs from here on make of the value is what all of them make of the first; the measure is what is left of the line. Assumes nothing.
-use borrow.Author.Needs.{needs}
-use mathlib.Core.Path.{_≡_, refl, sym, ap, _∙_}
-use native.Mathlib.Omega.{arith}
-use Prim.Native.Nat.{_-_, _≤_}
-use native.Mathlib.Nat.{le-refl}
-use lib.ListN.{length}
-use Rattle.model.specs.GenlibFormula.{turns}
-use Rattle.genlib_expression.specs.Places.{restAt}
+-- `genlib_expression::turn` meets its contract. The invariant: what the signs from here on make of the value is what all of them make of the first; the measure is what is left of the line.
+use Rattle.base.specs.{needs, _≡_, refl, sym, ap, _∙_, arith, _-_, _≤_, le-refl, length}
+use Rattle.model.specs.{turns}
+use Rattle.genlib_expression.specs.{restAt}
 use Rattle.genlib_expression.proofs.Tokens.{behind-yes, behind-no}
 use Rattle.genlib_expression.proofs.Values.{turns-stop, turns-step}
 use Rattle.genlib_expression.proofs.turn.Statement.{statement}
@@ -36,7 +31,4 @@ loop-again c =
     (omega arith, y .3, l .inv .2 ∙ turns-step _ _ _ (y .0) ∙ ap (turns _ _) (y .1))
 
 pub turn-spec : {M : Type 1} → statement M
-turn-spec =
-    tie.close
-    (tie.spec
-    Inv-loop μ-loop loop-holds (λ c κs. search needs) returns loop-less loop-again)
+turn-spec = tie.close (tie.spec Inv-loop μ-loop loop-holds (λ c κs. search needs) returns loop-less loop-again)

@@ -1,16 +1,10 @@
--- `genlib_expression::with_pin` meets its contract, by whether the pin is known and there is room. Assumes nothing.
-use mathlib.Core.Path.{_≡_, sym, ap, _∙_}
-use native.Mathlib.Omega.{arith}
-use Prim.Native.Nat.{ℕ, _≤_, _<_}
-use borrow.Author.Tests.{lt-ltb, le-ltb}
-use Rattle.model.specs.GenlibFormula.{indexOf}
-use lib.Dec.{ltb}
-use mathlib.Core.List.{List, [], _∷_, _++_}
-use lib.ListN.{length, length-set, length-append}
+-- `genlib_expression::with_pin` meets its contract, by whether the pin is known and there is room.
+use Rattle.base.specs.{_≡_, sym, ap, _∙_, arith, ℕ, _≤_, _<_, lt-ltb, le-ltb, ltb, List, [], _∷_, _++_, length, length-set, length-append}
+use Rattle.base.specs.{needs}
+use Rattle.model.specs.{indexOf}
 use Rattle.genlib_expression.specs.declared.Pins.{Pins}
-use Rattle.genlib_expression.specs.Places.{namesAt, pushed, withPin}
+use Rattle.genlib_expression.specs.{namesAt, pushed, withPin}
 use Rattle.genlib_expression.proofs.Pinning.{length-names, with-known, with-new, names-pushed}
-use borrow.Author.Needs.{needs}
 use Rattle.genlib_expression.proofs.with_pin.Statement.{statement}
 use Rattle.genlib_expression.proofs.with_pin.Tie as tie
 
@@ -58,6 +52,4 @@ returns-3 c =
     (s .pre .1, record { few = λ h. absurd (omega arith); many = λ h. omega (arith, n, length-append (namesAt w p) (s .args .t .now ∷ []), length-names w p, c .before .if2 .left) }, many w p (s .args .from) (s .args .t .now) _ (c .before .before .before .index .ensures .0) (c .before .before .if1 .left) (c .before .if2 .left))
 
 pub with-pin-spec : {M : Type 1} → statement M
-with-pin-spec = tie.close
-    (tie.spec
-    (λ c κs. search needs) returns (λ c κs. search needs) returns-2 returns-3)
+with-pin-spec = tie.close (tie.spec (λ c κs. search needs) returns (λ c κs. search needs) returns-2 returns-3)

@@ -1,13 +1,6 @@
 -- `genlib_expression::word_is` meets its contract. The invariant: the bytes that are left are the word that is left, just where all are; the measure is what is left.
--- Assumes nothing.
-use borrow.Author.Needs.{needs}
-use borrow.Author.Tests.{not-true, not-false}
-use mathlib.Core.Path.{_≡_, refl, sym, ap, _∙_}
-use mathlib.Core.Bool.{not}
-use Prim.Native.Nat.{_-_}
-use lib.ListN.{length, drop}
-use Rattle.model.specs.Base.{same}
-use Rattle.model.specs.GenlibWords.{isWordByte, span}
+use Rattle.base.specs.{needs, not-true, not-false, _≡_, refl, sym, ap, _∙_, not, _-_, length, drop}
+use Rattle.model.specs.{same, isWordByte, span}
 use Rattle.genlib_expression.proofs.Spans.{word-short, word-other, word-stop, word-step, word-out, word-past}
 use Rattle.genlib_expression.proofs.word_is.Statement.{statement}
 use Rattle.genlib_expression.proofs.word_is.Tie as tie
@@ -52,8 +45,7 @@ returns-5 c =
     ap not (c .is-word-byte2 .ensures) ∙ sym (l .before .loop .inv ∙ word-out isWordByte _ _ _ _ (l .loop-test .left) (e .if4 .left))
 
 pub word-is-spec : {M : Type 1} → statement M
-word-is-spec =
-    tie.close
-    (tie.spec
-    Inv-loop μ-loop (λ c. refl) returns (λ c. search needs) (λ c. search needs) returns-2 (λ c. search needs) (λ c κs. search needs) returns-3
-    (λ c. search needs) (λ c. search needs) (λ c. search needs) loop-again returns-4 (λ c. search needs) (λ c κs. search needs) returns-5)
+word-is-spec = tie.close (tie.spec
+    Inv-loop μ-loop (λ c. refl) returns (λ c. search needs) (λ c. search needs) returns-2 (λ c. search needs) (λ c κs. search needs)
+    returns-3 (λ c. search needs) (λ c. search needs) (λ c. search needs) loop-again returns-4 (λ c. search needs) (λ c κs. search needs)
+    returns-5)

@@ -1,14 +1,8 @@
--- `genlib_groups::all_figures` meets its contract. The invariant: all tokens are figures where all that are left are; the measure is what is left of the line. Assumes nothing.
-use mathlib.Core.Path.{_≡_, refl, sym, ap, _∙_}
-use native.Mathlib.Omega.{arith}
-use Prim.Native.Nat.{_-_, _≤_}
-use borrow.Author.Tests.{not-true, not-false}
-use lib.ListN.{length}
-use Rattle.model.specs.Base.{all}
-use Rattle.model.specs.GenlibWords.{isFigure}
-use Rattle.genlib_expression.specs.Places.{restAt}
-use Rattle.genlib_expression.proofs.Walk.{step, nothing-left}
-use borrow.Author.Needs.{needs}
+-- `genlib_groups::all_figures` meets its contract. The invariant: all tokens are figures where all that are left are; the measure is what is left of the line.
+use Rattle.base.specs.{_≡_, refl, sym, ap, _∙_, arith, _-_, _≤_, not-true, not-false, length, needs}
+use Rattle.model.specs.{all, isFigure}
+use Rattle.genlib_expression.specs.{restAt}
+use Rattle.genlib_expression.proofs.{step, nothing-left}
 use Rattle.genlib_groups.proofs.all_figures.Statement.{statement}
 use Rattle.genlib_groups.proofs.all_figures.Tie as tie
 
@@ -46,8 +40,6 @@ unfolding all
 returns-2 c = sym (c .before .loop .inv .1 ∙ ap (all isFigure) (nothing-left _ _ (c .loop-test .left)))
 
 pub all-figures-spec : {M : Type 1} → statement M
-all-figures-spec =
-    tie.close
-    (tie.spec
-    Inv-loop μ-loop loop-holds (λ c κs. search needs) (λ c. search needs) (λ c. search needs) part-is-figure-end (λ c κs. search needs) returns
-    loop-less loop-again loop-less-2 loop-again-2 returns-2)
+all-figures-spec = tie.close (tie.spec
+    Inv-loop μ-loop loop-holds (λ c κs. search needs) (λ c. search needs) (λ c. search needs) part-is-figure-end (λ c κs. search needs)
+    returns loop-less loop-again loop-less-2 loop-again-2 returns-2)

@@ -1,16 +1,9 @@
 -- `genlib_groups::all_have_lines` meets its contract. The invariant: all tokens have their lines where the pins that are left do; the measure is how many are left.
--- Assumes nothing.
-use mathlib.Core.Path.{_≡_, sym, ap, _∙_}
-use mathlib.Core.List.{map}
-use native.Mathlib.Omega.{arith}
-use Prim.Native.Nat.{_-_, _≤_}
-use borrow.Author.Tests.{not-true, not-false}
-use lib.ListN.{length}
-use Rattle.model.specs.Base.{all, from, below}
-use Rattle.genlib_expression.specs.Places.{restAt, nameAt, namesAt}
-use Rattle.genlib_groups.specs.Lines.{pinHas, linesBehind}
+use Rattle.base.specs.{_≡_, sym, ap, _∙_, map, arith, _-_, _≤_, not-true, not-false, length, needs}
+use Rattle.model.specs.{all, from, below}
+use Rattle.genlib_expression.specs.{restAt, nameAt, namesAt}
+use Rattle.genlib_groups.specs.{pinHas, linesBehind}
 use Rattle.genlib_groups.proofs.Grouping.{pins-all, pins-step, pins-end, has-free}
-use borrow.Author.Needs.{needs}
 use Rattle.genlib_groups.proofs.all_have_lines.Statement.{statement}
 use Rattle.genlib_groups.proofs.all_have_lines.Tie as tie
 
@@ -46,8 +39,6 @@ returns-3 : tie.Need-returns-3 Inv-loop μ-loop
 returns-3 c = sym (c .before .loop .inv .3 ∙ pins-end _ _ _ _ (c .loop-test .left))
 
 pub all-have-lines-spec : {M : Type 1} → statement M
-all-have-lines-spec =
-    tie.close
-    (tie.spec
-    Inv-loop μ-loop (λ c κs. search needs) (λ c κs. search needs) (λ c. c .tokens-have-lines .ensures) loop-holds (λ c. search needs) (λ c. search needs)
-    (λ c κs. search needs) returns-2 (λ c. search needs) (λ c. search needs) loop-again returns-3)
+all-have-lines-spec = tie.close (tie.spec
+    Inv-loop μ-loop (λ c κs. search needs) (λ c κs. search needs) (λ c. c .tokens-have-lines .ensures) loop-holds (λ c. search needs)
+    (λ c. search needs) (λ c κs. search needs) returns-2 (λ c. search needs) (λ c. search needs) loop-again returns-3)

@@ -1,15 +1,9 @@
--- `genlib_groups::all_pin_lines` meets its contract. The invariant: all lines are PIN lines where all from here on are; the measure is what is left of the text. Assumes nothing.
-use mathlib.Core.Path.{_≡_, refl, sym, ap, _∙_}
-use native.Mathlib.Omega.{arith}
-use Prim.Native.Nat.{_-_, _≤_}
-use lib.ListN.{length}
-use borrow.Author.Tests.{not-true, not-false}
-use Rattle.model.specs.Base.{all}
-use Rattle.model.specs.Genlib.{grouped, lineIs, isPinLine}
-use Rattle.genlib_groups.specs.Lines.{linesOf}
+-- `genlib_groups::all_pin_lines` meets its contract. The invariant: all lines are PIN lines where all from here on are; the measure is what is left of the text.
+use Rattle.base.specs.{_≡_, refl, sym, ap, _∙_, arith, _-_, _≤_, length, not-true, not-false, needs}
+use Rattle.model.specs.{all, grouped, lineIs, isPinLine}
+use Rattle.genlib_groups.specs.{linesOf}
 use Rattle.genlib_groups.proofs.LineLaws.{bounded, starts-gate, not-ended, is-ended}
 use Rattle.genlib_groups.proofs.Grouping.{gate-here, line-here, none-here}
-use borrow.Author.Needs.{needs}
 use Rattle.genlib_groups.proofs.all_pin_lines.Statement.{statement}
 use Rattle.genlib_groups.proofs.all_pin_lines.Tie as tie
 
@@ -88,8 +82,7 @@ unfolding all
 returns-4 c = let i = c .before .loop .inv in sym (i .1 ∙ ap (all (lineIs isPinLine)) (none-here _ _ (c .loop-test .left) .0))
 
 pub all-pin-lines-spec : {M : Type 1} → statement M
-all-pin-lines-spec =
-    tie.close
-    (tie.spec
-    Inv-loop μ-loop loop-holds (λ c κs. search needs) sub-names-gate part-names-gate-start part-names-gate-end (λ c κs. search needs) returns
-    returns-2 sub-is-pin-line part-is-pin-line-start part-is-pin-line-end (λ c κs. search needs) returns-3 loop-less loop-again returns-4)
+all-pin-lines-spec = tie.close (tie.spec
+    Inv-loop μ-loop loop-holds (λ c κs. search needs) sub-names-gate part-names-gate-start part-names-gate-end (λ c κs. search needs)
+    returns returns-2 sub-is-pin-line part-is-pin-line-start part-is-pin-line-end (λ c κs. search needs) returns-3 loop-less loop-again
+    returns-4)

@@ -1,13 +1,8 @@
--- `genlib_groups::count` meets its contract. The invariant: those counted and those left are all tokens; the measure is what is left of the line. Assumes nothing.
-use mathlib.Core.Path.{_≡_, sym, ap}
-use native.Mathlib.Omega.{arith}
-use lib.ListN.{length}
-use Prim.Native.Nat.{_+_, _-_, _≤_}
-use Rattle.genlib_expression.specs.Places.{restAt}
-use Rattle.genlib_expression.proofs.Walk.{step, nothing-left}
-use native.Mathlib.Nat.{zero-add}
-use Rattle.model.specs.GenlibWords.{tokens}
-use borrow.Author.Needs.{needs}
+-- `genlib_groups::count` meets its contract. The invariant: those counted and those left are all tokens; the measure is what is left of the line.
+use Rattle.base.specs.{_≡_, sym, ap, arith, length, _+_, _-_, _≤_, zero-add, needs}
+use Rattle.model.specs.{tokens}
+use Rattle.genlib_expression.specs.{restAt}
+use Rattle.genlib_expression.proofs.{step, nothing-left}
 use Rattle.genlib_groups.proofs.count.Statement.{statement}
 use Rattle.genlib_groups.proofs.count.Tie as tie
 
@@ -36,7 +31,5 @@ returns : tie.Need-returns Inv-loop μ-loop
 returns c = omega (arith, c .before .loop .inv .2, ap length (nothing-left (c .before .before .before .args .w .now) (c .before .loop .at) (c .loop-test .left)))
 
 pub count-spec : {M : Type 1} → statement M
-count-spec =
-    tie.close
-    (tie.spec
+count-spec = tie.close (tie.spec
     Inv-loop μ-loop loop-holds (λ c κs. search needs) (λ c. omega arith) loop-less loop-again loop-less-2 loop-again-2 returns)

@@ -1,11 +1,8 @@
--- `genlib_groups::delay_at` meets its contract, by the line’s contents. Assumes nothing.
-use mathlib.Core.Path.{ap, _∙_}
-use mathlib.Core.List.{List}
-use Prim.Native.Nat.{ℕ}
-use Rattle.model.specs.Genlib.{delayOf}
-use Rattle.genlib_groups.specs.Lines.{valueIn}
+-- `genlib_groups::delay_at` meets its contract, by the line’s contents.
+use Rattle.base.specs.{ap, _∙_, List, ℕ, needs}
+use Rattle.model.specs.{delayOf}
+use Rattle.genlib_groups.specs.{valueIn}
 use Rattle.genlib_groups.proofs.LineLaws.{bounded, tokens-at}
-use borrow.Author.Needs.{needs}
 use Rattle.genlib_groups.proofs.delay_at.Statement.{statement}
 use Rattle.genlib_groups.proofs.delay_at.Tie as tie
 
@@ -24,7 +21,5 @@ returns c =
     c .delay-of .ensures ∙ ap (λ (ts : List (List ℕ)). valueIn (delayOf ts)) (tokens-at _ _ _ (bounded _ _ (p .before .before .pre) _ (p .line .ensures)))
 
 pub delay-at-spec : {M : Type 1} → statement M
-delay-at-spec =
-    tie.close
-    (tie.spec
+delay-at-spec = tie.close (tie.spec
     (λ c κs. search needs) sub-delay-of part-delay-of-start part-delay-of-end (λ c κs. search needs) returns)

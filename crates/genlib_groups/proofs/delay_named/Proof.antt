@@ -1,14 +1,8 @@
--- `genlib_groups::delay_named` meets its contract, by the part of the line that is the word. Assumes nothing.
-use mathlib.Core.Path.{sym, ap, _∙_}
-use native.Mathlib.Omega.{arith}
-use Rattle.genlib_groups.specs.Lines.{valueIn}
-use Prim.Native.Nat.{ℕ, _-_}
-use mathlib.Core.List.{List}
-use lib.ListN.{take, drop}
-use Rattle.model.specs.GenlibWords.{isWordByte}
-use Rattle.genlib_groups.specs.Lines.{linesBehind, delayFor}
-use Rattle.genlib_expression.proofs.Spans.{span-from, span-part, span-past}
-use borrow.Author.Needs.{needs}
+-- `genlib_groups::delay_named` meets its contract, by the part of the line that is the word.
+use Rattle.base.specs.{sym, ap, _∙_, arith, ℕ, _-_, List, take, drop, needs}
+use Rattle.model.specs.{isWordByte}
+use Rattle.genlib_expression.proofs.{span-from, span-part, span-past}
+use Rattle.genlib_groups.specs.{valueIn, linesBehind, delayFor}
 use Rattle.genlib_groups.proofs.delay_named.Statement.{statement}
 use Rattle.genlib_groups.proofs.delay_named.Tie as tie
 
@@ -22,8 +16,6 @@ returns-2 : tie.Need-returns-2
 returns-2 c = let s = c .before .before .before .before .before .before .args in c .delay-for2 .ensures ∙ ap (λ (x : List ℕ). valueIn (delayFor (linesBehind (s .s .now) (s .from)) x)) (sym (span-past isWordByte (s .w .now) (s .at) _ (c .before .before .before .word-end .ensures) (c .before .before .if1 .left)))
 
 pub delay-named-spec : {M : Type 1} → statement M
-delay-named-spec =
-    tie.close
-    (tie.spec
-    (λ c κs. search needs) start start (λ c. search needs) (λ c κs. search needs) (λ c. search needs) (λ c κs. search needs)
-    returns returns-2)
+delay-named-spec = tie.close (tie.spec
+    (λ c κs. search needs) start start (λ c. search needs) (λ c κs. search needs) (λ c. search needs) (λ c κs. search needs) returns
+    returns-2)

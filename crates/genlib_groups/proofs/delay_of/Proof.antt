@@ -1,14 +1,8 @@
--- `genlib_groups::delay_of` meets its contract, by its two figures. Assumes nothing.
-use mathlib.Core.Path.{_≡_, sym, ap, _∙_}
-use Rattle.model.specs.Genlib.{delayOf}
-use Rattle.model.specs.Base.{andThen}
+-- `genlib_groups::delay_of` meets its contract, by its two figures.
+use Rattle.base.specs.{_≡_, sym, ap, _∙_, none, some, [], getD, needs}
+use Rattle.model.specs.{delayOf, andThen, tokens, thousandths}
 use Rattle.base_text.specs.declared.Value.the-variants.{Is}
-use mathlib.Core.Option.{none, some}
-use mathlib.Core.List.{[]}
-use lib.ListN.{getD}
-use Rattle.model.specs.GenlibWords.{tokens, thousandths}
 use Rattle.genlib_groups.proofs.Grouping.{value-some, value-none}
-use borrow.Author.Needs.{needs}
 use Rattle.genlib_groups.proofs.delay_of.Statement.{statement}
 use Rattle.genlib_groups.proofs.delay_of.Tie as tie
 
@@ -33,8 +27,6 @@ returns-3 c =
     rw a
 
 pub delay-of-spec : {M : Type 1} → statement M
-delay-of-spec =
-    tie.close
-    (tie.spec
-    (λ c κs. search needs) (λ c. search needs) (λ c κs. search needs) (λ c. search needs) (λ c κs. search needs) (λ c. search needs) (λ c. search needs)
-    returns returns-2 returns-3)
+delay-of-spec = tie.close (tie.spec
+    (λ c κs. search needs) (λ c. search needs) (λ c κs. search needs) (λ c. search needs) (λ c κs. search needs) (λ c. search needs)
+    (λ c. search needs) returns returns-2 returns-3)

@@ -1,15 +1,10 @@
--- `genlib_groups::figure` meets its contract, by its digits and three decimals. Assumes nothing.
-use borrow.Author.Needs.{needs}
-use mathlib.Core.Path.{_≡_, refl, sym, ap, _∙_}
-use native.Mathlib.Omega.{arith}
-use Prim.Native.Nat.{ℕ, _+_, _-_, _*_, min}
-use mathlib.Core.List.{List, [], _∷_, _++_, append-assoc}
-use borrow.Author.Tests.{not-true, not-false}
-use lib.ListN.{take, getD}
-use Rattle.model.specs.Text.{asDigits}
-use Rattle.model.specs.GenlibWords.{isDigit, inThousandths}
-use Rattle.genlib_expression.specs.Places.{spanEnd}
-use Rattle.genlib_groups.proofs.Figures.{whole-is, three, decimal-byte, figure-broken, figure-long, figure-fits, figure-large, cap-digit}
+-- `genlib_groups::figure` meets its contract, by its digits and three decimals.
+use Rattle.base.specs.{needs, _≡_, refl, sym, ap, _∙_, arith, ℕ, _+_, _-_, _*_, min, List, [], _∷_, _++_, append-assoc, not-true, not-false}
+use Rattle.base.specs.{take, getD}
+use Rattle.model.specs.{asDigits, isDigit, inThousandths}
+use Rattle.genlib_expression.specs.{spanEnd}
+use Rattle.genlib_groups.proofs.Figures.{whole-is, three, decimal-byte, figure-broken, figure-long, figure-fits, figure-large}
+use Rattle.genlib_groups.proofs.Figures.{cap-digit}
 use Rattle.genlib_groups.proofs.figure.Statement.{statement}
 use Rattle.genlib_groups.proofs.figure.Tie as tie
 
@@ -78,8 +73,7 @@ returns-4 c =
     figure-large _ _ e (sym (c .before .before .before .before .before .before .before .before .before .before .before .is-figure .ensures) ∙ not-false _ (c .before .before .before .before .before .before .before .before .before .before .if1 .left)) (c .before .before .before .before .before .before .before .before .if2 .left) _ n (c .if3 .left)
 
 pub figure-spec : {M : Type 1} → statement M
-figure-spec =
-    tie.close
-    (tie.spec
-    (λ c κs. search needs) returns (λ c κs. search needs) add-if2 returns-2 whole-requires add-decimal (λ c κs. search needs) add-digit-requires
-    add-decimal-2 (λ c κs. search needs) add-digit-requires-2 add-decimal-3 (λ c κs. search needs) add-digit-requires-3 cast-t13 returns-3 returns-4)
+figure-spec = tie.close (tie.spec
+    (λ c κs. search needs) returns (λ c κs. search needs) add-if2 returns-2 whole-requires add-decimal (λ c κs. search needs)
+    add-digit-requires add-decimal-2 (λ c κs. search needs) add-digit-requires-2 add-decimal-3 (λ c κs. search needs) add-digit-requires-3
+    cast-t13 returns-3 returns-4)

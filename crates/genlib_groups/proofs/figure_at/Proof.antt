@@ -1,10 +1,7 @@
--- `genlib_groups::figure_at` meets its contract, by the token’s bytes. Assumes nothing.
-use mathlib.Core.Path.{ap, _∙_}
-use Prim.Native.Nat.{ℕ}
-use mathlib.Core.List.{List}
-use Rattle.model.specs.GenlibWords.{thousandths}
-use Rattle.genlib_groups.specs.Lines.{valueIn}
-use borrow.Author.Needs.{needs}
+-- `genlib_groups::figure_at` meets its contract, by the token’s bytes.
+use Rattle.base.specs.{ap, _∙_, ℕ, List, needs}
+use Rattle.model.specs.{thousandths}
+use Rattle.genlib_groups.specs.{valueIn}
 use Rattle.genlib_groups.proofs.figure_at.Statement.{statement}
 use Rattle.genlib_groups.proofs.figure_at.Tie as tie
 
@@ -21,7 +18,4 @@ returns : tie.Need-returns
 returns c = c .figure .ensures ∙ ap (λ (x : List ℕ). valueIn (thousandths x)) (c .before .before .nth .ensures .bytes)
 
 pub figure-at-spec : {M : Type 1} → statement M
-figure-at-spec =
-    tie.close
-    (tie.spec
-    (λ c κs. search needs) sub-figure part-figure-start part-figure-end (λ c κs. search needs) returns)
+figure-at-spec = tie.close (tie.spec (λ c κs. search needs) sub-figure part-figure-start part-figure-end (λ c κs. search needs) returns)

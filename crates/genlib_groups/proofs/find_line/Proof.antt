@@ -1,15 +1,10 @@
--- `genlib_groups::find_line` meets its contract. The invariant: the first line that fits is the first from here on; the measure is what is left of the text. Assumes nothing.
-use mathlib.Core.Path.{_≡_, refl, sym, ap, _∙_}
-use native.Mathlib.Omega.{arith}
-use native.Mathlib.Nat.{le-refl}
-use Prim.Native.Nat.{_-_, _≤_}
-use lib.ListN.{length}
-use borrow.Author.Tests.{lt-ltb, le-ltb}
-use Rattle.model.specs.Genlib.{fits, pinLine}
-use Rattle.genlib_groups.specs.Lines.{linesBehind}
+-- `genlib_groups::find_line` meets its contract. The invariant: the first line that fits is the first from here on; the measure is what is left of the text.
+use Rattle.base.specs.{_≡_, refl, sym, ap, _∙_, arith, le-refl, _-_, _≤_, length, lt-ltb, le-ltb, needs}
+use Rattle.model.specs.Genlib.{fits}
+use Rattle.model.specs.{pinLine}
+use Rattle.genlib_groups.specs.{linesBehind}
 use Rattle.genlib_groups.proofs.LineLaws.{bounded, starts-gate, tokens-at}
 use Rattle.genlib_groups.proofs.Grouping.{gate-here, line-here, none-here, lines-end, lines-more}
-use borrow.Author.Needs.{needs}
 use Rattle.genlib_groups.proofs.find_line.Statement.{statement}
 use Rattle.genlib_groups.proofs.find_line.Tie as tie
 
@@ -95,8 +90,6 @@ returns-3 c =
     ∙ sym (rw (le-ltb (l .at) (length (s .s .now)) (c .loop-test .left)))
 
 pub find-line-spec : {M : Type 1} → statement M
-find-line-spec =
-    tie.close
-    (tie.spec
-    Inv-loop μ-loop loop-holds (λ c κs. search needs) sub-names-gate part-names-gate-start part-names-gate-end (λ c κs. search needs) returns
-    sub-fits-line part-fits-line-start part-fits-line-end (λ c κs. search needs) returns-2 loop-less loop-again returns-3)
+find-line-spec = tie.close (tie.spec
+    Inv-loop μ-loop loop-holds (λ c κs. search needs) sub-names-gate part-names-gate-start part-names-gate-end (λ c κs. search needs)
+    returns sub-fits-line part-fits-line-start part-fits-line-end (λ c κs. search needs) returns-2 loop-less loop-again returns-3)

@@ -1,8 +1,7 @@
--- `genlib_groups::fits_line` meets its contract, by the line’s second token. Assumes nothing.
-use mathlib.Core.Path.{sym, ap, _∙_}
-use Rattle.model.specs.Base.{same}
+-- `genlib_groups::fits_line` meets its contract, by the line’s second token.
+use Rattle.base.specs.{sym, ap, _∙_, needs}
+use Rattle.model.specs.{same}
 use Rattle.model.specs.Genlib.{fits}
-use borrow.Author.Needs.{needs}
 use Rattle.genlib_groups.proofs.fits_line.Statement.{statement}
 use Rattle.genlib_groups.proofs.fits_line.Tie as tie
 
@@ -24,7 +23,6 @@ unfolding fits
 returns-2 c = rw (sym (c .before .before .before .before .is-sign .ensures) ∙ c .before .before .before .if1 .left) (c .same-bytes .ensures ∙ ap (same (c .before .before .before .before .before .before .before .args .name .now)) (c .before .before .nth .ensures .bytes))
 
 pub fits-line-spec : {M : Type 1} → statement M
-fits-line-spec =
-    tie.close
-    (tie.spec
-    (λ c κs. search needs) returns (λ c κs. search needs) sub-same-bytes part-same-bytes-start part-same-bytes-end (λ c κs. search needs) returns-2)
+fits-line-spec = tie.close (tie.spec
+    (λ c κs. search needs) returns (λ c κs. search needs) sub-same-bytes part-same-bytes-start part-same-bytes-end (λ c κs. search needs)
+    returns-2)

@@ -1,19 +1,10 @@
--- `genlib_groups::group_end` meets its contract, by the line and the lines behind it. Assumes nothing.
-use mathlib.Core.Path.{_≡_, refl, sym, ap, _∙_}
-use mathlib.Core.Bool.{Bool, true, false}
-use mathlib.Core.List.{List, _∷_}
-use Prim.Native.Nat.{ℕ, _≤_}
-use lib.Dec.{ltb}
-use lib.ListN.{length, drop}
-use borrow.Author.Tests.{ltb-true, ltb-false}
-use Rattle.model.specs.Text.{Line}
-use native.Mathlib.Omega.{arith}
-use Rattle.model.specs.Genlib.{Group, grouped, groups}
-use Rattle.base_text.specs.Lines.{lineAt}
-use Rattle.base_text.proofs.Bridge.{lines-at, lines-none}
-use Rattle.genlib_groups.specs.Lines.{linesOf, groupAt, startOf, behindGroup}
+-- `genlib_groups::group_end` meets its contract, by the line and the lines behind it.
+use Rattle.base.specs.{_≡_, refl, sym, ap, _∙_, Bool, true, false, List, _∷_, ℕ, _≤_, ltb, length, drop, ltb-true, ltb-false, arith, needs}
+use Rattle.model.specs.{Line, Group, grouped, groups}
+use Rattle.base_text.specs.{lineAt}
+use Rattle.base_text.proofs.{lines-at, lines-none}
+use Rattle.genlib_groups.specs.{linesOf, groupAt, startOf, behindGroup}
 use Rattle.genlib_groups.proofs.LineLaws.{bounded}
-use borrow.Author.Needs.{needs}
 use Rattle.genlib_groups.proofs.group_end.Statement.{statement}
 use Rattle.genlib_groups.proofs.group_end.Tie as tie
 
@@ -47,6 +38,4 @@ returns c =
     (omega (arith, b .later, n .0), n .1, next, behind (s .s .now) (s .at) (c .next-gate .result) (n .1) next)
 
 pub group-end-spec : {M : Type 1} → statement M
-group-end-spec = tie.close
-    (tie.spec
-    (λ c κs. search needs) next-gate-requires returns)
+group-end-spec = tie.close (tie.spec (λ c κs. search needs) next-gate-requires returns)

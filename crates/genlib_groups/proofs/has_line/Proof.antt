@@ -1,8 +1,7 @@
--- `genlib_groups::has_line` meets its contract, by whether the token is a pin. Assumes nothing.
-use mathlib.Core.Path.{sym, _∙_}
-use Rattle.genlib_groups.specs.Lines.{pinHas, linesBehind}
+-- `genlib_groups::has_line` meets its contract, by whether the token is a pin.
+use Rattle.base.specs.{sym, _∙_, needs}
+use Rattle.genlib_groups.specs.{pinHas, linesBehind}
 use Rattle.genlib_groups.proofs.Grouping.{has-found}
-use borrow.Author.Needs.{needs}
 use Rattle.genlib_groups.proofs.has_line.Statement.{statement}
 use Rattle.genlib_groups.proofs.has_line.Tie as tie
 
@@ -15,6 +14,4 @@ unfolding pinHas
 returns-2 c = rw (sym (c .before .is-pin .ensures) ∙ c .if1 .left)
 
 pub has-line-spec : {M : Type 1} → statement M
-has-line-spec = tie.close
-    (tie.spec
-    (λ c κs. search needs) (λ c κs. search needs) returns returns-2)
+has-line-spec = tie.close (tie.spec (λ c κs. search needs) (λ c κs. search needs) returns returns-2)

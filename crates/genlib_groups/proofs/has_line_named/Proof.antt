@@ -1,12 +1,8 @@
--- `genlib_groups::has_line_named` meets its contract, by the part of the line that is the word. Assumes nothing.
-use mathlib.Core.Path.{sym, ap, _∙_}
-use native.Mathlib.Omega.{arith}
-use Prim.Native.Nat.{ℕ, _-_}
-use lib.ListN.{take, drop}
-use Rattle.model.specs.GenlibWords.{isWordByte}
-use Rattle.genlib_groups.specs.Lines.{linesBehind, pinHas}
-use Rattle.genlib_expression.proofs.Spans.{span-from, span-part, span-past}
-use borrow.Author.Needs.{needs}
+-- `genlib_groups::has_line_named` meets its contract, by the part of the line that is the word.
+use Rattle.base.specs.{sym, ap, _∙_, arith, ℕ, _-_, take, drop, needs}
+use Rattle.model.specs.{isWordByte}
+use Rattle.genlib_expression.proofs.{span-from, span-part, span-past}
+use Rattle.genlib_groups.specs.{linesBehind, pinHas}
 use Rattle.genlib_groups.proofs.has_line_named.Statement.{statement}
 use Rattle.genlib_groups.proofs.has_line_named.Tie as tie
 
@@ -26,8 +22,6 @@ returns-2 c =
     c .has-line2 .ensures ∙ ap (pinHas (linesBehind (s .s .now) (s .from))) (sym (span-past isWordByte (s .w .now) (s .at) _ (e .word-end .ensures) (c .before .before .if1 .left)))
 
 pub has-line-named-spec : {M : Type 1} → statement M
-has-line-named-spec =
-    tie.close
-    (tie.spec
-    (λ c κs. search needs) start start (λ c. search needs) (λ c κs. search needs) (λ c. search needs) (λ c κs. search needs)
-    returns returns-2)
+has-line-named-spec = tie.close (tie.spec
+    (λ c κs. search needs) start start (λ c. search needs) (λ c κs. search needs) (λ c. search needs) (λ c κs. search needs) returns
+    returns-2)

@@ -1,8 +1,6 @@
--- `genlib_groups::is_digit` meets its contract, by the tests of the `match`. Assumes nothing.
-use native.Mathlib.Omega.{arith}
-use borrow.Author.Tests.{le-leb, lt-leb}
-use Rattle.model.specs.Text.{between}
-use Rattle.model.specs.GenlibWords.{isDigit}
+-- `genlib_groups::is_digit` meets its contract, by the tests of the `match`.
+use Rattle.base.specs.{arith, le-leb, lt-leb}
+use Rattle.model.specs.{between, isDigit}
 use Rattle.genlib_groups.proofs.is_digit.Statement.{statement}
 use Rattle.genlib_groups.proofs.is_digit.Tie as tie
 

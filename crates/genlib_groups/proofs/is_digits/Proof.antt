@@ -1,10 +1,6 @@
--- `genlib_groups::is_digits` meets its contract, since digits reach just to where all bytes are theirs. Assumes nothing.
-use mathlib.Core.Path.{sym, ap, _∙_}
-use Prim.Native.Nat.{ℕ}
-use lib.Dec.{eqb}
-use lib.ListN.{length}
+-- `genlib_groups::is_digits` meets its contract, since digits reach just to where all bytes are theirs.
+use Rattle.base.specs.{sym, ap, _∙_, ℕ, eqb, length, needs}
 use Rattle.genlib_groups.proofs.Figures.{digits-empty, digits-all}
-use borrow.Author.Needs.{needs}
 use Rattle.genlib_groups.proofs.is_digits.Statement.{statement}
 use Rattle.genlib_groups.proofs.is_digits.Tie as tie
 
@@ -15,6 +11,4 @@ returns-2 : tie.Need-returns-2
 returns-2 c = sym (digits-all _ (c .before .if1 .left) ∙ ap (λ (n : ℕ). eqb n (length (c .before .before .before .args .w .now))) (sym (c .digits-end .ensures)))
 
 pub is-digits-spec : {M : Type 1} → statement M
-is-digits-spec = tie.close
-    (tie.spec
-    returns (λ c κs. search needs) returns-2)
+is-digits-spec = tie.close (tie.spec returns (λ c κs. search needs) returns-2)

@@ -1,12 +1,7 @@
--- `genlib_groups::is_figure` meets its contract, by where its digits end. Assumes nothing.
-use lib.ListN.{length, drop, length-drop}
-use Prim.Native.Nat.{_+_, _-_}
-use lib.Seq.{take-all}
-use Rattle.model.specs.GenlibWords.{isDigits}
-use mathlib.Core.Path.{sym, ap, _∙_}
-use native.Mathlib.Omega.{arith}
+-- `genlib_groups::is_figure` meets its contract, by where its digits end.
+use Rattle.base.specs.{length, drop, length-drop, _+_, _-_, take-all, sym, ap, _∙_, arith, needs}
+use Rattle.model.specs.{isDigits}
 use Rattle.genlib_groups.proofs.Figures.{figure-none, figure-whole, figure-other, figure-point}
-use borrow.Author.Needs.{needs}
 use Rattle.genlib_groups.proofs.is_figure.Statement.{statement}
 use Rattle.genlib_groups.proofs.is_figure.Tie as tie
 
@@ -26,8 +21,6 @@ returns-4 c =
     c .is-digits .ensures ∙ ap isDigits (take-all (length w - (end + 1)) (drop (end + 1) w) (omega (arith, length-drop (end + 1) w))) ∙ sym (figure-point w end (c .before .before .before .before .before .before .digits-end .ensures) (c .before .before .before .before .before .if1 .left) (c .before .before .before .before .if2 .left) (c .before .before .if3 .left))
 
 pub is-figure-spec : {M : Type 1} → statement M
-is-figure-spec =
-    tie.close
-    (tie.spec
+is-figure-spec = tie.close (tie.spec
     (λ c κs. search needs) returns returns-2 (λ c. search needs) returns-3 (λ c. search needs) (λ c. search needs) (λ c. search needs)
     (λ c. search needs) (λ c κs. search needs) returns-4)

@@ -1,9 +1,6 @@
--- `genlib_groups::is_gate` meets its contract, by its tests. Assumes nothing.
-use mathlib.Core.Path.{sym, ap, _∙_}
-use borrow.Author.Tests.{not-true, not-false}
-use Rattle.model.specs.Genlib.{isGateLine}
-use Rattle.model.specs.GenlibFormula.{formed}
-use borrow.Author.Needs.{needs}
+-- `genlib_groups::is_gate` meets its contract, by its tests.
+use Rattle.base.specs.{sym, ap, _∙_, not-true, not-false, needs}
+use Rattle.model.specs.{isGateLine, formed}
 use Rattle.genlib_groups.proofs.is_gate.Statement.{statement}
 use Rattle.genlib_groups.proofs.is_gate.Tie as tie
 
@@ -19,7 +16,4 @@ unfolding isGateLine
 returns-2 c = rw (sym (c .before .before .before .is-gate-head .ensures) ∙ not-false _ (c .before .before .if1 .left)) (c .is-formed .ensures ∙ ap formed (c .before .nth .ensures .rest))
 
 pub is-gate-spec : {M : Type 1} → statement M
-is-gate-spec =
-    tie.close
-    (tie.spec
-    (λ c κs. search needs) returns (λ c κs. search needs) is-formed-requires returns-2)
+is-gate-spec = tie.close (tie.spec (λ c κs. search needs) returns (λ c κs. search needs) is-formed-requires returns-2)

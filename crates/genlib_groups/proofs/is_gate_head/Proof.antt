@@ -1,9 +1,6 @@
--- `genlib_groups::is_gate_head` meets its contract, by its tests. Assumes nothing.
-use mathlib.Core.Path.{sym, _∙_}
-use borrow.Author.Tests.{not-true, not-false}
-use Rattle.model.specs.Text.{text}
-use Rattle.model.specs.Genlib.{gateHead}
-use borrow.Author.Needs.{needs}
+-- `genlib_groups::is_gate_head` meets its contract, by its tests.
+use Rattle.base.specs.{sym, _∙_, not-true, not-false, needs}
+use Rattle.model.specs.{text, gateHead}
 use Rattle.genlib_groups.proofs.is_gate_head.Statement.{statement}
 use Rattle.genlib_groups.proofs.is_gate_head.Tie as tie
 
@@ -28,8 +25,6 @@ unfolding gateHead text
 returns-5 c = rw (sym (c .before .before .before .before .before .before .before .before .is-text .ensures) ∙ not-false _ (c .before .before .before .before .before .before .before .if1 .left), sym (c .before .before .before .before .before .before .is-name .ensures) ∙ not-false _ (c .before .before .before .before .before .if2 .left), sym (c .before .before .before .before .is-figure-at .ensures) ∙ not-false _ (c .before .before .before .if3 .left), sym (c .before .before .is-name2 .ensures) ∙ not-false _ (c .before .if4 .left)) (c .is-sign .ensures)
 
 pub is-gate-head-spec : {M : Type 1} → statement M
-is-gate-head-spec =
-    tie.close
-    (tie.spec
-    (λ c. search needs) (λ c κs. search needs) returns (λ c κs. search needs) returns-2 (λ c κs. search needs) returns-3 (λ c κs. search needs)
-    returns-4 (λ c κs. search needs) returns-5)
+is-gate-head-spec = tie.close (tie.spec
+    (λ c. search needs) (λ c κs. search needs) returns (λ c κs. search needs) returns-2 (λ c κs. search needs) returns-3
+    (λ c κs. search needs) returns-4 (λ c κs. search needs) returns-5)

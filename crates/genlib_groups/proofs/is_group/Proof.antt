@@ -1,9 +1,7 @@
--- `genlib_groups::is_group` meets its contract, by its tests. Assumes nothing.
-use mathlib.Core.Path.{sym, ap, _∙_}
-use borrow.Author.Tests.{not-true, not-false}
-use Rattle.model.specs.Base.{all}
-use Rattle.genlib_groups.specs.Lines.{groupIs}
-use borrow.Author.Needs.{needs}
+-- `genlib_groups::is_group` meets its contract, by its tests.
+use Rattle.base.specs.{sym, ap, _∙_, not-true, not-false, needs}
+use Rattle.model.specs.{all}
+use Rattle.genlib_groups.specs.{groupIs}
 use Rattle.genlib_groups.proofs.is_group.Statement.{statement}
 use Rattle.genlib_groups.proofs.is_group.Tie as tie
 
@@ -23,7 +21,5 @@ unfolding groupIs
 returns-3 c = rw (sym (c .before .before .before .before .before .is-gate .ensures) ∙ not-false _ (c .before .before .before .before .if1 .left), sym (c .before .before .before .all-pin-lines .ensures) ∙ not-false _ (c .before .before .if2 .left)) (c .all-have-lines .ensures ∙ ap (all _) (c .before .nth .ensures .rest))
 
 pub is-group-spec : {M : Type 1} → statement M
-is-group-spec =
-    tie.close
-    (tie.spec
+is-group-spec = tie.close (tie.spec
     (λ c κs. search needs) returns (λ c κs. search needs) returns-2 (λ c κs. search needs) all-have-lines-requires returns-3)

@@ -1,7 +1,6 @@
--- `genlib_groups::is_name` meets its contract, by the token’s bytes. Assumes nothing.
-use mathlib.Core.Path.{ap, _∙_}
-use Rattle.model.specs.GenlibWords.{isWord}
-use borrow.Author.Needs.{needs}
+-- `genlib_groups::is_name` meets its contract, by the token’s bytes.
+use Rattle.base.specs.{ap, _∙_, needs}
+use Rattle.model.specs.{isWord}
 use Rattle.genlib_groups.proofs.is_name.Statement.{statement}
 use Rattle.genlib_groups.proofs.is_name.Tie as tie
 
@@ -18,7 +17,4 @@ returns : tie.Need-returns
 returns c = c .is-word .ensures ∙ ap isWord (c .before .before .nth .ensures .bytes)
 
 pub is-name-spec : {M : Type 1} → statement M
-is-name-spec =
-    tie.close
-    (tie.spec
-    (λ c κs. search needs) sub-is-word part-is-word-start part-is-word-end (λ c κs. search needs) returns)
+is-name-spec = tie.close (tie.spec (λ c κs. search needs) sub-is-word part-is-word-start part-is-word-end (λ c κs. search needs) returns)

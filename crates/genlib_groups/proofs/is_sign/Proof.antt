@@ -1,13 +1,7 @@
--- `genlib_groups::is_sign` meets its contract, by the token’s first byte. Assumes nothing.
-use mathlib.Core.Path.{sym, ap, _∙_}
-use native.Mathlib.Omega.{arith}
-use Prim.Native.Nat.{ℕ}
-use lib.Dec.{eqb}
-use borrow.Author.Tests.{ne-eqb}
-use Rattle.model.specs.GenlibWords.{isSign, lead}
-use Rattle.genlib_expression.proofs.Tokens.{lead-part}
-use Rattle.genlib_expression.proofs.Scanning.{lead-none}
-use borrow.Author.Needs.{needs}
+-- `genlib_groups::is_sign` meets its contract, by the token’s first byte.
+use Rattle.base.specs.{sym, ap, _∙_, arith, ℕ, eqb, ne-eqb, needs}
+use Rattle.model.specs.{isSign, lead}
+use Rattle.genlib_expression.proofs.{lead-part, lead-none}
 use Rattle.genlib_groups.proofs.is_sign.Statement.{statement}
 use Rattle.genlib_groups.proofs.is_sign.Tie as tie
 
@@ -23,6 +17,4 @@ unfolding isSign
 returns-2 c = sym (ap (λ (x : ℕ). eqb x (c .before .before .before .before .args .b)) (sym (ap lead (c .before .before .nth .ensures .bytes)) ∙ lead-none (c .before .before .before .before .args .w .now) _ _ (c .if1 .left)) ∙ ne-eqb 0 (c .before .before .before .before .args .b) (λ e. omega (arith, c .before .before .before .before .pre)))
 
 pub is-sign-spec : {M : Type 1} → statement M
-is-sign-spec = tie.close
-    (tie.spec
-    (λ c κs. search needs) shared-slice-read-result returns returns-2)
+is-sign-spec = tie.close (tie.spec (λ c κs. search needs) shared-slice-read-result returns returns-2)

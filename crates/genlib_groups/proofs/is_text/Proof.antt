@@ -1,9 +1,6 @@
--- `genlib_groups::is_text` meets its contract, by the token’s bytes. Assumes nothing.
-use mathlib.Core.Path.{ap, _∙_}
-use Rattle.model.specs.Base.{same}
-use mathlib.Core.List.{List}
-use Prim.Native.Nat.{ℕ}
-use borrow.Author.Needs.{needs}
+-- `genlib_groups::is_text` meets its contract, by the token’s bytes.
+use Rattle.base.specs.{ap, _∙_, List, ℕ, needs}
+use Rattle.model.specs.{same}
 use Rattle.genlib_groups.proofs.is_text.Statement.{statement}
 use Rattle.genlib_groups.proofs.is_text.Tie as tie
 
@@ -20,7 +17,5 @@ returns : tie.Need-returns
 returns c = c .same-bytes .ensures ∙ ap (λ (x : List ℕ). same x (c .before .before .before .before .before .args .t .now)) (c .before .before .nth .ensures .bytes)
 
 pub is-text-spec : {M : Type 1} → statement M
-is-text-spec =
-    tie.close
-    (tie.spec
+is-text-spec = tie.close (tie.spec
     (λ c κs. search needs) sub-same-bytes part-same-bytes-start part-same-bytes-end (λ c κs. search needs) returns)

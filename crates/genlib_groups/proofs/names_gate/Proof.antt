@@ -1,13 +1,8 @@
--- `genlib_groups::names_gate` meets its contract, by the line’s first word. Assumes nothing.
-use mathlib.Core.Path.{ap, _∙_}
-use native.Mathlib.Omega.{arith}
+-- `genlib_groups::names_gate` meets its contract, by the line’s first word.
+use Rattle.base.specs.{ap, _∙_, arith, List, ℕ, needs}
+use Rattle.model.specs.{same, text}
 use Rattle.genlib_groups.proofs.LineLaws.{gate-part, gate-bounds}
-use Rattle.model.specs.Base.{same}
-use Rattle.genlib_groups.specs.Lines.{gateWord}
-use Rattle.model.specs.Text.{text}
-use mathlib.Core.List.{List}
-use Prim.Native.Nat.{ℕ}
-use borrow.Author.Needs.{needs}
+use Rattle.genlib_groups.specs.{gateWord}
 use Rattle.genlib_groups.proofs.names_gate.Statement.{statement}
 use Rattle.genlib_groups.proofs.names_gate.Tie as tie
 
@@ -25,8 +20,6 @@ returns-2 : tie.Need-returns-2
 returns-2 c = absurd (omega (arith, gate-bounds _ _ _ (c .before .before .skip .ensures) (c .before .name-end .ensures) .1))
 
 pub names-gate-spec : {M : Type 1} → statement M
-names-gate-spec =
-    tie.close
-    (tie.spec
-    (λ c κs. search needs) (λ c κs. search needs) sub-same-bytes part-same-bytes-start (λ c. search needs) (λ c. search needs) (λ c κs. search needs)
-    returns returns-2)
+names-gate-spec = tie.close (tie.spec
+    (λ c κs. search needs) (λ c κs. search needs) sub-same-bytes part-same-bytes-start (λ c. search needs) (λ c. search needs)
+    (λ c κs. search needs) returns returns-2)

@@ -1,14 +1,9 @@
--- `genlib_groups::next_gate` meets its contract. The invariant: the groups behind the lines from here on are those behind the lines from the start; the measure is what is left of the text. Assumes nothing.
-use mathlib.Core.Path.{_≡_, refl, sym, _∙_}
-use native.Mathlib.Omega.{arith}
-use native.Mathlib.Nat.{le-refl}
-use Prim.Native.Nat.{_-_, _≤_}
-use lib.ListN.{length}
-use Rattle.model.specs.Genlib.{grouped}
-use Rattle.genlib_groups.specs.Lines.{linesOf}
+-- `genlib_groups::next_gate` meets its contract. The invariant: the groups behind the lines from here on are those behind the lines from the start; the measure is what is left of the text.
+use Rattle.base.specs.{_≡_, refl, sym, _∙_, arith, le-refl, _-_, _≤_, length, needs}
+use Rattle.model.specs.{grouped}
+use Rattle.genlib_groups.specs.{linesOf}
 use Rattle.genlib_groups.proofs.LineLaws.{bounded, starts-gate}
 use Rattle.genlib_groups.proofs.Grouping.{gate-here, line-here, none-here}
-use borrow.Author.Needs.{needs}
 use Rattle.genlib_groups.proofs.next_gate.Statement.{statement}
 use Rattle.genlib_groups.proofs.next_gate.Tie as tie
 
@@ -54,8 +49,6 @@ returns-2 : tie.Need-returns-2 Inv-loop μ-loop
 returns-2 c = let i = c .before .loop .inv in (i .0, i .1, i .2 ∙ none-here _ _ (c .loop-test .left) .1)
 
 pub next-gate-spec : {M : Type 1} → statement M
-next-gate-spec =
-    tie.close
-    (tie.spec
-    Inv-loop μ-loop loop-holds (λ c κs. search needs) sub-names-gate part-names-gate-start part-names-gate-end (λ c κs. search needs) returns
-    loop-less loop-again returns-2)
+next-gate-spec = tie.close (tie.spec
+    Inv-loop μ-loop loop-holds (λ c κs. search needs) sub-names-gate part-names-gate-start part-names-gate-end (λ c κs. search needs)
+    returns loop-less loop-again returns-2)

@@ -1,15 +1,10 @@
--- `genlib_groups::tokens_have_lines` meets its contract. The invariant: all pins have their lines where all that are left do; the measure is what is left of the line. Assumes nothing.
-use mathlib.Core.Path.{_≡_, refl, sym, ap, _∙_}
-use native.Mathlib.Omega.{arith}
-use Prim.Native.Nat.{_-_, _≤_}
-use borrow.Author.Tests.{not-true, not-false}
-use lib.ListN.{length}
-use Rattle.model.specs.Base.{all}
-use Rattle.genlib_expression.specs.Places.{restAt}
-use Rattle.genlib_groups.specs.Lines.{pinHas, linesBehind}
-use Rattle.genlib_expression.proofs.Walk.{step, nothing-left, all-turn}
+-- `genlib_groups::tokens_have_lines` meets its contract. The invariant: all pins have their lines where all that are left do; the measure is what is left of the line.
+use Rattle.base.specs.{_≡_, refl, sym, ap, _∙_, arith, _-_, _≤_, not-true, not-false, length, needs}
+use Rattle.model.specs.{all}
+use Rattle.genlib_expression.specs.{restAt}
+use Rattle.genlib_expression.proofs.{step, nothing-left, all-turn}
+use Rattle.genlib_groups.specs.{pinHas, linesBehind}
 use Rattle.genlib_groups.proofs.Grouping.{has-none}
-use borrow.Author.Needs.{needs}
 use Rattle.genlib_groups.proofs.tokens_have_lines.Statement.{statement}
 use Rattle.genlib_groups.proofs.tokens_have_lines.Tie as tie
 
@@ -48,8 +43,6 @@ unfolding all
 returns-2 c = let l = c .before .loop in sym (l .inv .2 ∙ ap (all _) (nothing-left _ _ (c .loop-test .left)))
 
 pub tokens-have-lines-spec : {M : Type 1} → statement M
-tokens-have-lines-spec =
-    tie.close
-    (tie.spec
+tokens-have-lines-spec = tie.close (tie.spec
     Inv-loop μ-loop loop-holds (λ c κs. search needs) sub-has-line part-has-line-start part-has-line-end has-line-requires returns loop-less
     loop-again returns-2)

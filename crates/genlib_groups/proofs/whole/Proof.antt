@@ -1,14 +1,6 @@
--- `genlib_groups::whole` meets its contract. The invariant: the number so far is that of the digits passed; the measure is what is left of them. Assumes nothing.
-use borrow.Author.Needs.{needs}
-use mathlib.Core.Path.{_≡_, refl, sym, ap, _∙_}
-use native.Mathlib.Omega.{arith}
-use Prim.Native.Nat.{ℕ, _-_, _≤_, min}
-use mathlib.Core.Bool.{true}
-use mathlib.Core.List.{List}
-use lib.ListN.{take, getD}
-use lib.Seq.{length-take-le, getD-take}
-use Rattle.model.specs.Text.{asDigits}
-use Rattle.model.specs.GenlibWords.{isDigit}
+-- `genlib_groups::whole` meets its contract. The invariant: the number so far is that of the digits passed; the measure is what is left of them.
+use Rattle.base.specs.{needs, _≡_, refl, sym, ap, _∙_, arith, ℕ, _-_, _≤_, min, true, List, take, getD, length-take-le, getD-take}
+use Rattle.model.specs.{asDigits, isDigit}
 use Rattle.genlib_groups.proofs.Figures.{cap-digit, take-more, digit-bounds, all-at}
 use Rattle.genlib_groups.proofs.whole.Statement.{statement}
 use Rattle.genlib_groups.proofs.whole.Tie as tie
@@ -51,7 +43,5 @@ returns c =
     l .inv .1 ∙ ap (λ (k : ℕ). min 65536 (asDigits 0 (take k (c .before .before .before .args .w .now)))) e
 
 pub whole-spec : {M : Type 1} → statement M
-whole-spec =
-    tie.close
-    (tie.spec
+whole-spec = tie.close (tie.spec
     Inv-loop μ-loop loop-holds shared-slice-read-add-digit add-digit-requires (λ c. search needs) (λ c. search needs) loop-again returns)

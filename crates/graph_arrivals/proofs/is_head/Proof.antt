@@ -1,10 +1,7 @@
--- `graph_arrivals::is_head` meets its contract: a line that has its end, and the part of the text that is its contents. Assumes nothing.
-use borrow.Author.Needs.{needs}
-use borrow.Author.Tests.{lt-ltb, le-ltb}
-use mathlib.Core.Path.{sym}
-use lib.Seq.{length-take-le}
-use Rattle.model.specs.Text.{text}
-use Rattle.graph_arrivals.specs.Reading.{headLine, isHead}
+-- `graph_arrivals::is_head` meets its contract: a line that has its end, and the part of the text that is its contents.
+use Rattle.base.specs.{needs, lt-ltb, le-ltb, sym, length-take-le}
+use Rattle.model.specs.{text}
+use Rattle.graph_arrivals.specs.{headLine, isHead}
 use Rattle.graph_arrivals.proofs.is_head.Statement.{statement}
 use Rattle.graph_arrivals.proofs.is_head.Tie as tie
 

@@ -1,8 +1,6 @@
--- `graph_arrivals::judge` meets its contract: each return knows the tests that led there. Assumes nothing.
-use borrow.Author.Needs.{needs}
-use mathlib.Core.Path.{sym, _∙_}
-use native.Mathlib.Omega.{arith}
-use Rattle.graph_arrivals.specs.Reading.{judgedAt}
+-- `graph_arrivals::judge` meets its contract: each return knows the tests that led there.
+use Rattle.base.specs.{needs, sym, _∙_, arith}
+use Rattle.graph_arrivals.specs.{judgedAt}
 use Rattle.graph_arrivals.proofs.Lines.{judged-over, judged-again, judged-fresh}
 use Rattle.graph_arrivals.proofs.judge.Statement.{statement}
 use Rattle.graph_arrivals.proofs.judge.Tie as tie

@@ -1,13 +1,9 @@
--- `graph_arrivals::read` meets its contract: no text, or the first line and then the lines from where the next begins. Assumes nothing.
-use borrow.Author.Needs.{needs}
-use mathlib.Core.Path.{_≡_, sym, ap, _∙_}
-use mathlib.Core.List.{List}
-use native.Mathlib.Omega.{arith}
-use Rattle.model.specs.Reading.{Read, verdictOf, rulingOf, verdictRuling}
-use Rattle.model.specs.ArrivalsText.{Late}
+-- `graph_arrivals::read` meets its contract: no text, or the first line and then the lines from where the next begins.
+use Rattle.base.specs.{needs, _≡_, sym, ap, _∙_, List, arith}
+use Rattle.model.specs.{Read, verdictOf, rulingOf, verdictRuling, Late}
 use Rattle.model.specs.declared.Verdict.{Verdict}
-use Rattle.model.proofs.Answers.{verdict-ruled}
-use Rattle.graph_arrivals.specs.Storing.{putAll}
+use Rattle.model.proofs.{verdict-ruled}
+use Rattle.graph_arrivals.specs.{putAll}
 use Rattle.graph_arrivals.proofs.First.{none-listed, first-fits, head-not, head-read, head-listed}
 use Rattle.graph_arrivals.proofs.read.Statement.{statement}
 use Rattle.graph_arrivals.proofs.read.Tie as tie

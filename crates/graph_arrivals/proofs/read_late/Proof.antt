@@ -1,7 +1,6 @@
--- `graph_arrivals::read_late` meets its contract: each return knows what the reads that led there found. Assumes nothing.
-use mathlib.Core.Path.{sym, _∙_}
-use Rattle.graph_arrivals.specs.Reading.{entryAt}
-use borrow.Author.Needs.{needs}
+-- `graph_arrivals::read_late` meets its contract: each return knows what the reads that led there found.
+use Rattle.base.specs.{sym, _∙_, needs}
+use Rattle.graph_arrivals.specs.{entryAt}
 use Rattle.graph_arrivals.proofs.read_late.Statement.{statement}
 use Rattle.graph_arrivals.proofs.read_late.Tie as tie
 

@@ -1,10 +1,5 @@
 -- `graph_arrivals::read_lines` meets its contract. The invariant: what the lines from here on give with what is stored and marked is what the text gives; the measure is what is left of the text.
--- Assumes nothing.
-use borrow.Author.Needs.{needs}
-use mathlib.Core.Path.{sym, ap, _∙_}
-use Prim.Native.Nat.{ℕ, _-_}
-use native.Mathlib.Omega.{arith}
-use lib.ListN.{length, set}
+use Rattle.base.specs.{needs, sym, ap, _∙_, ℕ, _-_, arith, length, set}
 use Rattle.graph_arrivals.proofs.Lines.{judged-good}
 use Rattle.graph_arrivals.proofs.Turns.{SoFar, so-far-first, so-far-last, so-far-stop, so-far-more}
 use Rattle.graph_arrivals.proofs.read_lines.Statement.{statement}

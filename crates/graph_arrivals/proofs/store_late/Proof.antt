@@ -1,12 +1,7 @@
--- `graph_arrivals::store_late` meets its contract: the variable is the one in the input's slot. Assumes nothing.
-use borrow.Author.Needs.{needs}
-use mathlib.Core.Path.{ap, _∙_}
-use mathlib.Core.List.{_∷_, []}
-use Prim.Native.Nat.{ℕ, _+_}
-use native.Mathlib.Omega.{arith}
-use Rattle.base_words.specs.Put.{putAt}
-use Rattle.base_words.specs.Layout.{slotAt, lateAddr}
-use Rattle.graph_arrivals.specs.Storing.{putLate}
+-- `graph_arrivals::store_late` meets its contract: the variable is the one in the input's slot.
+use Rattle.base.specs.{needs, ap, _∙_, _∷_, [], ℕ, _+_, arith}
+use Rattle.base_words.specs.{putAt, slotAt, lateAddr}
+use Rattle.graph_arrivals.specs.{putLate}
 use Rattle.graph_arrivals.proofs.store_late.Statement.{statement}
 use Rattle.graph_arrivals.proofs.store_late.Tie as tie
 

@@ -1,7 +1,6 @@
--- `graph_binary::gate_turn` meets its contract: each return knows what the AND was found to be. Assumes nothing.
-use mathlib.Core.Path.{sym, _∙_}
+-- `graph_binary::gate_turn` meets its contract: each return knows what the AND was found to be.
+use Rattle.base.specs.{sym, _∙_, needs}
 use Rattle.graph_binary.proofs.Passes.{turn-gate, turn-refused, gate-fit}
-use borrow.Author.Needs.{needs}
 use Rattle.graph_binary.proofs.gate_turn.Statement.{statement}
 use Rattle.graph_binary.proofs.gate_turn.Tie as tie
 

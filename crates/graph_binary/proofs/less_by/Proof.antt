@@ -1,9 +1,6 @@
--- `graph_binary::less_by` meets its contract: each return knows the difference that was found, and the tests that led there. Assumes nothing.
-use mathlib.Core.Path.{sym, _∙_}
-use mathlib.Core.Logic.{⊎-elim}
-use borrow.Author.Tests.{ne-eqb}
+-- `graph_binary::less_by` meets its contract: each return knows the difference that was found, and the tests that led there.
+use Rattle.base.specs.{sym, _∙_, ⊎-elim, ne-eqb, needs}
 use Rattle.graph_binary.proofs.Gates.{less-broken, less-zero, less-over, less-is}
-use borrow.Author.Needs.{needs}
 use Rattle.graph_binary.proofs.less_by.Statement.{statement}
 use Rattle.graph_binary.proofs.less_by.Tie as tie
 use Rattle.base_text.proofs.Cursor.difference.Reads as difference-reads

@@ -1,6 +1,6 @@
--- `graph_binary::load_binary` meets its contract, by the laws of its three passes. Assumes nothing.
-use borrow.Author.Needs.{needs}
-use Rattle.graph_placing.proofs.Slots.{fit-length, fit-room}
+-- `graph_binary::load_binary` meets its contract, by the laws of its three passes.
+use Rattle.base.specs.{needs}
+use Rattle.graph_placing.proofs.{fit-length, fit-room}
 use Rattle.graph_binary.proofs.Loads.{header-fit, load-done, load-stop}
 use Rattle.graph_binary.proofs.load_binary.Statement.{statement}
 use Rattle.graph_binary.proofs.load_binary.Tie as tie

@@ -1,9 +1,7 @@
--- `graph_binary::output_turn` meets its contract: each return knows what the line was found to be. Assumes nothing.
-use mathlib.Core.Path.{sym, _∙_}
-use borrow.Author.Tests.{not-true, not-false}
-use Rattle.graph_loading.proofs.Tests.{fit-known}
+-- `graph_binary::output_turn` meets its contract: each return knows what the line was found to be.
+use Rattle.base.specs.{sym, _∙_, not-true, not-false, needs}
+use Rattle.graph_loading.proofs.{fit-known}
 use Rattle.graph_binary.proofs.Passes.{turn-missing, turn-broken, turn-over, turn-output}
-use borrow.Author.Needs.{needs}
 use Rattle.graph_binary.proofs.output_turn.Statement.{statement}
 use Rattle.graph_binary.proofs.output_turn.Tie as tie
 

@@ -1,7 +1,6 @@
--- `graph_binary::read_gate` meets its contract: each return knows what the two differences left. Assumes nothing.
-use mathlib.Core.Path.{sym, _∙_}
-use Rattle.graph_binary.specs.Gates.{gateAt}
-use borrow.Author.Needs.{needs}
+-- `graph_binary::read_gate` meets its contract: each return knows what the two differences left.
+use Rattle.base.specs.{sym, _∙_, needs}
+use Rattle.graph_binary.specs.{gateAt}
 use Rattle.graph_binary.proofs.read_gate.Statement.{statement}
 use Rattle.graph_binary.proofs.read_gate.Tie as tie
 

@@ -1,11 +1,7 @@
 -- `graph_binary::read_gates` meets its contract. The invariant: what the ANDs from here on give is what all give; the measure is those that are left.
--- Assumes nothing.
-use mathlib.Core.Path.{sym, ap, _∙_}
-use Prim.Native.Nat.{_+_, _-_}
-use native.Mathlib.Omega.{arith}
-use borrow.Author.Needs.{needs}
-use Rattle.graph_placing.proofs.Slots.{fit-length}
-use Rattle.graph_binary.specs.Passes.{gateTurn, gateLeft, asVerdict}
+use Rattle.base.specs.{sym, ap, _∙_, _+_, _-_, arith, needs}
+use Rattle.graph_placing.proofs.{fit-length}
+use Rattle.graph_binary.specs.{gateTurn, gateLeft, asVerdict}
 use Rattle.graph_binary.proofs.Passes.{Rest, rest-first, rest-on, rest-stop, rest-end}
 use Rattle.graph_binary.proofs.read_gates.Statement.{statement}
 use Rattle.graph_binary.proofs.read_gates.Tie as tie

@@ -1,11 +1,7 @@
 -- `graph_binary::read_outputs` meets its contract. The invariant: what the output lines from here on give is what all give; the measure is those that are left.
--- Assumes nothing.
-use mathlib.Core.Path.{sym, _∙_}
-use Prim.Native.Nat.{_+_, _-_}
-use native.Mathlib.Omega.{arith}
-use borrow.Author.Needs.{needs}
-use Rattle.graph_placing.proofs.Slots.{fit-length}
-use Rattle.graph_binary.specs.Passes.{outputTurn, outputLeft}
+use Rattle.base.specs.{sym, _∙_, _+_, _-_, arith, needs}
+use Rattle.graph_placing.proofs.{fit-length}
+use Rattle.graph_binary.specs.{outputTurn, outputLeft}
 use Rattle.graph_binary.proofs.Passes.{Rest, rest-first, rest-on, rest-stop, rest-end}
 use Rattle.graph_binary.proofs.read_outputs.Statement.{statement}
 use Rattle.graph_binary.proofs.read_outputs.Tie as tie

@@ -1,13 +1,8 @@
 -- `graph_binary::store_inputs` meets its contract. The invariant: what the inputs from here on leave is what all leave; the measure is the inputs that are left.
--- Assumes nothing.
-use mathlib.Core.Path.{refl, sym, ap, _∙_, subst}
-use Prim.Native.Nat.{_-_}
-use native.Mathlib.Omega.{arith}
-use borrow.Author.Needs.{needs}
-use Rattle.graph_placing.proofs.Slots.{fit-length}
-use Rattle.graph_loading.specs.Tests.{LiteralsFit}
-use Rattle.graph_loading.specs.Stores.{storedLine}
-use Rattle.graph_binary.specs.Passes.{inputTurn, inputLeft}
+use Rattle.base.specs.{refl, sym, ap, _∙_, subst, _-_, arith, needs}
+use Rattle.graph_placing.proofs.{fit-length}
+use Rattle.graph_loading.specs.{LiteralsFit, storedLine}
+use Rattle.graph_binary.specs.{inputTurn, inputLeft}
 use Rattle.graph_binary.proofs.Passes.{Rest, rest-first, rest-on, rest-end}
 use Rattle.graph_binary.proofs.store_inputs.Statement.{statement}
 use Rattle.graph_binary.proofs.store_inputs.Tie as tie

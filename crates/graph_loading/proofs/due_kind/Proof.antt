@@ -1,6 +1,5 @@
--- `graph_loading::due_kind` meets its contract. Assumes nothing.
-use borrow.Author.Tests.{lt-ltb, le-ltb}
-use borrow.Author.Needs.{needs}
+-- `graph_loading::due_kind` meets its contract.
+use Rattle.base.specs.{lt-ltb, le-ltb, needs}
 use Rattle.graph_loading.proofs.due_kind.Statement.{statement}
 use Rattle.graph_loading.proofs.due_kind.Tie as tie
 

@@ -1,8 +1,6 @@
--- `graph_loading::fits` meets its contract. Assumes nothing.
-use mathlib.Core.Path.{sym}
-use native.Mathlib.Omega.{arith}
+-- `graph_loading::fits` meets its contract.
+use Rattle.base.specs.{sym, arith, needs}
 use Rattle.graph_loading.proofs.Tests.{fit-first, fit-left, fit-right}
-use borrow.Author.Needs.{needs}
 use Rattle.graph_loading.proofs.fits.Statement.{statement}
 use Rattle.graph_loading.proofs.fits.Tie as tie
 

@@ -1,7 +1,6 @@
--- `graph_loading::may_define` meets its contract. Assumes nothing.
-use Prim.Native.Nat.{_%_}
-use borrow.Author.Tests.{eq-eqb, ne-eqb}
-use Rattle.graph_loading.specs.Tests.{mayDefine}
+-- `graph_loading::may_define` meets its contract.
+use Rattle.base.specs.{_%_, eq-eqb, ne-eqb}
+use Rattle.graph_loading.specs.{mayDefine}
 use Rattle.graph_loading.proofs.may_define.Statement.{statement}
 use Rattle.graph_loading.proofs.may_define.Tie as tie
 

@@ -1,12 +1,8 @@
--- `graph_loading::open_words` meets its contract, by those of the three stores. Assumes nothing.
-use mathlib.Core.Path.{ap, _∙_}
-use mathlib.Core.List.{List}
-use Prim.Native.Nat.{ℕ}
-use Rattle.base_words.specs.Layout.{constantKind}
-use Rattle.base_words.specs.Record.{putNode}
-use Rattle.graph_placing.specs.Placing.{putPlaced}
-use Rattle.graph_loading.specs.Stores.{opened}
-use borrow.Author.Needs.{needs}
+-- `graph_loading::open_words` meets its contract, by those of the three stores.
+use Rattle.base.specs.{ap, _∙_, List, ℕ, needs}
+use Rattle.base_words.specs.{constantKind, putNode}
+use Rattle.graph_placing.specs.{putPlaced}
+use Rattle.graph_loading.specs.{opened}
 use Rattle.graph_loading.proofs.open_words.Statement.{statement}
 use Rattle.graph_loading.proofs.open_words.Tie as tie
 

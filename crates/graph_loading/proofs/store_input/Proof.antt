@@ -1,10 +1,7 @@
--- `graph_loading::store_input` meets its contract, by those of the two stores. Assumes nothing.
-use mathlib.Core.Path.{ap, _∙_}
-use mathlib.Core.List.{List}
-use Prim.Native.Nat.{ℕ, _+_}
-use Rattle.graph_placing.specs.Placing.{putPlaced}
-use Rattle.graph_loading.specs.Stores.{storedInput}
-use borrow.Author.Needs.{needs}
+-- `graph_loading::store_input` meets its contract, by those of the two stores.
+use Rattle.base.specs.{ap, _∙_, List, ℕ, _+_, needs}
+use Rattle.graph_placing.specs.{putPlaced}
+use Rattle.graph_loading.specs.{storedInput}
 use Rattle.graph_loading.proofs.store_input.Statement.{statement}
 use Rattle.graph_loading.proofs.store_input.Tie as tie
 

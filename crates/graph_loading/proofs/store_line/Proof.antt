@@ -1,7 +1,6 @@
--- `graph_loading::store_line` meets its contract: each return knows which line is due. Assumes nothing.
-use borrow.Author.Tests.{lt-ltb, le-ltb}
-use Rattle.graph_loading.specs.Stores.{storedLine}
-use borrow.Author.Needs.{needs}
+-- `graph_loading::store_line` meets its contract: each return knows which line is due.
+use Rattle.base.specs.{lt-ltb, le-ltb, needs}
+use Rattle.graph_loading.specs.{storedLine}
 use Rattle.graph_loading.proofs.store_line.Statement.{statement}
 use Rattle.graph_loading.proofs.store_line.Tie as tie
 

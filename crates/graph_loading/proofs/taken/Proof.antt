@@ -1,7 +1,6 @@
--- `graph_loading::taken` meets its contract. Assumes nothing.
-use borrow.Author.Tests.{eq-eqb, ne-eqb}
-use Rattle.graph_loading.specs.Tests.{isTaken}
-use borrow.Author.Needs.{needs}
+-- `graph_loading::taken` meets its contract.
+use Rattle.base.specs.{eq-eqb, ne-eqb, needs}
+use Rattle.graph_loading.specs.{isTaken}
 use Rattle.graph_loading.proofs.taken.Statement.{statement}
 use Rattle.graph_loading.proofs.taken.Tie as tie
 

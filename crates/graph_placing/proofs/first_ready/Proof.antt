@@ -1,11 +1,6 @@
 -- `graph_placing::first_ready` meets its contract. The invariant: what is sought from here on is what is sought, and what waits below is listed; the measure is what is left.
--- Assumes nothing.
-use borrow.Author.Needs.{needs}
-use mathlib.Core.Path.{_≡_, refl, sym, _∙_}
-use Prim.Native.Nat.{_+_, _-_, _*_, _≤_}
-use native.Mathlib.Omega.{arith}
-use Rattle.graph_placing.specs.Placing.{isReady, seek, readyFrom}
-use Rattle.graph_placing.specs.Uses.{Passed, Kept}
+use Rattle.base.specs.{needs, _≡_, refl, sym, _∙_, _+_, _-_, _*_, _≤_, arith}
+use Rattle.graph_placing.specs.{isReady, seek, readyFrom, Passed, Kept}
 use Rattle.graph_placing.proofs.Seeking.{seek-here, seek-past, seek-end}
 use Rattle.graph_placing.proofs.Placed.{ready-is-seek}
 use Rattle.graph_placing.proofs.Uses.{kept-on}

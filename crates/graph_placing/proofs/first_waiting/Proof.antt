@@ -1,10 +1,6 @@
 -- `graph_placing::first_waiting` meets its contract. The invariant: what is sought from here on is what is sought; the measure is what is left.
--- Assumes nothing.
-use borrow.Author.Needs.{needs}
-use mathlib.Core.Path.{_≡_, sym, _∙_}
-use Prim.Native.Nat.{_+_, _-_, _≤_}
-use native.Mathlib.Omega.{arith}
-use Rattle.graph_placing.specs.Placing.{isWaiting, seek, waitingFrom}
+use Rattle.base.specs.{needs, _≡_, sym, _∙_, _+_, _-_, _≤_, arith}
+use Rattle.graph_placing.specs.{isWaiting, seek, waitingFrom}
 use Rattle.graph_placing.proofs.Seeking.{seek-here, seek-past, seek-end}
 use Rattle.graph_placing.proofs.Placed.{waiting-is}
 use Rattle.graph_placing.proofs.first_waiting.Statement.{statement}

@@ -1,6 +1,6 @@
--- `graph_placing::is_placed` meets its contract. Assumes nothing.
-use Rattle.graph_placing.specs.Placing.{isPlaced}
-use borrow.Author.Needs.{needs}
+-- `graph_placing::is_placed` meets its contract.
+use Rattle.base.specs.{needs}
+use Rattle.graph_placing.specs.{isPlaced}
 use Rattle.graph_placing.proofs.is_placed.Statement.{statement}
 use Rattle.graph_placing.proofs.is_placed.Tie as tie
 

@@ -1,7 +1,5 @@
 -- `graph_placing::list` meets its contract: an AND's two uses are put before the others of its operands, any other variable has none.
--- Assumes nothing.
-use mathlib.Core.Path.{sym, refl, _∙_}
-use borrow.Author.Needs.{needs}
+use Rattle.base.specs.{sym, refl, _∙_, needs}
 use Rattle.graph_placing.proofs.Uses.{passed-other, left-in, right-in, listed}
 use Rattle.graph_placing.proofs.list.Statement.{statement}
 use Rattle.graph_placing.proofs.list.Tie as tie

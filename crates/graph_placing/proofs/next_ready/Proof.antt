@@ -1,6 +1,5 @@
--- `graph_placing::next_ready` meets its contract: the lowest mark, or none below where the ANDs are passed to. Assumes nothing.
-use native.Mathlib.Omega.{arith}
-use borrow.Author.Needs.{needs}
+-- `graph_placing::next_ready` meets its contract: the lowest mark, or none below where the ANDs are passed to.
+use Rattle.base.specs.{arith, needs}
 use Rattle.graph_placing.proofs.Uses.{next-marked, next-passed}
 use Rattle.graph_placing.proofs.next_ready.Statement.{statement}
 use Rattle.graph_placing.proofs.next_ready.Tie as tie

@@ -1,8 +1,7 @@
 -- `graph_placing::place` meets its contract: the words are those of `place_ands`, and the first AND that waits is the first at or behind the mark.
--- Assumes nothing.
+use Rattle.base.specs.{needs}
 use Rattle.graph_placing.proofs.Placed.{answer-all, answer-some}
 use Rattle.graph_placing.proofs.Uses.{passed-none, ready-none}
-use borrow.Author.Needs.{needs}
 use Rattle.graph_placing.proofs.place.Statement.{statement}
 use Rattle.graph_placing.proofs.place.Tie as tie
 

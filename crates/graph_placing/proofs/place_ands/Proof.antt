@@ -1,10 +1,8 @@
 -- `graph_placing::place_ands` meets its contract. The invariant: what the slots from here on give is what all slots give; the measure is the slots that are left.
--- Assumes nothing.
-use borrow.Author.Needs.{needs}
-use Prim.Native.Nat.{_-_}
-use native.Mathlib.Omega.{arith}
+use Rattle.base.specs.{needs, _-_, arith}
 use Rattle.graph_placing.proofs.Slots.{fit-length, fit-room}
-use Rattle.graph_placing.proofs.Filled.{Filled, filled-first, filled-off, placed-operands, placed-length, to-wake, filled-on, filled-end}
+use Rattle.graph_placing.proofs.Filled.{Filled, filled-first, filled-off, placed-operands, placed-length, to-wake, filled-on}
+use Rattle.graph_placing.proofs.Filled.{filled-end}
 use Rattle.graph_placing.proofs.place_ands.Statement.{statement}
 use Rattle.graph_placing.proofs.place_ands.Tie as tie
 

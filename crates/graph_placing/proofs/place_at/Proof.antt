@@ -1,11 +1,7 @@
--- `graph_placing::place_at` meets its contract, by those of the two stores. Assumes nothing.
-use mathlib.Core.Path.{ap, _∙_}
-use mathlib.Core.List.{List, [], _∷_}
-use Prim.Native.Nat.{ℕ, _+_}
-use Rattle.base_words.specs.Put.{putAt}
-use Rattle.base_words.specs.Layout.{placeAddr}
-use Rattle.graph_placing.specs.Placing.{putPlaced}
-use borrow.Author.Needs.{needs}
+-- `graph_placing::place_at` meets its contract, by those of the two stores.
+use Rattle.base.specs.{ap, _∙_, List, [], _∷_, ℕ, _+_, needs}
+use Rattle.base_words.specs.{putAt, placeAddr}
+use Rattle.graph_placing.specs.{putPlaced}
 use Rattle.graph_placing.proofs.place_at.Statement.{statement}
 use Rattle.graph_placing.proofs.place_at.Tie as tie
 

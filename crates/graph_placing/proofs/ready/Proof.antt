@@ -1,11 +1,7 @@
 -- `graph_placing::ready` meets its contract: each return knows the tests that led there, and an AND's operands are literals of the graph.
--- Assumes nothing.
-use mathlib.Core.Path.{sym, ap, _∙_}
-use native.Mathlib.Omega.{arith}
-use borrow.Author.Tests.{not-true, not-false}
-use Rattle.graph_placing.specs.Placing.{isReady, isPlaced}
+use Rattle.base.specs.{sym, ap, _∙_, arith, not-true, not-false, needs}
+use Rattle.graph_placing.specs.{isReady, isPlaced}
 use Rattle.graph_placing.proofs.Placed.{waits-kind}
-use borrow.Author.Needs.{needs}
 use Rattle.graph_placing.proofs.ready.Statement.{statement}
 use Rattle.graph_placing.proofs.ready.Tie as tie
 

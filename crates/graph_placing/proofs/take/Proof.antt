@@ -1,7 +1,6 @@
--- `graph_placing::take` meets its contract, on either side of its test. Assumes nothing.
-use borrow.Author.Needs.{needs}
-use borrow.Author.Tests.{lt-ltb, le-ltb}
-use Rattle.graph_placing.specs.Uses.{passedTo, takenFrom}
+-- `graph_placing::take` meets its contract, on either side of its test.
+use Rattle.base.specs.{needs, lt-ltb, le-ltb}
+use Rattle.graph_placing.specs.{passedTo, takenFrom}
 use Rattle.graph_placing.proofs.take.Statement.{statement}
 use Rattle.graph_placing.proofs.take.Tie as tie
 

@@ -1,9 +1,7 @@
--- `graph_placing::waits` meets its contract. Assumes nothing.
-use mathlib.Core.Path.{sym}
-use borrow.Author.Tests.{eq-eqb, ne-eqb}
-use Rattle.base_words.specs.Layout.{andKind}
-use Rattle.graph_placing.specs.Placing.{isWaiting}
-use borrow.Author.Needs.{needs}
+-- `graph_placing::waits` meets its contract.
+use Rattle.base.specs.{sym, eq-eqb, ne-eqb, needs}
+use Rattle.base_words.specs.{andKind}
+use Rattle.graph_placing.specs.{isWaiting}
 use Rattle.graph_placing.proofs.waits.Statement.{statement}
 use Rattle.graph_placing.proofs.waits.Tie as tie
 

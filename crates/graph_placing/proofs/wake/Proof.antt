@@ -1,6 +1,5 @@
--- `graph_placing::wake` meets its contract, whether the AND is ready or not. Assumes nothing.
-use mathlib.Core.Path.{sym}
-use borrow.Author.Needs.{needs}
+-- `graph_placing::wake` meets its contract, whether the AND is ready or not.
+use Rattle.base.specs.{sym, needs}
 use Rattle.graph_placing.proofs.wake.Statement.{statement}
 use Rattle.graph_placing.proofs.wake.Tie as tie
 

@@ -1,10 +1,6 @@
 -- `graph_placing::wake_users` meets its contract. The invariant: the users with a use of v above o have their marks, and o is a use of v, or 0; the measure is o, for links lead down.
--- Assumes nothing.
-use borrow.Author.Needs.{needs}
-use mathlib.Core.Path.{_≡_, _∙_}
-use Prim.Native.Nat.{_<_}
-use native.Mathlib.Omega.{arith}
-use Rattle.graph_placing.specs.Uses.{useOf, Listed, Waking}
+use Rattle.base.specs.{needs, _≡_, _∙_, _<_, arith}
+use Rattle.graph_placing.specs.{useOf, Listed, Waking}
 use Rattle.graph_placing.proofs.Uses.{its-and, woken, waking-end}
 use Rattle.graph_placing.proofs.wake_users.Statement.{statement}
 use Rattle.graph_placing.proofs.wake_users.Tie as tie

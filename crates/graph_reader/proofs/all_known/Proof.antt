@@ -1,8 +1,6 @@
--- `graph_reader::all_known` meets its contract. Assumes nothing.
-use mathlib.Core.Path.{sym, _∙_}
-use borrow.Author.Tests.{not-true, not-false}
-use Rattle.graph_reader.specs.Lines.{wordsKnown}
-use borrow.Author.Needs.{needs}
+-- `graph_reader::all_known` meets its contract.
+use Rattle.base.specs.{sym, _∙_, not-true, not-false, needs}
+use Rattle.graph_reader.specs.{wordsKnown}
 use Rattle.graph_reader.proofs.all_known.Statement.{statement}
 use Rattle.graph_reader.proofs.all_known.Tie as tie
 

@@ -1,11 +1,6 @@
 -- `graph_reader::ands_known` meets its contract. The invariant: what the variables from here on pass is what all pass; the measure is what is left.
--- Assumes nothing.
-use borrow.Author.Needs.{needs}
-use borrow.Author.Tests.{not-true, not-false}
-use mathlib.Core.Path.{sym, _∙_}
-use Prim.Native.Nat.{_+_, _-_}
-use native.Mathlib.Omega.{arith}
-use Rattle.graph_reader.specs.Lines.{operandsKnown}
+use Rattle.base.specs.{needs, not-true, not-false, sym, _∙_, _+_, _-_, arith}
+use Rattle.graph_reader.specs.{operandsKnown}
 use Rattle.graph_reader.proofs.Knowing.{Passing, passing-first, passing-on, passing-stop, passing-end}
 use Rattle.graph_reader.proofs.ands_known.Statement.{statement}
 use Rattle.graph_reader.proofs.ands_known.Tie as tie

@@ -1,9 +1,7 @@
--- `graph_reader::check_at` meets its contract: each return knows the tests that led there. Assumes nothing.
-use mathlib.Core.Path.{sym, _∙_}
-use borrow.Author.Tests.{not-true, not-false}
-use Rattle.graph_reader.specs.Passes.{checkAt}
-use Rattle.graph_loading.proofs.Tests.{fit-known}
-use borrow.Author.Needs.{needs}
+-- `graph_reader::check_at` meets its contract: each return knows the tests that led there.
+use Rattle.base.specs.{sym, _∙_, not-true, not-false, needs}
+use Rattle.graph_loading.proofs.{fit-known}
+use Rattle.graph_reader.specs.{checkAt}
 use Rattle.graph_reader.proofs.check_at.Statement.{statement}
 use Rattle.graph_reader.proofs.check_at.Tie as tie
 

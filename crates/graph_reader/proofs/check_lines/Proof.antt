@@ -1,9 +1,6 @@
 -- `graph_reader::check_lines` meets its contract. The invariant: what the lines from here on give is what all lines give; the measure is the lines that are left.
--- Assumes nothing.
-use borrow.Author.Needs.{needs}
-use mathlib.Core.Path.{sym, _∙_}
-use Prim.Native.Nat.{_-_}
-use Rattle.graph_loading.specs.Tests.{dueCount}
+use Rattle.base.specs.{needs, sym, _∙_, _-_}
+use Rattle.graph_loading.specs.{dueCount}
 use Rattle.graph_reader.proofs.Judging.{Left, left-first, left-on, left-stop, left-end}
 use Rattle.graph_reader.proofs.check_lines.Statement.{statement}
 use Rattle.graph_reader.proofs.check_lines.Tie as tie

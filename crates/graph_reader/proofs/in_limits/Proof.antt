@@ -1,6 +1,5 @@
--- `graph_reader::in_limits` meets its contract: the tests of 9, one by one. Assumes nothing.
-use mathlib.Core.Path.{sym}
-use native.Mathlib.Omega.{arith}
+-- `graph_reader::in_limits` meets its contract: the tests of 9, one by one.
+use Rattle.base.specs.{sym, arith}
 use Rattle.graph_reader.proofs.Head.{limits-size, limits-outputs, limits-inputs, limits-ands}
 use Rattle.graph_reader.proofs.in_limits.Statement.{statement}
 use Rattle.graph_reader.proofs.in_limits.Tie as tie

@@ -1,6 +1,6 @@
--- `graph_reader::in_sequence` meets its contract. Assumes nothing.
-use Rattle.model.specs.GraphText.{inSequence}
-use borrow.Author.Needs.{needs}
+-- `graph_reader::in_sequence` meets its contract.
+use Rattle.base.specs.{needs}
+use Rattle.model.specs.{inSequence}
 use Rattle.graph_reader.proofs.in_sequence.Statement.{statement}
 use Rattle.graph_reader.proofs.in_sequence.Tie as tie
 

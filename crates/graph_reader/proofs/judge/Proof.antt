@@ -1,10 +1,8 @@
--- `graph_reader::judge` meets its contract: each return knows the tests that led there. Assumes nothing.
-use mathlib.Core.Path.{sym, _∙_}
-use borrow.Author.Tests.{not-true, not-false}
-use Rattle.base_text.proofs.Bytes.{and-false}
-use Rattle.graph_reader.specs.Lines.{judgedAt}
-use Rattle.graph_loading.proofs.Tests.{fit-known}
-use borrow.Author.Needs.{needs}
+-- `graph_reader::judge` meets its contract: each return knows the tests that led there.
+use Rattle.base.specs.{sym, _∙_, not-true, not-false, needs}
+use Rattle.base_text.proofs.{and-false}
+use Rattle.graph_loading.proofs.{fit-known}
+use Rattle.graph_reader.specs.{judgedAt}
 use Rattle.graph_reader.proofs.judge.Statement.{statement}
 use Rattle.graph_reader.proofs.judge.Tie as tie
 

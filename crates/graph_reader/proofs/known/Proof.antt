@@ -1,6 +1,6 @@
--- `graph_reader::known` meets its contract. Assumes nothing.
-use Rattle.graph_reader.specs.Lines.{isKnown}
-use borrow.Author.Needs.{needs}
+-- `graph_reader::known` meets its contract.
+use Rattle.base.specs.{needs}
+use Rattle.graph_reader.specs.{isKnown}
 use Rattle.graph_reader.proofs.known.Statement.{statement}
 use Rattle.graph_reader.proofs.known.Tie as tie
 

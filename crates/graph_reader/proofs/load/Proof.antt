@@ -1,10 +1,9 @@
--- `graph_reader::load` meets its contract: each form by its own reader. Assumes nothing.
-use mathlib.Core.Path.{sym, _∙_}
-use Rattle.model.specs.GraphText.{readGraph}
-use Rattle.model.proofs.Answers.{verdict-ruled}
-use Rattle.graph_binary.proofs.Loads.{header-fit}
+-- `graph_reader::load` meets its contract: each form by its own reader.
+use Rattle.base.specs.{sym, _∙_, needs}
+use Rattle.model.specs.{readGraph}
+use Rattle.model.proofs.{verdict-ruled}
+use Rattle.graph_binary.proofs.{header-fit}
 use Rattle.graph_reader.proofs.Loads.{words-binary, words-ascii}
-use borrow.Author.Needs.{needs}
 use Rattle.graph_reader.proofs.load.Statement.{statement}
 use Rattle.graph_reader.proofs.load.Tie as tie
 

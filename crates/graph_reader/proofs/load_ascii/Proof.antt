@@ -1,8 +1,7 @@
--- `graph_reader::load_ascii` meets its contract, by the laws of its passes. Assumes nothing.
-use mathlib.Core.Path.{sym, _∙_}
-use Rattle.graph_placing.proofs.Slots.{fit-length, fit-room}
+-- `graph_reader::load_ascii` meets its contract, by the laws of its passes.
+use Rattle.base.specs.{sym, _∙_, needs}
+use Rattle.graph_placing.proofs.{fit-length, fit-room}
 use Rattle.graph_reader.proofs.Loads.{ascii-operands, ascii-known, ascii-done, ascii-stop}
-use borrow.Author.Needs.{needs}
 use Rattle.graph_reader.proofs.load_ascii.Statement.{statement}
 use Rattle.graph_reader.proofs.load_ascii.Tie as tie
 

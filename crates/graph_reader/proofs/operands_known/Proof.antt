@@ -1,11 +1,7 @@
 -- `graph_reader::operands_known` meets its contract: each return knows the tests that led there, and an AND's operands are literals of the graph.
--- Assumes nothing.
-use mathlib.Core.Path.{sym, ap, _∙_}
-use native.Mathlib.Omega.{arith}
-use borrow.Author.Tests.{eq-eqb, ne-eqb, not-true, not-false}
-use Rattle.base_words.specs.Layout.{andKind}
-use Rattle.graph_reader.specs.Lines.{isKnown, operandsKnown}
-use borrow.Author.Needs.{needs}
+use Rattle.base.specs.{sym, ap, _∙_, arith, eq-eqb, ne-eqb, not-true, not-false, needs}
+use Rattle.base_words.specs.{andKind}
+use Rattle.graph_reader.specs.{isKnown, operandsKnown}
 use Rattle.graph_reader.proofs.operands_known.Statement.{statement}
 use Rattle.graph_reader.proofs.operands_known.Tie as tie
 

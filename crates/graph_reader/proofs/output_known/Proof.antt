@@ -1,8 +1,6 @@
--- `graph_reader::output_known` meets its contract. Assumes nothing.
-use mathlib.Core.Path.{sym}
-use borrow.Author.Tests.{le-leb, lt-leb}
-use Rattle.graph_reader.specs.Lines.{outputKnown}
-use borrow.Author.Needs.{needs}
+-- `graph_reader::output_known` meets its contract.
+use Rattle.base.specs.{sym, le-leb, lt-leb, needs}
+use Rattle.graph_reader.specs.{outputKnown}
 use Rattle.graph_reader.proofs.output_known.Statement.{statement}
 use Rattle.graph_reader.proofs.output_known.Tie as tie
 

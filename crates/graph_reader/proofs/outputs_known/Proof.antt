@@ -1,10 +1,6 @@
 -- `graph_reader::outputs_known` meets its contract. The invariant: what the outputs from here on pass is what all pass; the measure is what is left.
--- Assumes nothing.
-use borrow.Author.Needs.{needs}
-use borrow.Author.Tests.{not-true, not-false}
-use mathlib.Core.Path.{sym, _∙_}
-use Prim.Native.Nat.{_-_}
-use Rattle.graph_reader.specs.Lines.{outputKnown}
+use Rattle.base.specs.{needs, not-true, not-false, sym, _∙_, _-_}
+use Rattle.graph_reader.specs.{outputKnown}
 use Rattle.graph_reader.proofs.Knowing.{Passing, passing-first, passing-on, passing-stop, passing-end}
 use Rattle.graph_reader.proofs.outputs_known.Statement.{statement}
 use Rattle.graph_reader.proofs.outputs_known.Tie as tie

@@ -1,7 +1,6 @@
--- `graph_reader::read_and` meets its contract. Assumes nothing.
-use mathlib.Core.Path.{sym, _∙_}
-use Rattle.graph_reader.specs.Lines.{andLine}
-use borrow.Author.Needs.{needs}
+-- `graph_reader::read_and` meets its contract.
+use Rattle.base.specs.{sym, _∙_, needs}
+use Rattle.graph_reader.specs.{andLine}
 use Rattle.graph_reader.proofs.read_and.Statement.{statement}
 use Rattle.graph_reader.proofs.read_and.Tie as tie
 

@@ -1,7 +1,6 @@
--- `graph_reader::read_line` meets its contract. Assumes nothing.
-use borrow.Author.Tests.{eq-eqb, ne-eqb}
-use Rattle.graph_reader.specs.Lines.{lineRead}
-use borrow.Author.Needs.{needs}
+-- `graph_reader::read_line` meets its contract.
+use Rattle.base.specs.{eq-eqb, ne-eqb, needs}
+use Rattle.graph_reader.specs.{lineRead}
 use Rattle.graph_reader.proofs.read_line.Statement.{statement}
 use Rattle.graph_reader.proofs.read_line.Tie as tie
 

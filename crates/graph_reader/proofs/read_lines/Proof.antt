@@ -1,11 +1,7 @@
 -- `graph_reader::read_lines` meets its contract. The invariant: what the lines from here on give is what all lines give; the measure is the lines that are left.
--- Assumes nothing.
-use borrow.Author.Needs.{needs}
-use mathlib.Core.Path.{sym, _∙_}
-use Prim.Native.Nat.{_-_}
-use native.Mathlib.Omega.{arith}
-use Rattle.graph_loading.specs.Tests.{dueCount}
-use Rattle.graph_placing.proofs.Slots.{fit-length}
+use Rattle.base.specs.{needs, sym, _∙_, _-_, arith}
+use Rattle.graph_placing.proofs.{fit-length}
+use Rattle.graph_loading.specs.{dueCount}
 use Rattle.graph_reader.proofs.Judging.{Rest, rest-first, rest-on, rest-stop, rest-end}
 use Rattle.graph_reader.proofs.read_lines.Statement.{statement}
 use Rattle.graph_reader.proofs.read_lines.Tie as tie

@@ -1,7 +1,6 @@
--- `graph_reader::read_one` meets its contract. Assumes nothing.
-use mathlib.Core.Path.{sym, _∙_}
-use Rattle.graph_reader.specs.Lines.{oneLine}
-use borrow.Author.Needs.{needs}
+-- `graph_reader::read_one` meets its contract.
+use Rattle.base.specs.{sym, _∙_, needs}
+use Rattle.graph_reader.specs.{oneLine}
 use Rattle.graph_reader.proofs.read_one.Statement.{statement}
 use Rattle.graph_reader.proofs.read_one.Tie as tie
 

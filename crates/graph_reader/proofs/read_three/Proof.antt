@@ -1,7 +1,6 @@
--- `graph_reader::read_three` meets its contract: each return knows what the reads that led there found. Assumes nothing.
-use mathlib.Core.Path.{sym, _∙_}
-use Rattle.graph_reader.specs.Lines.{threeAt}
-use borrow.Author.Needs.{needs}
+-- `graph_reader::read_three` meets its contract: each return knows what the reads that led there found.
+use Rattle.base.specs.{sym, _∙_, needs}
+use Rattle.graph_reader.specs.{threeAt}
 use Rattle.graph_reader.proofs.read_three.Statement.{statement}
 use Rattle.graph_reader.proofs.read_three.Tie as tie
 

@@ -1,11 +1,8 @@
--- `graph_reader::tag` meets its contract: the first word's bytes are compared as a part of the text. Assumes nothing.
-use mathlib.Core.Path.{sym, ap, _∙_}
-use native.Mathlib.Omega.{arith}
-use Rattle.model.specs.Base.{same}
-use Rattle.model.specs.Text.{text}
-use Rattle.base_text.proofs.Words.{end-le, part-is}
-use Rattle.graph_reader.specs.Lines.{tagAt, aag, aig}
-use borrow.Author.Needs.{needs}
+-- `graph_reader::tag` meets its contract: the first word's bytes are compared as a part of the text.
+use Rattle.base.specs.{sym, ap, _∙_, arith, needs}
+use Rattle.model.specs.{same, text}
+use Rattle.base_text.proofs.{end-le, part-is}
+use Rattle.graph_reader.specs.{tagAt, aag, aig}
 use Rattle.graph_reader.proofs.tag.Statement.{statement}
 use Rattle.graph_reader.proofs.tag.Tie as tie
 

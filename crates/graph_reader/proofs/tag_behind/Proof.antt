@@ -1,7 +1,6 @@
--- `graph_reader::tag_behind` meets its contract. Assumes nothing.
-use mathlib.Core.Path.{sym, _∙_}
-use Rattle.graph_reader.specs.Lines.{tagBehind}
-use borrow.Author.Needs.{needs}
+-- `graph_reader::tag_behind` meets its contract.
+use Rattle.base.specs.{sym, _∙_, needs}
+use Rattle.graph_reader.specs.{tagBehind}
 use Rattle.graph_reader.proofs.tag_behind.Statement.{statement}
 use Rattle.graph_reader.proofs.tag_behind.Tie as tie
 

@@ -1,9 +1,8 @@
--- `graph_reader::turn_at` meets its contract: each return knows what the line was found to be. Assumes nothing.
-use mathlib.Core.Path.{sym, ap, _∙_}
-use Rattle.graph_reader.specs.Lines.{judgedAt}
-use Rattle.graph_loading.proofs.Tests.{fit-known}
+-- `graph_reader::turn_at` meets its contract: each return knows what the line was found to be.
+use Rattle.base.specs.{sym, ap, _∙_, needs}
+use Rattle.graph_loading.proofs.{fit-known}
+use Rattle.graph_reader.specs.{judgedAt}
 use Rattle.graph_reader.proofs.Judging.{judged-good, turn-none, turn-good, turn-bad}
-use borrow.Author.Needs.{needs}
 use Rattle.graph_reader.proofs.turn_at.Statement.{statement}
 use Rattle.graph_reader.proofs.turn_at.Tie as tie
 

@@ -1,8 +1,6 @@
--- `graph_reader::uses_known` meets its contract. Assumes nothing.
-use mathlib.Core.Path.{sym, _∙_}
-use borrow.Author.Tests.{eq-eqb, ne-eqb, not-true, not-false}
-use Rattle.graph_reader.specs.Lines.{usesKnown}
-use borrow.Author.Needs.{needs}
+-- `graph_reader::uses_known` meets its contract.
+use Rattle.base.specs.{sym, _∙_, eq-eqb, ne-eqb, not-true, not-false, needs}
+use Rattle.graph_reader.specs.{usesKnown}
 use Rattle.graph_reader.proofs.uses_known.Statement.{statement}
 use Rattle.graph_reader.proofs.uses_known.Tie as tie
 

@@ -1,11 +1,8 @@
--- `map_two::main` is safe: what `load` counts is within its buffer. Assumes nothing.
-use Prim.Native.Nat.{ℕ}
-use mathlib.Core.Path.{sym, subst}
-use lib.ListN.{length-replicate}
-use Rattle.program_files.specs.Loading.{Loaded-in}
+-- `map_two::main` is safe: what `load` counts is within its buffer.
+use Rattle.base.specs.{ℕ, sym, subst, length-replicate, needs}
+use Rattle.program_files.specs.{Loaded-in}
 use Rattle.program_files.specs.declared.Loaded.{Loaded}
 use Rattle.program_files.specs.declared.Loaded.the-variants.{Bytes}
-use borrow.Author.Needs.{needs}
 use Rattle.map_two.proofs.main.Statement.{statement}
 use Rattle.map_two.proofs.main.Tie as tie
 
@@ -107,14 +104,13 @@ map-files-requires : tie.Need-map-files-requires
 map-files-requires c κs = (length-replicate {A = ℕ} 32768 0, length-replicate {A = ℕ} 65536 0, length-replicate {A = ℕ} 65536 0)
 
 pub main-spec : {M : Type 1} → statement M
-main-spec =
-    tie.close
-    (tie.spec
+main-spec = tie.close (tie.spec
     (λ c. search needs) (λ c. search needs) slice-aggregate-load-3 load-requires (λ c. search needs) (λ c. search needs) (λ c. search needs)
-    (λ c. search needs) (λ c. search needs) slice-aggregate-load-6 load-requires-2 (λ c. search needs) (λ c. search needs) (λ c. search needs)
-    (λ c. search needs) (λ c. search needs) slice-aggregate-load-9 load-requires-3 (λ c. search needs) (λ c. search needs) (λ c. search needs)
-    (λ c. search needs) (λ c. search needs) slice-aggregate-load-12 load-requires-4 (λ c. search needs) (λ c. search needs) (λ c. search needs)
-    (λ c. search needs) (λ c. search needs) slice-aggregate-load-15 load-requires-5 (λ c. search needs) (λ c. search needs) (λ c. search needs)
-    array-share-prefix-cells slice-aggregate-map-files array-share-prefix-graph1 slice-aggregate-map-files-2 array-share-prefix-arrivals1
-    slice-aggregate-map-files-3 array-share-prefix-graph2 slice-aggregate-map-files-4 array-share-prefix-arrivals2 slice-aggregate-map-files-5
-    slice-aggregate-map-files-6 slice-aggregate-map-files-7 slice-aggregate-map-files-8 map-files-requires (λ c. search needs))
+    (λ c. search needs) (λ c. search needs) slice-aggregate-load-6 load-requires-2 (λ c. search needs) (λ c. search needs)
+    (λ c. search needs) (λ c. search needs) (λ c. search needs) slice-aggregate-load-9 load-requires-3 (λ c. search needs)
+    (λ c. search needs) (λ c. search needs) (λ c. search needs) (λ c. search needs) slice-aggregate-load-12 load-requires-4
+    (λ c. search needs) (λ c. search needs) (λ c. search needs) (λ c. search needs) (λ c. search needs) slice-aggregate-load-15
+    load-requires-5 (λ c. search needs) (λ c. search needs) (λ c. search needs) array-share-prefix-cells slice-aggregate-map-files
+    array-share-prefix-graph1 slice-aggregate-map-files-2 array-share-prefix-arrivals1 slice-aggregate-map-files-3 array-share-prefix-graph2
+    slice-aggregate-map-files-4 array-share-prefix-arrivals2 slice-aggregate-map-files-5 slice-aggregate-map-files-6
+    slice-aggregate-map-files-7 slice-aggregate-map-files-8 map-files-requires (λ c. search needs))

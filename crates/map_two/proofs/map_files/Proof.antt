@@ -1,9 +1,6 @@
--- `map_two::map_files` is safe: each netlist's length is within its text memory, as `map_two` ensures. Assumes nothing.
-use native.Mathlib.Omega.{arith}
-use mathlib.Core.Path.{_≡_, subst}
-use lib.ListN.{length}
-use Rattle.promises.specs.Promised.{Fits}
-use borrow.Author.Needs.{needs}
+-- `map_two::map_files` is safe: each netlist's length is within its text memory, as `map_two` ensures.
+use Rattle.base.specs.{arith, _≡_, subst, length, needs}
+use Rattle.promises.specs.{Fits}
 use Rattle.map_two.proofs.map_files.Statement.{statement}
 use Rattle.map_two.proofs.map_files.Tie as tie
 
@@ -24,7 +21,5 @@ show-requires-2 c κs =
     subst (Fits (m .result .second)) long (m .ensures .fitsSecond)
 
 pub map-files-spec : {M : Type 1} → statement M
-map-files-spec =
-    tie.close
-    (tie.spec
+map-files-spec = tie.close (tie.spec
     (λ c κs. search needs) show-requires show-requires-2 (λ c. search needs) (λ c. search needs) (λ c. search needs) (λ c. search needs))

@@ -1,11 +1,7 @@
--- `map_two::show` is safe: a netlist's length is within its text memory. Assumes nothing.
-use Prim.Native.Nat.{_≤_}
-use native.Mathlib.Omega.{arith}
-use mathlib.Core.Path.{subst}
-use lib.ListN.{length, length-take}
+-- `map_two::show` is safe: a netlist's length is within its text memory.
+use Rattle.base.specs.{_≤_, arith, subst, length, length-take, needs}
 use Rattle.model.specs.declared.Answer.{Answer}
-use Rattle.promises.specs.Promised.{Fits}
-use borrow.Author.Needs.{needs}
+use Rattle.promises.specs.{Fits}
 use Rattle.map_two.proofs.show.Statement.{statement}
 use Rattle.map_two.proofs.show.Tie as tie
 
@@ -18,8 +14,6 @@ slice-aggregate-put c =
     omega (arith, length-take (n .0 .0) text)
 
 pub show-spec : {M : Type 1} → statement M
-show-spec =
-    tie.close
-    (tie.spec
+show-spec = tie.close (tie.spec
     (λ c. search needs) slice-aggregate-put (λ c κs. search needs) (λ c. search needs) (λ c κs. search needs) (λ c. search needs)
     (λ c κs. search needs) (λ c. search needs) (λ c κs. search needs) (λ c. search needs) (λ c. search needs))

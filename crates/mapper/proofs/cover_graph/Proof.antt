@@ -1,8 +1,8 @@
--- `mapper::cover_graph` meets its contract: the choice, 17, and the marking, each from what the one before left. Assumes nothing.
-use Rattle.cover_choice.proofs.Choices.{choose-asked}
-use Rattle.mapper.specs.Stages.{allOf}
+-- `mapper::cover_graph` meets its contract: the choice, 17, and the marking, each from what the one before left.
+use Rattle.base.specs.{needs}
+use Rattle.cover_choice.proofs.{choose-asked}
+use Rattle.mapper.specs.{allOf}
 use Rattle.mapper.proofs.Turns.{told-as, chosen-outputs, chosen-asks, cover-mapped, cover-timeable, cover-goes, cover-stops}
-use borrow.Author.Needs.{needs}
 use Rattle.mapper.proofs.cover_graph.Statement.{statement}
 use Rattle.mapper.proofs.cover_graph.Tie as tie
 

@@ -1,6 +1,6 @@
--- `mapper::cut_graph` meets its contract: the cuts, then the cover, or 16. Assumes nothing.
+-- `mapper::cut_graph` meets its contract: the cuts, then the cover, or 16.
+use Rattle.base.specs.{needs}
 use Rattle.mapper.proofs.Turns.{told-as, timed-asks, cuts-cut, cuts-go, cuts-stop}
-use borrow.Author.Needs.{needs}
 use Rattle.mapper.proofs.cut_graph.Statement.{statement}
 use Rattle.mapper.proofs.cut_graph.Tie as tie
 

@@ -1,7 +1,7 @@
--- `mapper::load_graph` meets its contract: the graph behind its header, then the placing order, or 11 to 14, 20 and 21. Assumes nothing.
-use Rattle.graph_binary.proofs.Loads.{header-fit}
+-- `mapper::load_graph` meets its contract: the graph behind its header, then the placing order, or 11 to 14, 20 and 21.
+use Rattle.base.specs.{needs}
+use Rattle.graph_binary.proofs.{header-fit}
 use Rattle.mapper.proofs.Turns.{told-as, reading-loaded, reading-stops}
-use borrow.Author.Needs.{needs}
 use Rattle.mapper.proofs.load_graph.Statement.{statement}
 use Rattle.mapper.proofs.load_graph.Tie as tie
 

@@ -1,10 +1,8 @@
--- `mapper::map_cells` meets its contract: with pairs, or with the listed cells alone. Assumes nothing.
-use mathlib.Core.Bool.{false}
-use mathlib.Core.List.{[]}
-use Rattle.cells_pairs.proofs.Forming.{with-none}
+-- `mapper::map_cells` meets its contract: with pairs, or with the listed cells alone.
+use Rattle.base.specs.{false, [], needs}
+use Rattle.cells_pairs.proofs.{with-none}
 use Rattle.mapper.proofs.Ends.{left-as, cells-go}
 use Rattle.mapper.proofs.Libraries.{joinable-of, all-few, plain-ok, blank-listed}
-use borrow.Author.Needs.{needs}
 use Rattle.mapper.proofs.map_cells.Statement.{statement}
 use Rattle.mapper.proofs.map_cells.Tie as tie
 

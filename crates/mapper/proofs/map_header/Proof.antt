@@ -1,11 +1,8 @@
 -- `mapper::map_header` meets its contract: 7 to 10 and 19 leave both memories as they were, and whatever comes later leaves the words zero.
--- Assumes nothing.
-use native.Mathlib.Omega.{arith}
-use mathlib.Core.Path.{sym, _∙_}
-use Rattle.theory_text.proofs.ReadGraph.{header-fits}
-use Rattle.graph_reader.proofs.Head.{header-read}
+use Rattle.base.specs.{arith, sym, _∙_, needs}
+use Rattle.theory_text.proofs.{header-fits}
+use Rattle.graph_reader.proofs.{header-read}
 use Rattle.mapper.proofs.Ends.{header-stops, header-short, header-done}
-use borrow.Author.Needs.{needs}
 use Rattle.mapper.proofs.map_header.Statement.{statement}
 use Rattle.mapper.proofs.map_header.Tie as tie
 

@@ -1,14 +1,10 @@
--- `mapper::map_on` meets its contract: the sheet is that of the cells to map with, and the words are cleared whatever the passes left. Assumes nothing.
-use native.Mathlib.Omega.{arith}
-use Prim.Native.Nat.{ℕ, _+_}
-use mathlib.Core.Path.{_≡_, _∙_, ap, sym, subst}
-use lib.ListN.{length, replicate}
-use Rattle.model.specs.Cells.{cellsOf}
-use Rattle.cells_pairs.proofs.Cells.{by-length}
-use Rattle.cells_matching.specs.Sheet.{SheetOf, Blank}
-use Rattle.cells_matching.proofs.Pairing.{sheet-by}
-use Rattle.mapper.specs.Stages.{allOf}
-use borrow.Author.Needs.{needs}
+-- `mapper::map_on` meets its contract: the sheet is that of the cells to map with, and the words are cleared whatever the passes left.
+use Rattle.base.specs.{arith, ℕ, _+_, _≡_, _∙_, ap, sym, subst, length, replicate, needs}
+use Rattle.model.specs.{cellsOf}
+use Rattle.cells_pairs.proofs.{by-length}
+use Rattle.cells_matching.specs.{SheetOf, Blank}
+use Rattle.cells_matching.proofs.{sheet-by}
+use Rattle.mapper.specs.{allOf}
 use Rattle.mapper.proofs.map_on.Statement.{statement}
 use Rattle.mapper.proofs.map_on.Tie as tie
 

@@ -1,18 +1,11 @@
--- `mapper::map_pairs` meets its contract: the numbers written are those of all pairs, or 30 comes. Assumes nothing.
-use native.Mathlib.Omega.{arith}
-use Prim.Native.Nat.{ℕ}
-use mathlib.Core.Path.{_≡_, sym, ap, subst, _∙_}
-use mathlib.Core.Bool.{true}
-use mathlib.Core.List.{List}
-use lib.ListN.{length, take}
-use Rattle.model.specs.Cells.{cellsOf}
-use Rattle.cells_pairs.specs.Codes.{pairCodes}
-use Rattle.cells_pairs.proofs.Cells.{by-length}
-use Rattle.cells_pairs.proofs.Forming.{with-all, codes-few}
-use Rattle.mapper.specs.Stages.{LibraryOk, headerFor}
+-- `mapper::map_pairs` meets its contract: the numbers written are those of all pairs, or 30 comes.
+use Rattle.base.specs.{arith, ℕ, _≡_, sym, ap, subst, _∙_, true, List, length, take, needs}
+use Rattle.model.specs.{cellsOf}
+use Rattle.cells_pairs.specs.{pairCodes}
+use Rattle.cells_pairs.proofs.{by-length, with-all, codes-few}
+use Rattle.mapper.specs.{LibraryOk, headerFor}
 use Rattle.mapper.proofs.Ends.{left-as, pairs-stop, cells-go}
 use Rattle.mapper.proofs.Libraries.{joinable-of, all-few, joined-ok, blank-joined, formed-are}
-use borrow.Author.Needs.{needs}
 use Rattle.mapper.proofs.map_pairs.Statement.{statement}
 use Rattle.mapper.proofs.map_pairs.Tie as tie
 

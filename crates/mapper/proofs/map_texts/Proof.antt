@@ -1,14 +1,9 @@
 -- `mapper::map_texts` meets its contract: demand 1 from the functions below it, what is promised of the definitions from their laws.
--- Assumes nothing.
-use native.Mathlib.Omega.{arith}
-use mathlib.Core.Path.{sym, _∙_, ap}
-use mathlib.Core.Bool.{Bool}
-use lib.ListN.{length}
-use Rattle.model.specs.Mapper.{callOf}
-use Rattle.mapper.specs.Stages.{libraryFor}
+use Rattle.base.specs.{arith, sym, _∙_, ap, Bool, length, needs}
+use Rattle.model.specs.{callOf}
+use Rattle.mapper.specs.{libraryFor}
 use Rattle.mapper.proofs.Ends.{left-as}
 use Rattle.mapper.proofs.Whole.{memory-of, mapping-of, long-text, library-stops, library-heard}
-use borrow.Author.Needs.{needs}
 use Rattle.mapper.proofs.map_texts.Statement.{statement}
 use Rattle.mapper.proofs.map_texts.Tie as tie
 

@@ -1,7 +1,7 @@
--- `mapper::place_graph` meets its contract: the placing order and the arrivals, then the cuts, or 25, 26 or 15. Assumes nothing.
+-- `mapper::place_graph` meets its contract: the placing order and the arrivals, then the cuts, or 25, 26 or 15.
+use Rattle.base.specs.{needs}
 use Rattle.mapper.proofs.Handing.{loaded-asks}
 use Rattle.mapper.proofs.Turns.{told-as, placing-lists, times-stop, placing-stops, placing-timed}
-use borrow.Author.Needs.{needs}
 use Rattle.mapper.proofs.place_graph.Statement.{statement}
 use Rattle.mapper.proofs.place_graph.Tie as tie
 

@@ -1,6 +1,5 @@
--- `mapper::print` meets its contract: the netlist is measured, and written where it fits. Assumes nothing.
-use borrow.Author.Needs.{needs}
-use native.Mathlib.Omega.{arith}
+-- `mapper::print` meets its contract: the netlist is measured, and written where it fits.
+use Rattle.base.specs.{needs, arith}
 use Rattle.mapper.proofs.Printing.{print-short, print-room, print-done}
 use Rattle.mapper.proofs.print.Statement.{statement}
 use Rattle.mapper.proofs.print.Tie as tie

@@ -1,11 +1,8 @@
--- `mapper::print_as` meets its contract: where delays are ranges the low arrivals come first, and the netlist has its timing lines. Assumes nothing.
-use mathlib.Core.Path.{ap}
-use mathlib.Core.Bool.{Bool}
-use lib.ListN.{length}
-use Rattle.mapper.specs.Stages.{printedFor}
+-- `mapper::print_as` meets its contract: where delays are ranges the low arrivals come first, and the netlist has its timing lines.
+use Rattle.base.specs.{ap, Bool, length, needs}
+use Rattle.mapper.specs.{printedFor}
 use Rattle.mapper.proofs.Turns.{told-as}
 use Rattle.mapper.proofs.Lowering.{lowered-mapped, lowered-lows}
-use borrow.Author.Needs.{needs}
 use Rattle.mapper.proofs.print_as.Statement.{statement}
 use Rattle.mapper.proofs.print_as.Tie as tie
 

@@ -1,14 +1,9 @@
--- `mapper::print_timed` meets its contract: the netlist and its timing lines are measured, and written where they fit. Assumes nothing.
-use Prim.Native.Nat.{ℕ, _+_}
-use native.Mathlib.Omega.{arith}
-use mathlib.Core.Path.{sym, subst}
-use mathlib.Core.Bool.{true}
-use lib.ListN.{length}
+-- `mapper::print_timed` meets its contract: the netlist and its timing lines are measured, and written where they fit.
+use Rattle.base.specs.{ℕ, _+_, arith, sym, subst, true, length, needs}
 use Rattle.model.specs.declared.Answer.the-variants.{Mapped, Refused}
-use Rattle.mapper.specs.Stages.{Told, printedFor}
+use Rattle.mapper.specs.{Told, printedFor}
 use Rattle.mapper.proofs.Printing.{print-room, timed-short, timed-done}
 use Rattle.mapper.proofs.Lowering.{lines-asked, lines-said}
-use borrow.Author.Needs.{needs}
 use Rattle.mapper.proofs.print_timed.Statement.{statement}
 use Rattle.mapper.proofs.print_timed.Tie as tie
 

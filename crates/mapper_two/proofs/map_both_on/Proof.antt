@@ -1,17 +1,12 @@
 -- `mapper_two::map_both_on` meets its contract: the sheet is that of the cells to map with, each channel finds words enough, and the words are cleared whatever the
--- passes left. Assumes nothing.
-use Prim.Native.Nat.{ℕ, _+_}
-use native.Mathlib.Omega.{arith}
-use mathlib.Core.Path.{_≡_, refl, _∙_, ap, sym, subst}
-use lib.ListN.{length, replicate}
-use Rattle.model.specs.Cells.{cellsOf}
-use Rattle.model.specs.Channels.{channelOf}
-use Rattle.cells_pairs.proofs.Cells.{by-length}
-use Rattle.cells_matching.specs.Sheet.{SheetOf, Blank}
-use Rattle.cells_matching.proofs.Pairing.{sheet-by}
-use Rattle.mapper.specs.Stages.{allOf}
+-- passes left.
+use Rattle.base.specs.{ℕ, _+_, arith, _≡_, refl, _∙_, ap, sym, subst, length, replicate, needs}
+use Rattle.model.specs.{cellsOf, channelOf}
+use Rattle.cells_pairs.proofs.{by-length}
+use Rattle.cells_matching.specs.{SheetOf, Blank}
+use Rattle.cells_matching.proofs.{sheet-by}
+use Rattle.mapper.specs.{allOf}
 use Rattle.mapper_two.proofs.Leaving.{pair-done}
-use borrow.Author.Needs.{needs}
 use Rattle.mapper_two.proofs.map_both_on.Statement.{statement}
 use Rattle.mapper_two.proofs.map_both_on.Tie as tie
 

@@ -1,13 +1,10 @@
--- `mapper_two::map_cells` meets its contract: with pairs, or with the listed cells alone. Assumes nothing.
-use mathlib.Core.Path.{sym, subst}
-use mathlib.Core.Bool.{Bool, false}
-use mathlib.Core.List.{[]}
-use Rattle.model.specs.Channels.{channelOf}
-use Rattle.cells_pairs.proofs.Forming.{with-none}
-use Rattle.mapper.proofs.Libraries.{joinable-of, all-few, plain-ok, blank-listed}
-use Rattle.mapper_two.specs.Pairs.{TwoLeft}
+-- `mapper_two::map_cells` meets its contract: with pairs, or with the listed cells alone.
+use Rattle.base.specs.{sym, subst, Bool, false, [], needs}
+use Rattle.model.specs.{channelOf}
+use Rattle.cells_pairs.proofs.{with-none}
+use Rattle.mapper.proofs.{joinable-of, all-few, plain-ok, blank-listed}
+use Rattle.mapper_two.specs.{TwoLeft}
 use Rattle.mapper_two.proofs.Leaving.{two-done}
-use borrow.Author.Needs.{needs}
 use Rattle.mapper_two.proofs.map_cells.Statement.{statement}
 use Rattle.mapper_two.proofs.map_cells.Tie as tie
 

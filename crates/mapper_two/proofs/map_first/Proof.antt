@@ -1,9 +1,8 @@
--- `mapper_two::map_first` meets its contract: the first channel's header, then the second channel's refusals and what follows. Assumes nothing.
-use mathlib.Core.Path.{sym, _∙_}
-use Rattle.graph_reader.proofs.Head.{header-read}
-use Rattle.mapper.proofs.Ends.{header-fault}
+-- `mapper_two::map_first` meets its contract: the first channel's header, then the second channel's refusals and what follows.
+use Rattle.base.specs.{sym, _∙_, needs}
+use Rattle.graph_reader.proofs.{header-read}
+use Rattle.mapper.proofs.{header-fault}
 use Rattle.mapper_two.proofs.Leaving.{pair-as, pair-early, first-goes, first-stops}
-use borrow.Author.Needs.{needs}
 use Rattle.mapper_two.proofs.map_first.Statement.{statement}
 use Rattle.mapper_two.proofs.map_first.Tie as tie
 

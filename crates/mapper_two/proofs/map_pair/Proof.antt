@@ -1,8 +1,7 @@
--- `mapper_two::map_pair` meets its contract: 10, or both channels. Assumes nothing.
-use native.Mathlib.Omega.{arith}
-use Rattle.theory_text.proofs.ReadGraph.{header-fits}
+-- `mapper_two::map_pair` meets its contract: 10, or both channels.
+use Rattle.base.specs.{arith, needs}
+use Rattle.theory_text.proofs.{header-fits}
 use Rattle.mapper_two.proofs.Leaving.{pair-as, pair-early, need-small, sum-short, sum-enough}
-use borrow.Author.Needs.{needs}
 use Rattle.mapper_two.proofs.map_pair.Statement.{statement}
 use Rattle.mapper_two.proofs.map_pair.Tie as tie
 

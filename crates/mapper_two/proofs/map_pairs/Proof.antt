@@ -1,20 +1,12 @@
--- `mapper_two::map_pairs` meets its contract: the numbers written are those of all pairs, or 30 comes. Assumes nothing.
-use native.Mathlib.Omega.{arith}
-use Prim.Native.Nat.{ℕ}
-use mathlib.Core.Path.{_≡_, sym, ap, subst, _∙_}
-use mathlib.Core.Bool.{true}
-use mathlib.Core.List.{List}
-use lib.ListN.{length, take}
-use Rattle.model.specs.Cells.{cellsOf}
-use Rattle.model.specs.Channels.{channelOf}
-use Rattle.cells_pairs.specs.Codes.{pairCodes}
-use Rattle.cells_pairs.proofs.Cells.{by-length}
-use Rattle.cells_pairs.proofs.Forming.{with-all, codes-few}
-use Rattle.mapper.specs.Stages.{LibraryOk}
-use Rattle.mapper.proofs.Libraries.{joinable-of, all-few, joined-ok, blank-joined, formed-are}
-use Rattle.mapper_two.specs.Pairs.{firstFor, PairLeft}
+-- `mapper_two::map_pairs` meets its contract: the numbers written are those of all pairs, or 30 comes.
+use Rattle.base.specs.{arith, ℕ, _≡_, sym, ap, subst, _∙_, true, List, length, take, needs}
+use Rattle.model.specs.{cellsOf, channelOf}
+use Rattle.cells_pairs.specs.{pairCodes}
+use Rattle.cells_pairs.proofs.{by-length, with-all, codes-few}
+use Rattle.mapper.specs.{LibraryOk}
+use Rattle.mapper.proofs.{joinable-of, all-few, joined-ok, blank-joined, formed-are}
+use Rattle.mapper_two.specs.{firstFor, PairLeft}
 use Rattle.mapper_two.proofs.Leaving.{two-done, two-early}
-use borrow.Author.Needs.{needs}
 use Rattle.mapper_two.proofs.map_pairs.Statement.{statement}
 use Rattle.mapper_two.proofs.map_pairs.Tie as tie
 

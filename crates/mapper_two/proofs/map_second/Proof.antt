@@ -1,10 +1,8 @@
--- `mapper_two::map_second` meets its contract: the second channel's 1 and header, then 10 and both channels. Assumes nothing.
-use native.Mathlib.Omega.{arith}
-use mathlib.Core.Path.{sym, _∙_}
-use Rattle.graph_reader.proofs.Head.{header-read}
-use Rattle.mapper.proofs.Ends.{header-fault}
+-- `mapper_two::map_second` meets its contract: the second channel's 1 and header, then 10 and both channels.
+use Rattle.base.specs.{arith, sym, _∙_, needs}
+use Rattle.graph_reader.proofs.{header-read}
+use Rattle.mapper.proofs.{header-fault}
 use Rattle.mapper_two.proofs.Leaving.{pair-as, pair-early, second-long, second-goes, second-stops}
-use borrow.Author.Needs.{needs}
 use Rattle.mapper_two.proofs.map_second.Statement.{statement}
 use Rattle.mapper_two.proofs.map_second.Tie as tie
 

@@ -1,11 +1,8 @@
--- `mapper_two::map_two` meets its contract: demand 1 from the functions below it, what is promised of the definitions from their laws. Assumes nothing.
-use native.Mathlib.Omega.{arith}
-use mathlib.Core.Path.{subst}
-use mathlib.Core.Bool.{Bool}
-use Rattle.model.specs.Channels.{channelOf}
-use Rattle.mapper_two.specs.Pairs.{TwoLeft}
+-- `mapper_two::map_two` meets its contract: demand 1 from the functions below it, what is promised of the definitions from their laws.
+use Rattle.base.specs.{arith, subst, Bool, needs}
+use Rattle.model.specs.{channelOf}
+use Rattle.mapper_two.specs.{TwoLeft}
 use Rattle.mapper_two.proofs.Whole.{mapping-of, long-text, library-stops, library-heard}
-use borrow.Author.Needs.{needs}
 use Rattle.mapper_two.proofs.map_two.Statement.{statement}
 use Rattle.mapper_two.proofs.map_two.Tie as tie
 

@@ -1,16 +1,9 @@
 -- `net_gates::gates_by` meets its contract: a number below the listed cells' is a line's.
--- Assumes nothing.
-use mathlib.Core.Bool.{Bool, cond}
-use mathlib.Core.Path.{_≡_, sym, ap, subst, _∙_}
-use mathlib.Core.List.{List}
-use Prim.Native.Nat.{ℕ, _≤_, _<_}
-use native.Mathlib.Omega.{arith}
-use borrow.Author.Tests.{lt-ltb, le-ltb}
+use Rattle.base.specs.{Bool, cond, _≡_, sym, ap, subst, _∙_, List, ℕ, _≤_, _<_, arith, lt-ltb, le-ltb, needs}
 use Rattle.model.specs.declared.Cell.{Cell}
-use Rattle.cells_pairs.specs.Bytes.{countIn, lineCell, codeIn}
-use Rattle.net_gates.specs.Gates.{oneDriver, pairDriver, driverBy, PairReady}
+use Rattle.cells_pairs.specs.{countIn, lineCell, codeIn}
+use Rattle.net_gates.specs.{oneDriver, pairDriver, driverBy, PairReady}
 use Rattle.net_gates.specs.declared.Driver.{Driver}
-use borrow.Author.Needs.{needs}
 use Rattle.net_gates.proofs.gates_by.Statement.{statement}
 use Rattle.net_gates.proofs.gates_by.Tie as tie
 
@@ -61,7 +54,6 @@ returns-2 c =
     ∙ sym (by-pair (a .book .now) (a .k) (a .nets) (a .l) h)
 
 pub gates-by-spec : {M : Type 1} → statement M
-gates-by-spec =
-    tie.close
-    (tie.spec
-    (λ c κs. search needs) cell-at-requires (λ c. search needs) (λ c κs. search needs) code-at-requires pair-gates-requires returns returns-2)
+gates-by-spec = tie.close (tie.spec
+    (λ c κs. search needs) cell-at-requires (λ c. search needs) (λ c κs. search needs) code-at-requires pair-gates-requires returns
+    returns-2)

@@ -1,9 +1,5 @@
 -- `net_gates::net_at` meets its contract: an array of four has no fifth.
--- Assumes nothing.
-use mathlib.Core.Path.{_≡_, sym}
-use native.Mathlib.Omega.{arith}
-use lib.ListN.{length, List·getD-eq-default}
-use borrow.Author.Needs.{needs}
+use Rattle.base.specs.{_≡_, sym, arith, length, List·getD-eq-default, needs}
 use Rattle.net_gates.proofs.net_at.Statement.{statement}
 use Rattle.net_gates.proofs.net_at.Tie as tie
 
@@ -14,6 +10,4 @@ returns-2 c =
     sym (List·getD-eq-default (a .t1) 0 {n = a .j} (omega (arith, c .if1 .left)))
 
 pub net-at-spec : {M : Type 1} → statement M
-net-at-spec = tie.close
-    (tie.spec
-    (λ c. search needs) (λ c. search needs) (λ c. search needs) returns-2)
+net-at-spec = tie.close (tie.spec (λ c. search needs) (λ c. search needs) (λ c. search needs) returns-2)

@@ -1,11 +1,7 @@
 -- `net_gates::no_driver` meets its contract.
--- Assumes nothing.
-use mathlib.Core.Path.{refl, ap, ap₂}
-use mathlib.Core.Bool.{false}
-use native.Mathlib.Omega.{arith}
-use Rattle.net_gates.specs.Gates.{gatesOf}
+use Rattle.base.specs.{refl, ap, ap₂, false, arith, needs}
+use Rattle.net_gates.specs.{gatesOf}
 use Rattle.net_gates.specs.declared.Instance.{Instance}
-use borrow.Author.Needs.{needs}
 use Rattle.net_gates.proofs.no_driver.Statement.{statement}
 use Rattle.net_gates.proofs.no_driver.Tie as tie
 
@@ -19,6 +15,4 @@ returns c =
     }
 
 pub no-driver-spec : {M : Type 1} → statement M
-no-driver-spec = tie.close
-    (tie.spec
-    (λ c κs. search needs) (λ c κs. search needs) returns)
+no-driver-spec = tie.close (tie.spec (λ c κs. search needs) (λ c κs. search needs) returns)

@@ -1,11 +1,7 @@
 -- `net_gates::pair_gates` meets its contract.
--- Assumes nothing.
-use mathlib.Core.Path.{ap, _∙_}
-use Prim.Native.Nat.{_/_, _%_}
-use native.Mathlib.Omega.{arith}
+use Rattle.base.specs.{ap, _∙_, _/_, _%_, arith, needs}
 use Rattle.model.specs.declared.Cell.{Cell}
-use Rattle.net_gates.specs.Gates.{twoDriver}
-use borrow.Author.Needs.{needs}
+use Rattle.net_gates.specs.{twoDriver}
 use Rattle.net_gates.proofs.pair_gates.Statement.{statement}
 use Rattle.net_gates.proofs.pair_gates.Tie as tie
 
@@ -20,7 +16,4 @@ returns c =
     c .two-gates .ensures ∙ (λ i. twoDriver (c .before .before .cell-at .ensures i) (a .code / 32 % 4) (c .before .cell-at2 .ensures i) (a .nets) (a .l))
 
 pub pair-gates-spec : {M : Type 1} → statement M
-pair-gates-spec =
-    tie.close
-    (tie.spec
-    (λ c κs. search needs) (λ c κs. search needs) two-gates-requires returns)
+pair-gates-spec = tie.close (tie.spec (λ c κs. search needs) (λ c κs. search needs) two-gates-requires returns)

@@ -1,10 +1,6 @@
 -- `net_gates::root_net` meets its contract.
--- Assumes nothing.
-use mathlib.Core.Path.{sym, _∙_}
-use Prim.Native.Nat.{ℕ}
-use lib.ListN.{getD}
+use Rattle.base.specs.{sym, _∙_, ℕ, getD, needs}
 use Rattle.net_gates.proofs.Feeding.{root-before, root-behind, root-fed}
-use borrow.Author.Needs.{needs}
 use Rattle.net_gates.proofs.root_net.Statement.{statement}
 use Rattle.net_gates.proofs.root_net.Tie as tie
 
@@ -24,7 +20,5 @@ returns-3 c =
     sym (root-fed (λ (k : ℕ). getD (a .nets) k 0) (a .inside) (a .pin) (a .n) (a .j) (c .before .if1 .left) (c .if2 .left))
 
 pub root-net-spec : {M : Type 1} → statement M
-root-net-spec =
-    tie.close
-    (tie.spec
+root-net-spec = tie.close (tie.spec
     (λ c κs. search needs) returns (λ c. search needs) (λ c. search needs) (λ c κs. search needs) returns-2 returns-3)

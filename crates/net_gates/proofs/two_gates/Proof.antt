@@ -1,8 +1,5 @@
 -- `net_gates::two_gates` meets its contract.
--- Assumes nothing.
-use mathlib.Core.Bool.{true}
-use Prim.Native.Nat.{_+_, _*_}
-use borrow.Author.Needs.{needs}
+use Rattle.base.specs.{true, _+_, _*_, needs}
 use Rattle.net_gates.proofs.two_gates.Statement.{statement}
 use Rattle.net_gates.proofs.two_gates.Tie as tie
 
@@ -17,8 +14,6 @@ returns c =
     }
 
 pub two-gates-spec : {M : Type 1} → statement M
-two-gates-spec =
-    tie.close
-    (tie.spec
-    (λ c. search needs) (λ c. search needs) (λ c. search needs) (λ c. search needs) (λ c κs. search needs) (λ c κs. search needs) (λ c. search needs)
-    (λ c. search needs) (λ c. search needs) returns)
+two-gates-spec = tie.close (tie.spec
+    (λ c. search needs) (λ c. search needs) (λ c. search needs) (λ c. search needs) (λ c κs. search needs) (λ c κs. search needs)
+    (λ c. search needs) (λ c. search needs) (λ c. search needs) returns)

@@ -1,8 +1,6 @@
 -- `net_timing::line_len` meets its contract.
--- Assumes nothing.
-use native.Mathlib.Omega.{arith}
-use borrow.Author.Needs.{needs}
-use Rattle.net_writer.proofs.Counting.{ten-digits}
+use Rattle.base.specs.{arith, needs}
+use Rattle.net_writer.proofs.{ten-digits}
 use Rattle.net_timing.proofs.line_len.Statement.{statement}
 use Rattle.net_timing.proofs.line_len.Tie as tie
 
@@ -29,7 +27,5 @@ returns : tie.Need-returns
 returns c = let a = c .before .before .before .args in omega (arith, ten-digits (a .low) (omega arith), ten-digits (a .high) (omega arith))
 
 pub line-len-spec : {M : Type 1} → statement M
-line-len-spec =
-    tie.close
-    (tie.spec
+line-len-spec = tie.close (tie.spec
     (λ c κs. search needs) (λ c κs. search needs) add-result (λ c κs. search needs) add-result-2 add-result-3 returns)

@@ -1,11 +1,6 @@
 -- `net_timing::lines_len` meets its contract. The invariant: what is counted and what is left make the whole, at most 43 bytes for each output. The measure is the number of outputs left.
--- Assumes nothing.
-use mathlib.Core.Path.{_≡_, ap}
-use Prim.Native.Nat.{ℕ, _+_, _-_, _*_, _≤_}
-use native.Mathlib.Omega.{arith}
-use borrow.Author.Needs.{needs}
-use lib.ListN.{length, length-append}
-use Rattle.net_timing.specs.Lines.{linesFrom}
+use Rattle.base.specs.{_≡_, ap, ℕ, _+_, _-_, _*_, _≤_, arith, needs, length, length-append}
+use Rattle.net_timing.specs.{linesFrom}
 use Rattle.net_timing.proofs.Counting.{line-length, lines-next, lines-none}
 use Rattle.net_timing.proofs.lines_len.Statement.{statement}
 use Rattle.net_timing.proofs.lines_len.Tie as tie
@@ -39,8 +34,6 @@ returns c =
     omega (arith, ap length (lines-none (a .work .now) (a .m) (a .outputs) (l .loop .i) (c .loop-test .left)))
 
 pub lines-len-spec : {M : Type 1} → statement M
-lines-len-spec =
-    tie.close
-    (tie.spec
+lines-len-spec = tie.close (tie.spec
     Inv-loop μ-loop loop-holds (λ c κs. search needs) (λ c κs. search needs) (λ c. omega arith) (λ c κs. tt) (λ c. omega arith)
     (λ c. omega arith) (λ c. omega arith) loop-again returns)

@@ -1,20 +1,11 @@
 -- `net_timing::low_table` meets its contract. The invariant: the numbers before the k-th have their cells' lowest delays; the measure is how many are left.
--- Assumes nothing.
-use mathlib.Core.Path.{_≡_, refl, sym, ap, _∙_}
-use mathlib.Core.Bool.{Bool, true, false}
-use mathlib.Core.List.{List}
-use Prim.Native.Nat.{ℕ, zero, suc, _+_, _-_, _*_, _<_}
-use native.Mathlib.Omega.{arith}
-use borrow.Author.Needs.{needs}
-use lib.Dec.{eqb}
-use lib.ListN.{length, getD, set, length-set}
-use lib.Seq.{getD-set-same, getD-set-other}
-use borrow.Author.Tests.{eqb-true, eqb-false}
-use Rattle.model.specs.Cells.{cellAt, cellsOf}
+use Rattle.base.specs.{_≡_, refl, sym, ap, _∙_, Bool, true, false, List, ℕ, zero, suc, _+_, _-_, _*_, _<_, arith, needs, eqb, length, getD}
+use Rattle.base.specs.{set, length-set, getD-set-same, getD-set-other, eqb-true, eqb-false}
+use Rattle.model.specs.{cellAt, cellsOf}
 use Rattle.model.specs.declared.Cell.{Cell}
-use Rattle.cells_pairs.specs.Codes.{cellsBy}
-use Rattle.cells_pairs.proofs.Cells.{by-length}
-use Rattle.net_timing.specs.Retiming.{fourAt}
+use Rattle.cells_pairs.specs.{cellsBy}
+use Rattle.cells_pairs.proofs.{by-length}
+use Rattle.net_timing.specs.{fourAt}
 use Rattle.net_timing.proofs.low_table.Statement.{statement}
 use Rattle.net_timing.proofs.low_table.Tie as tie
 
@@ -96,8 +87,6 @@ returns c =
     record { listed = λ i j h b. l .loop .inv .1 i j (omega (arith, h, by-length (cellsOf (a .lib)) (a .codes .now), s .pre .joinable .whole, c .loop-test .left)) b }
 
 pub low-table-spec : {M : Type 1} → statement M
-low-table-spec =
-    tie.close
-    (tie.spec
-    Inv-loop μ-loop (λ c. omega arith) (λ c. (refl, λ i j h. absurd (omega arith))) (λ c κs. search needs) (λ c κs. omega arith) (λ c. omega arith)
-    (λ c. omega arith) loop-again returns)
+low-table-spec = tie.close (tie.spec
+    Inv-loop μ-loop (λ c. omega arith) (λ c. (refl, λ i j h. absurd (omega arith))) (λ c κs. search needs) (λ c κs. omega arith)
+    (λ c. omega arith) (λ c. omega arith) loop-again returns)

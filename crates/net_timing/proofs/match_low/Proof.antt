@@ -1,23 +1,14 @@
 -- `net_timing::match_low` meets its contract: the leaves, the pins and the delays that are read are those of the match.
--- Assumes nothing.
-use mathlib.Core.Path.{_≡_, sym, ap, subst, _∙_}
-use mathlib.Core.List.{List}
-use Prim.Native.Nat.{ℕ, _*_, _≤_}
-use native.Mathlib.Omega.{arith}
-use lib.ListN.{length, drop}
-use lib.Seq.{getD-drop}
-use Rattle.model.specs.Cells.{cellAt}
-use Rattle.model.specs.Matching.{fedNets}
+use Rattle.base.specs.{_≡_, sym, ap, subst, _∙_, List, ℕ, _*_, _≤_, arith, length, drop, getD-drop, needs}
+use Rattle.model.specs.{cellAt, fedNets}
 use Rattle.model.specs.declared.Cut.{Cut}
-use Rattle.base_truth.specs.Variant.{placesOf}
-use Rattle.base_truth.proofs.Variants.{places-four}
-use Rattle.base_truth.proofs.Nets.{nets-length}
-use Rattle.base_words.specs.Record.{cutOf}
-use Rattle.cover_choice.specs.Asked.{PinsIn}
-use Rattle.cover_choice.proofs.Marks.{match-pins, match-nets}
-use Rattle.net_timing.specs.Retiming.{latestLow, matchLow}
+use Rattle.base_words.specs.{cutOf}
+use Rattle.base_truth.specs.{placesOf}
+use Rattle.base_truth.proofs.{places-four, nets-length}
+use Rattle.cover_choice.specs.{PinsIn}
+use Rattle.cover_choice.proofs.{match-pins, match-nets}
+use Rattle.net_timing.specs.{latestLow, matchLow}
 use Rattle.net_timing.proofs.Lowest.{latest-same}
-use borrow.Author.Needs.{needs}
 use Rattle.net_timing.proofs.match_low.Statement.{statement}
 use Rattle.net_timing.proofs.match_low.Tie as tie
 
@@ -62,7 +53,5 @@ returns c cells ok i pins lows =
     ∙ ap (λ (ls : List ℕ). latestLow (a .work .now) (a .m) ls (cellAt cells (a .x .cell) .lows)) (sym (match-nets cells (a .work .now) (a .m) (a .v) (a .x) ok (s .pre .1) (s .pre .2) i))
 
 pub match-low-spec : {M : Type 1} → statement M
-match-low-spec =
-    tie.close
-    (tie.spec
+match-low-spec = tie.close (tie.spec
     load-cut-requires (λ c. search needs) (λ c. search needs) (λ c κs. search needs) (λ c. search needs) pins-low-requires returns)

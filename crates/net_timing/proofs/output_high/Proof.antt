@@ -1,10 +1,8 @@
 -- `net_timing::output_high` meets its contract.
--- Assumes nothing.
-use mathlib.Core.Path.{sym, ap, subst, _∙_}
-use Prim.Native.Nat.{ℕ, _/_, _≤_}
+use Rattle.base.specs.{sym, ap, subst, _∙_, ℕ, _/_, _≤_}
 use Rattle.model.specs.declared.Phase.{Phase}
-use Rattle.base_words.specs.Phases.{phaseAt}
-use Rattle.base_words.proofs.Columns.{room-need}
+use Rattle.base_words.specs.{phaseAt}
+use Rattle.base_words.proofs.{room-need}
 use Rattle.net_timing.proofs.output_high.Statement.{statement}
 use Rattle.net_timing.proofs.output_high.Tie as tie
 

@@ -1,9 +1,7 @@
 -- `net_timing::output_low` meets its contract.
--- Assumes nothing.
-use mathlib.Core.Path.{sym, ap, subst, _∙_}
-use Prim.Native.Nat.{ℕ, _/_, _≤_}
-use Rattle.base_words.specs.Layout.{lowAt}
-use Rattle.base_words.proofs.Columns.{room-need}
+use Rattle.base.specs.{sym, ap, subst, _∙_, ℕ, _/_, _≤_}
+use Rattle.base_words.specs.{lowAt}
+use Rattle.base_words.proofs.{room-need}
 use Rattle.net_timing.proofs.output_low.Statement.{statement}
 use Rattle.net_timing.proofs.output_low.Tie as tie
 

@@ -1,9 +1,7 @@
 -- `net_timing::own_low` meets its contract, by what the source is.
--- Assumes nothing.
-use mathlib.Core.Path.{sym, ap, _∙_}
+use Rattle.base.specs.{sym, ap, _∙_, needs}
 use Rattle.model.specs.declared.Phase.{Phase}
-use Rattle.net_timing.specs.Retiming.{ownLow}
-use borrow.Author.Needs.{needs}
+use Rattle.net_timing.specs.{ownLow}
 use Rattle.net_timing.proofs.own_low.Statement.{statement}
 use Rattle.net_timing.proofs.own_low.Tie as tie
 
@@ -47,8 +45,6 @@ returns-4 c cells r pins lows =
     sym (ap (ownLow cells (a .work .now) (a .m) (a .l)) (ap (λ (q : Phase). q .source) (sym (p .phase .ensures)) ∙ c .enum-told3 .given .1))
 
 pub own-low-spec : {M : Type 1} → statement M
-own-low-spec =
-    tie.close
-    (tie.spec
-    (λ c κs. search needs) (λ c. search needs) (λ c κs. search needs) (λ c. search needs) match-low-requires (λ c. search needs) (λ c. search needs) returns
-    returns-2 returns-3 returns-4)
+own-low-spec = tie.close (tie.spec
+    (λ c κs. search needs) (λ c. search needs) (λ c κs. search needs) (λ c. search needs) match-low-requires (λ c. search needs)
+    (λ c. search needs) returns returns-2 returns-3 returns-4)

@@ -1,16 +1,9 @@
 -- `net_timing::pins_low` meets its contract. The invariant: the latest of the pins from here on; the measure is what is left of them.
--- Assumes nothing.
-use borrow.Author.Needs.{needs}
-use mathlib.Core.Path.{_≡_, sym, ap, ap₂, subst, _∙_}
-use mathlib.Core.List.{List}
-use Prim.Native.Nat.{ℕ, _-_, _/_, _≤_, max}
-use native.Mathlib.Omega.{arith}
-use lib.ListN.{drop, getD}
-use lib.Seq.{getD-drop}
-use Rattle.model.specs.Matching.{fedNets}
-use Rattle.base_truth.specs.Variant.{placesOf, pinNet}
-use Rattle.base_words.specs.Layout.{lowAt}
-use Rattle.net_timing.specs.Retiming.{after, latestLow}
+use Rattle.base.specs.{needs, _≡_, sym, ap, ap₂, subst, _∙_, List, ℕ, _-_, _/_, _≤_, max, arith, drop, getD, getD-drop}
+use Rattle.model.specs.{fedNets}
+use Rattle.base_words.specs.{lowAt}
+use Rattle.base_truth.specs.{placesOf, pinNet}
+use Rattle.net_timing.specs.{after, latestLow}
 use Rattle.net_timing.proofs.Lowest.{net-var, pins-none, pins-turn}
 use Rattle.net_timing.proofs.pins_low.Statement.{statement}
 use Rattle.net_timing.proofs.pins_low.Tie as tie
@@ -63,9 +56,6 @@ returns c =
     l .loop .inv .1 ∙ ap (λ (i : ℕ). latestLow (a .work .now) (a .m) (drop i (fedNets (a .pins) (placesOf (a .order)) (a .mask) (a .leaves))) (drop i (drop (a .at) (a .lows .now)))) e
 
 pub pins-low-spec : {M : Type 1} → statement M
-pins-low-spec =
-    tie.close
-    (tie.spec
-    Inv-loop μ-loop loop-holds (λ c. omega arith) (λ c κs. search needs) low-requires (λ c. omega arith) (λ c. omega arith) (λ c. omega arith)
-    (λ c κs. search needs)
-    (λ c κs. search needs) (λ c. omega arith) loop-again returns)
+pins-low-spec = tie.close (tie.spec
+    Inv-loop μ-loop loop-holds (λ c. omega arith) (λ c κs. search needs) low-requires (λ c. omega arith) (λ c. omega arith)
+    (λ c. omega arith) (λ c κs. search needs) (λ c κs. search needs) (λ c. omega arith) loop-again returns)

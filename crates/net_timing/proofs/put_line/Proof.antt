@@ -1,12 +1,8 @@
 -- `net_timing::put_line` meets its contract: the keyword, the output's own name and the two arrivals.
--- Assumes nothing.
-use Prim.Native.Nat.{_≤_}
-use native.Mathlib.Omega.{arith}
-use borrow.Author.Needs.{needs}
-use lib.ListN.{length}
-use Rattle.model.specs.Text.{text}
-use Rattle.net_writer.proofs.Behind.{then}
-use Rattle.net_timing.specs.Lines.{lineText}
+use Rattle.base.specs.{_≤_, arith, needs, length}
+use Rattle.model.specs.{text}
+use Rattle.net_writer.proofs.{then}
+use Rattle.net_timing.specs.{lineText}
 use Rattle.net_timing.proofs.Counting.{times-length}
 use Rattle.net_timing.proofs.put_line.Statement.{statement}
 use Rattle.net_timing.proofs.put_line.Tie as tie
@@ -22,7 +18,5 @@ returns c =
     then h (keyword .put-bytes .ensures) (then h (name .put-out .ensures) (p .put-times .ensures))
 
 pub put-line-spec : {M : Type 1} → statement M
-put-line-spec =
-    tie.close
-    (tie.spec
+put-line-spec = tie.close (tie.spec
     (λ c. search needs) (λ c κs. omega arith) (λ c κs. omega arith) (λ c κs. omega arith) (λ c. search needs) returns)

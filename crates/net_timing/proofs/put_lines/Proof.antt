@@ -1,13 +1,8 @@
 -- `net_timing::put_lines` meets its contract. The invariant: the lines of the first i outputs are written. The measure is the number of outputs left.
--- Assumes nothing.
-use mathlib.Core.Path.{_≡_, ap}
-use Prim.Native.Nat.{_-_, _≤_}
-use native.Mathlib.Omega.{arith}
-use borrow.Author.Needs.{needs}
-use lib.ListN.{length, length-append}
-use Rattle.base_text.proofs.Progress.{Partly, begin, step, kept, end}
-use Rattle.net_writer.proofs.Behind.{left}
-use Rattle.net_timing.specs.Lines.{linesFrom}
+use Rattle.base.specs.{_≡_, ap, _-_, _≤_, arith, needs, length, length-append}
+use Rattle.base_text.proofs.{Partly, begin, step, kept, end}
+use Rattle.net_writer.proofs.{left}
+use Rattle.net_timing.specs.{linesFrom}
 use Rattle.net_timing.proofs.Counting.{line-length, lines-next, lines-none}
 use Rattle.net_timing.proofs.put_lines.Statement.{statement}
 use Rattle.net_timing.proofs.put_lines.Tie as tie
@@ -52,8 +47,6 @@ returns c =
     end (s .pre .2) (l .loop .inv .1) (lines-none (s .args .work .now) (s .args .m) (s .args .outputs) (l .loop .i) (c .loop-test .left))
 
 pub put-lines-spec : {M : Type 1} → statement M
-put-lines-spec =
-    tie.close
-    (tie.spec
+put-lines-spec = tie.close (tie.spec
     Inv-loop μ-loop loop-holds (λ c κs. search needs) (λ c κs. search needs) (λ c. omega arith) put-line-requires (λ c. omega arith)
     (λ c. omega arith) loop-again same-length returns)

@@ -1,8 +1,6 @@
 -- `net_timing::put_lows` meets its contract.
--- Assumes nothing.
-use mathlib.Core.Path.{refl}
-use borrow.Author.Needs.{needs}
-use Rattle.net_timing.specs.Retiming.{fourAt}
+use Rattle.base.specs.{refl, needs}
+use Rattle.net_timing.specs.{fourAt}
 use Rattle.net_timing.proofs.put_lows.Statement.{statement}
 use Rattle.net_timing.proofs.put_lows.Tie as tie
 
@@ -11,9 +9,7 @@ unfolding fourAt
 returns c = refl
 
 pub put-lows-spec : {M : Type 1} → statement M
-put-lows-spec =
-    tie.close
-    (tie.spec
-    (λ c. search needs) (λ c. search needs) (λ c. search needs) (λ c. search needs) (λ c. search needs) (λ c. search needs) (λ c. search needs)
-    (λ c. search needs) (λ c. search needs) (λ c. search needs) (λ c. search needs) (λ c. search needs) (λ c. search needs) (λ c. search needs)
-    (λ c. search needs) (λ c. search needs) returns)
+put-lows-spec = tie.close (tie.spec
+    (λ c. search needs) (λ c. search needs) (λ c. search needs) (λ c. search needs) (λ c. search needs) (λ c. search needs)
+    (λ c. search needs) (λ c. search needs) (λ c. search needs) (λ c. search needs) (λ c. search needs) (λ c. search needs)
+    (λ c. search needs) (λ c. search needs) (λ c. search needs) (λ c. search needs) returns)

@@ -1,12 +1,8 @@
 -- `net_timing::put_times` meets its contract: a space and a number, twice, and the end of the line.
--- Assumes nothing.
-use Prim.Native.Nat.{_≤_}
-use native.Mathlib.Omega.{arith}
-use borrow.Author.Needs.{needs}
-use lib.ListN.{length}
-use Rattle.base_text.proofs.Progress.{as-wrote}
-use Rattle.net_writer.proofs.Behind.{then}
-use Rattle.net_timing.specs.Lines.{timesText}
+use Rattle.base.specs.{_≤_, arith, needs, length}
+use Rattle.base_text.proofs.{as-wrote}
+use Rattle.net_writer.proofs.{then}
+use Rattle.net_timing.specs.{timesText}
 use Rattle.net_timing.proofs.put_times.Statement.{statement}
 use Rattle.net_timing.proofs.put_times.Tie as tie
 
@@ -23,8 +19,6 @@ returns c =
     (then h (space .put-byte2 .ensures) (then h (as-wrote (high .put-number2 .ensures)) (p .put-byte3 .ensures))))
 
 pub put-times-spec : {M : Type 1} → statement M
-put-times-spec =
-    tie.close
-    (tie.spec
-    (λ c κs. omega arith) (λ c κs. omega arith) (λ c κs. omega arith) (λ c κs. omega arith) (λ c κs. omega arith)
-    (λ c. search needs) returns)
+put-times-spec = tie.close (tie.spec
+    (λ c κs. omega arith) (λ c κs. omega arith) (λ c κs. omega arith) (λ c κs. omega arith) (λ c κs. omega arith) (λ c. search needs)
+    returns)

@@ -1,10 +1,9 @@
--- `net_timing::retime` meets its contract: both tables are of the cells to map with. Assumes nothing.
-use mathlib.Core.Path.{sym, ap, subst, _∙_}
-use borrow.Author.Needs.{needs}
-use Rattle.model.specs.Cells.{cellsOf}
-use Rattle.cells_pairs.specs.Codes.{cellsBy}
-use Rattle.cover_choice.specs.Asked.{SlotsIn}
-use Rattle.net_timing.specs.Retiming.{retimedUp}
+-- `net_timing::retime` meets its contract: both tables are of the cells to map with.
+use Rattle.base.specs.{sym, ap, subst, _∙_, needs}
+use Rattle.model.specs.{cellsOf}
+use Rattle.cells_pairs.specs.{cellsBy}
+use Rattle.cover_choice.specs.{SlotsIn}
+use Rattle.net_timing.specs.{retimedUp}
 use Rattle.net_timing.proofs.retime.Statement.{statement}
 use Rattle.net_timing.proofs.retime.Tie as tie
 
@@ -28,7 +27,5 @@ returns c =
     ∙ ap (retimedUp (cellsBy (cellsOf (a .lib)) (a .codes .now)) (a .work .now) (a .h .size)) (p .placed .ensures)
 
 pub retime-spec : {M : Type 1} → statement M
-retime-spec =
-    tie.close
-    (tie.spec
+retime-spec = tie.close (tie.spec
     (λ c κs. search needs) (λ c κs. search needs) (λ c κs. search needs) retime-variables-requires (λ c. search needs) returns)

@@ -1,15 +1,9 @@
 -- `net_timing::retime_variable` meets its contract: both own arrivals are known before either is stored.
--- Assumes nothing.
-use mathlib.Core.Path.{_≡_, sym, ap, subst, _∙_}
-use mathlib.Core.List.{List}
-use Prim.Native.Nat.{ℕ, _+_, _*_, _/_, _≤_}
-use native.Mathlib.Omega.{arith}
+use Rattle.base.specs.{_≡_, sym, ap, subst, _∙_, List, ℕ, _+_, _*_, _/_, _≤_, arith, needs}
 use Rattle.model.specs.declared.Phase.{Phase}
-use Rattle.base_words.specs.Layout.{Room}
-use Rattle.base_words.specs.Phases.{phaseAt}
-use Rattle.net_timing.specs.Retiming.{turnedLow, putLow, retimedTurn, InverterIn}
+use Rattle.base_words.specs.{Room, phaseAt}
+use Rattle.net_timing.specs.{turnedLow, putLow, retimedTurn, InverterIn}
 use Rattle.net_timing.proofs.Lowest.{kept-room, put-kept}
-use borrow.Author.Needs.{needs}
 use Rattle.net_timing.proofs.retime_variable.Statement.{statement}
 use Rattle.net_timing.proofs.retime_variable.Tie as tie
 
@@ -92,9 +86,7 @@ returns c cells r pins lows =
     ∙ (λ i. putLow (putLow (a .work .now) (a .m) (2 * a .v) (positive i)) (a .m) (2 * a .v + 1) (negative i))
 
 pub retime-variable-spec : {M : Type 1} → statement M
-retime-variable-spec =
-    tie.close
-    (tie.spec
-    (λ c. search needs) own-low-requires (λ c. search needs) (λ c. search needs) own-low-requires-2 (λ c. search needs) (λ c κs. search needs)
-    turned-requires (λ c. search needs) (λ c. search needs) (λ c κs. search needs) turned-requires-2 mul-set-low set-low-requires mul-set-low-2
-    add-set-low set-low-requires-2 (λ c. search needs) returns)
+retime-variable-spec = tie.close (tie.spec
+    (λ c. search needs) own-low-requires (λ c. search needs) (λ c. search needs) own-low-requires-2 (λ c. search needs)
+    (λ c κs. search needs) turned-requires (λ c. search needs) (λ c. search needs) (λ c κs. search needs) turned-requires-2 mul-set-low
+    set-low-requires mul-set-low-2 add-set-low set-low-requires-2 (λ c. search needs) returns)

@@ -1,15 +1,9 @@
 -- `net_timing::retime_variables` meets its contract. The invariant: the first i variables are timed; the measure is what is left of them.
--- Assumes nothing.
-use mathlib.Core.Path.{_≡_, refl, sym, ap, subst, _∙_}
-use mathlib.Core.List.{List}
-use Prim.Native.Nat.{ℕ, suc, _+_, _-_, _≤_}
-use native.Mathlib.Omega.{arith}
-use borrow.Author.Needs.{needs}
-use lib.ListN.{length}
+use Rattle.base.specs.{_≡_, refl, sym, ap, subst, _∙_, List, ℕ, suc, _+_, _-_, _≤_, arith, needs, length}
 use Rattle.model.specs.declared.Cell.{Cell}
-use Rattle.base_words.specs.Layout.{slotAt}
-use Rattle.cover_choice.specs.Asked.{PinsOf, SlotsIn}
-use Rattle.net_timing.specs.Retiming.{retimedTurn, retimedUp, Retimable, LowsOf}
+use Rattle.base_words.specs.{slotAt}
+use Rattle.cover_choice.specs.{PinsOf, SlotsIn}
+use Rattle.net_timing.specs.{retimedTurn, retimedUp, Retimable, LowsOf}
 use Rattle.net_timing.proofs.Lowest.{LowsKept, turn-kept, lows-slots, lows-retimable}
 use Rattle.net_timing.proofs.retime_variables.Statement.{statement}
 use Rattle.net_timing.proofs.retime_variables.Tie as tie
@@ -81,7 +75,6 @@ returns c cells r p q =
     l .loop .inv .3 cells r p q .1 ∙ ap (retimedUp cells (a .work .now) (a .m)) e
 
 pub retime-variables-spec : {M : Type 1} → statement M
-retime-variables-spec =
-    tie.close
-    (tie.spec
-    Inv-loop μ-loop loop-holds (λ c κs. search needs) retime-variable-requires (λ c. omega arith) (λ c. omega arith) loop-again same-length returns)
+retime-variables-spec = tie.close (tie.spec
+    Inv-loop μ-loop loop-holds (λ c κs. search needs) retime-variable-requires (λ c. omega arith) (λ c. omega arith) loop-again same-length
+    returns)

@@ -1,11 +1,6 @@
 -- `net_timing::turned` meets its contract: an inverter to map with, or what the phase has of its own.
--- Assumes nothing.
-use mathlib.Core.Path.{_≡_, ap, subst, _∙_}
-use Prim.Native.Nat.{ℕ, _+_, _*_}
-use native.Mathlib.Omega.{arith}
-use lib.ListN.{getD}
-use Rattle.net_timing.specs.Retiming.{after, turnedLow, InverterIn}
-use borrow.Author.Needs.{needs}
+use Rattle.base.specs.{_≡_, ap, subst, _∙_, ℕ, _+_, _*_, arith, getD, needs}
+use Rattle.net_timing.specs.{after, turnedLow, InverterIn}
 use Rattle.net_timing.proofs.turned.Statement.{statement}
 use Rattle.net_timing.proofs.turned.Tie as tie
 
@@ -39,8 +34,6 @@ unfolding turnedLow
 returns-4 c cells i lows = rw (c .enum-told3 .given .1)
 
 pub turned-spec : {M : Type 1} → statement M
-turned-spec =
-    tie.close
-    (tie.spec
-    (λ c. search needs) inverter-low-requires (λ c κs. search needs) (λ c. search needs) (λ c. search needs) (λ c. search needs) returns returns-2 returns-3
-    returns-4)
+turned-spec = tie.close (tie.spec
+    (λ c. search needs) inverter-low-requires (λ c κs. search needs) (λ c. search needs) (λ c. search needs) (λ c. search needs) returns
+    returns-2 returns-3 returns-4)

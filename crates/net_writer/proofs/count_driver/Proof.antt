@@ -1,8 +1,6 @@
 -- `net_writer::count_driver` meets its contract: two gates more, one or none.
--- Assumes nothing.
-use native.Mathlib.Omega.{arith}
+use Rattle.base.specs.{arith, needs}
 use Rattle.net_writer.proofs.Counting.{gates-two, gates-one, gates-absent, tally-append, tally-none}
-use borrow.Author.Needs.{needs}
 use Rattle.net_writer.proofs.count_driver.Statement.{statement}
 use Rattle.net_writer.proofs.count_driver.Tie as tie
 
@@ -22,7 +20,4 @@ returns-3 : tie.Need-returns-3
 returns-3 c = (rw (gates-absent (c .before .args .d) (c .if1 .left), tally-none), omega arith)
 
 pub count-driver-spec : {M : Type 1} → statement M
-count-driver-spec =
-    tie.close
-    (tie.spec
-    (λ c κs. search needs) (λ c κs. search needs) returns (λ c κs. search needs) returns-2 returns-3)
+count-driver-spec = tie.close (tie.spec (λ c κs. search needs) (λ c κs. search needs) returns (λ c κs. search needs) returns-2 returns-3)

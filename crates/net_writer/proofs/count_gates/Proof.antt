@@ -1,13 +1,9 @@
 -- `net_writer::count_gates` meets its contract. The invariant: what is counted, with the gates of the phases from l on, is the count of all.
 -- The measure is the number of phases left.
--- Assumes nothing.
-use mathlib.Core.Path.{_≡_, sym, ap, _∙_}
-use Prim.Native.Nat.{_+_, _-_, _*_, _≤_}
-use native.Mathlib.Omega.{arith}
-use borrow.Author.Needs.{needs}
-use Rattle.net_gates.specs.Gates.{gatesOf}
+use Rattle.base.specs.{_≡_, sym, ap, _∙_, _+_, _-_, _*_, _≤_, arith, needs}
+use Rattle.net_gates.specs.{gatesOf}
 use Rattle.net_writer.specs.declared.Tally.{Tally}
-use Rattle.net_writer.specs.Lines.{gatesFrom, tallied, noTally, Bounded}
+use Rattle.net_writer.specs.{gatesFrom, tallied, noTally, Bounded}
 use Rattle.net_writer.proofs.Counting.{gates-none, tally-append, tally-none}
 use Rattle.net_writer.proofs.Walking.{gatesLeft, comes, gates-on}
 use Rattle.net_writer.proofs.count_gates.Statement.{statement}
@@ -58,9 +54,7 @@ returns c =
     )
 
 pub count-gates-spec : {M : Type 1} → statement M
-count-gates-spec =
-    tie.close
-    (tie.spec
+count-gates-spec = tie.close (tie.spec
     Inv-loop μ-loop (λ c. omega arith) (λ c. omega arith) (λ c κs. tt) (λ c κs. search needs) loop-holds (λ c κs. search needs)
-    (λ c κs. search needs)
-    (λ c κs. search needs) (λ c. omega (arith, comes (omega arith) (c .gate-after .ensures) .low)) loop-again returns)
+    (λ c κs. search needs) (λ c κs. search needs) (λ c. omega (arith, comes (omega arith) (c .gate-after .ensures) .low)) loop-again
+    returns)

@@ -1,12 +1,7 @@
 -- `net_writer::count_instance` meets its contract: one gate more.
--- Assumes nothing.
-use mathlib.Core.Path.{sym, _∙_}
-use Prim.Native.Nat.{_+_}
-use native.Mathlib.Omega.{arith}
-use lib.ListN.{take}
-use Rattle.net_gates.specs.Gates.{gateOf}
+use Rattle.base.specs.{sym, _∙_, _+_, arith, take, needs}
+use Rattle.net_gates.specs.{gateOf}
 use Rattle.net_writer.proofs.Counting.{line-length, tally-one}
-use borrow.Author.Needs.{needs}
 use Rattle.net_writer.proofs.count_instance.Statement.{statement}
 use Rattle.net_writer.proofs.count_instance.Tie as tie
 
@@ -23,6 +18,5 @@ returns c =
     )
 
 pub count-instance-spec : {M : Type 1} → statement M
-count-instance-spec = tie.close
-    (tie.spec
+count-instance-spec = tie.close (tie.spec
     (λ c κs. search needs) (λ c. search needs) (λ c. search needs) (λ c. search needs) (λ c. search needs) returns)

@@ -1,13 +1,10 @@
 -- `net_writer::driver_at` meets its contract.
--- Assumes nothing.
-use mathlib.Core.Path.{sym, ap, subst, _∙_}
-use mathlib.Core.List.{List}
+use Rattle.base.specs.{sym, ap, subst, _∙_, List, needs}
 use Rattle.model.specs.declared.Phase.{Phase}
-use Rattle.model.specs.Netlist.{Gate}
-use Rattle.net_gates.specs.Gates.{Drives}
-use Rattle.net_writer.specs.Lines.{SourceReady, gateBy}
+use Rattle.model.specs.{Gate}
+use Rattle.net_gates.specs.{Drives}
+use Rattle.net_writer.specs.{SourceReady, gateBy}
 use Rattle.net_writer.proofs.Counting.{gate-needed, gate-idle}
-use borrow.Author.Needs.{needs}
 use Rattle.net_writer.proofs.driver_at.Statement.{statement}
 use Rattle.net_writer.proofs.driver_at.Tie as tie
 
@@ -29,7 +26,5 @@ returns-2 c =
     subst (λ (ts : List Gate). Drives (c .no-driver .result) ts) (sym (gate-idle (a .work .now) (a .book .now) (a .m) (a .l) idle)) (c .no-driver .ensures)
 
 pub driver-at-spec : {M : Type 1} → statement M
-driver-at-spec =
-    tie.close
-    (tie.spec
+driver-at-spec = tie.close (tie.spec
     (λ c κs. search needs) (λ c κs. search needs) driver-of-requires (λ c κs. search needs) returns returns-2)

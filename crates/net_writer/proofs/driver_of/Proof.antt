@@ -1,11 +1,8 @@
 -- `net_writer::driver_of` meets its contract: in each arm the source is known to be that arm's variant.
--- Assumes nothing.
-use mathlib.Core.Path.{sym, subst}
-use native.Mathlib.Omega.{arith}
+use Rattle.base.specs.{sym, subst, arith, needs}
 use Rattle.model.specs.declared.Source.{Source}
-use Rattle.net_gates.specs.Gates.{Drives}
-use Rattle.net_writer.specs.Lines.{SourceReady, gateBy}
-use borrow.Author.Needs.{needs}
+use Rattle.net_gates.specs.{Drives}
+use Rattle.net_writer.specs.{SourceReady, gateBy}
 use Rattle.net_writer.proofs.driver_of.Statement.{statement}
 use Rattle.net_writer.proofs.driver_of.Tie as tie
 
@@ -32,9 +29,6 @@ unfolding gateBy
 returns-4 c = let a = c .before .before .before .before .before .args in subst (λ (s : Source). Drives (c .no-driver2 .result) (gateBy (a .work .now) (a .book .now) (a .m) (a .l) s)) (sym (c .before .enum-told2 .given .1)) (c .no-driver2 .ensures)
 
 pub driver-of-spec : {M : Type 1} → statement M
-driver-of-spec =
-    tie.close
-    (tie.spec
+driver-of-spec = tie.close (tie.spec
     (λ c. search needs) (λ c κs. search needs) (λ c. search needs) matched-requires (λ c. search needs) inverted-requires
-    (λ c. search needs)
-    (λ c κs. search needs) returns returns-2 returns-3 returns-4)
+    (λ c. search needs) (λ c κs. search needs) returns returns-2 returns-3 returns-4)

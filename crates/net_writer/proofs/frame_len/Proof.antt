@@ -1,7 +1,6 @@
 -- `net_writer::frame_len` meets its contract.
--- Assumes nothing.
-use borrow.Author.Needs.{needs}
-use Rattle.base_words.proofs.Columns.{room-need}
+use Rattle.base.specs.{needs}
+use Rattle.base_words.proofs.{room-need}
 use Rattle.net_writer.proofs.frame_len.Statement.{statement}
 use Rattle.net_writer.proofs.frame_len.Tie as tie
 
@@ -11,7 +10,4 @@ inputs-len-requires c κs =
     (room-need (s .args .work .now) (s .args .m) (s .args .outputs) (s .pre .room), s .pre .fewInputs)
 
 pub frame-len-spec : {M : Type 1} → statement M
-frame-len-spec =
-    tie.close
-    (tie.spec
-    inputs-len-requires (λ c κs. search needs) (λ c. search needs) (λ c. search needs) (λ c. search needs))
+frame-len-spec = tie.close (tie.spec inputs-len-requires (λ c κs. search needs) (λ c. search needs) (λ c. search needs) (λ c. search needs))

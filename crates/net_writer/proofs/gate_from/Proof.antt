@@ -1,10 +1,6 @@
 -- `net_writer::gate_from` meets its contract. The invariant: the first gate from g on is the first from l on. The measure is the number of phases left.
--- Assumes nothing.
-use mathlib.Core.Path.{_≡_, refl, sym, _∙_}
-use Prim.Native.Nat.{_+_, _-_, _*_}
-use native.Mathlib.Omega.{arith}
-use borrow.Author.Needs.{needs}
-use Rattle.net_writer.specs.Lines.{gateFrom}
+use Rattle.base.specs.{_≡_, refl, sym, _∙_, _+_, _-_, _*_, arith, needs}
+use Rattle.net_writer.specs.{gateFrom}
 use Rattle.net_writer.proofs.Walking.{gate-here, gate-later, gate-end}
 use Rattle.net_writer.proofs.gate_from.Statement.{statement}
 use Rattle.net_writer.proofs.gate_from.Tie as tie
@@ -33,8 +29,6 @@ returns-2 c =
     sym (c .before .loop .inv ∙ gate-end (a .work .now) (a .m) (c .before .loop .g) (2 * (a .m + 1)) (c .loop-test .left))
 
 pub gate-from-spec : {M : Type 1} → statement M
-gate-from-spec =
-    tie.close
-    (tie.spec
+gate-from-spec = tie.close (tie.spec
     Inv-loop μ-loop (λ c. refl) (λ c. omega arith) (λ c. omega arith) (λ c κs. search needs) returns (λ c. omega arith) (λ c. omega arith)
     loop-again returns-2)

@@ -1,10 +1,5 @@
 -- `net_writer::gate_len` meets its contract.
--- Assumes nothing.
-use mathlib.Core.Path.{_≡_, sym, ap, _∙_}
-use native.Mathlib.Omega.{arith}
-use borrow.Author.Needs.{needs}
-use lib.ListN.{length, take}
-use lib.Seq.{length-take-le}
+use Rattle.base.specs.{_≡_, sym, ap, _∙_, arith, needs, length, take, length-take-le}
 use Rattle.net_writer.proofs.gate_len.Statement.{statement}
 use Rattle.net_writer.proofs.gate_len.Tie as tie
 
@@ -18,7 +13,6 @@ returns c =
     omega arith
 
 pub gate-len-spec : {M : Type 1} → statement M
-gate-len-spec =
-    tie.close
-    (tie.spec
-    (λ c κs. search needs) (λ c κs. search needs) (λ c. search needs) (λ c κs. search needs) (λ c. search needs) (λ c. search needs) returns)
+gate-len-spec = tie.close (tie.spec
+    (λ c κs. search needs) (λ c κs. search needs) (λ c. search needs) (λ c κs. search needs) (λ c. search needs) (λ c. search needs)
+    returns)

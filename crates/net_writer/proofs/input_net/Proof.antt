@@ -1,12 +1,8 @@
 -- `net_writer::input_net` meets its contract: the literal of the variable that is placed behind the constant and i inputs.
--- Assumes nothing.
-use mathlib.Core.Path.{ap}
-use Prim.Native.Nat.{ℕ, _+_, _*_}
-use native.Mathlib.Omega.{arith}
-use borrow.Author.Needs.{needs}
-use Rattle.model.specs.Graph.{literal}
-use Rattle.base_words.specs.Layout.{slotAddr}
-use Rattle.net_writer.specs.Lines.{inputNet}
+use Rattle.base.specs.{ap, ℕ, _+_, _*_, arith, needs}
+use Rattle.model.specs.{literal}
+use Rattle.base_words.specs.{slotAddr}
+use Rattle.net_writer.specs.{inputNet}
 use Rattle.net_writer.proofs.input_net.Statement.{statement}
 use Rattle.net_writer.proofs.input_net.Tie as tie
 

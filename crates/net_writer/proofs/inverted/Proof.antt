@@ -1,15 +1,11 @@
 -- `net_writer::inverted` meets its contract.
--- Assumes nothing.
-use mathlib.Core.List.{_∷_, []}
-use mathlib.Core.Path.{sym, subst, _∙_}
-use Prim.Native.Nat.{_*_}
-use Rattle.model.specs.Graph.{opposite}
-use Rattle.cells_pairs.specs.Bytes.{lineCell}
-use Rattle.net_gates.specs.Gates.{oneDriver, Drives}
-use Rattle.net_writer.specs.Lines.{invertedGates}
+use Rattle.base.specs.{_∷_, [], sym, subst, _∙_, _*_, needs}
+use Rattle.model.specs.{opposite}
+use Rattle.cells_pairs.specs.{lineCell}
+use Rattle.net_gates.specs.{oneDriver, Drives}
 use Rattle.net_gates.specs.declared.Driver.{Driver}
-use Rattle.net_gates.proofs.Feeding.{drives-inverted}
-use borrow.Author.Needs.{needs}
+use Rattle.net_gates.proofs.{drives-inverted}
+use Rattle.net_writer.specs.{invertedGates}
 use Rattle.net_writer.proofs.inverted.Statement.{statement}
 use Rattle.net_writer.proofs.inverted.Tie as tie
 
@@ -21,7 +17,5 @@ returns c =
     subst (λ (d : Driver). Drives d (invertedGates (a .book .now) (a .l) (a .i))) (sym made) (drives-inverted (lineCell (a .book .now) (a .i)) (opposite (a .l)) (a .l))
 
 pub inverted-spec : {M : Type 1} → statement M
-inverted-spec =
-    tie.close
-    (tie.spec
+inverted-spec = tie.close (tie.spec
     (λ c κs. search needs) (λ c κs. search needs) (λ c. search needs) (λ c. search needs) (λ c κs. search needs) returns)

@@ -1,10 +1,8 @@
 -- `net_writer::is_gate` meets its contract.
--- Assumes nothing.
-use mathlib.Core.Path.{sym, ap, _∙_}
+use Rattle.base.specs.{sym, ap, _∙_, needs}
 use Rattle.model.specs.declared.Phase.{Phase}
-use Rattle.base_words.specs.Phases.{makesGate}
+use Rattle.base_words.specs.{makesGate}
 use Rattle.net_writer.proofs.Walking.{is-gate-needed, is-gate-idle}
-use borrow.Author.Needs.{needs}
 use Rattle.net_writer.proofs.is_gate.Statement.{statement}
 use Rattle.net_writer.proofs.is_gate.Tie as tie
 
@@ -21,7 +19,4 @@ returns-2 c =
     sym (is-gate-idle (a .work .now) (a .m) (a .l) idle)
 
 pub is-gate-spec : {M : Type 1} → statement M
-is-gate-spec =
-    tie.close
-    (tie.spec
-    (λ c κs. search needs) (λ c κs. search needs) (λ c κs. search needs) returns returns-2)
+is-gate-spec = tie.close (tie.spec (λ c κs. search needs) (λ c κs. search needs) (λ c κs. search needs) returns returns-2)

@@ -1,13 +1,8 @@
 -- `net_writer::label_len` meets its contract: a letter more inside a pair.
--- Assumes nothing.
-use mathlib.Core.Path.{_≡_, ap}
-use Prim.Native.Nat.{_+_, _/_}
-use native.Mathlib.Omega.{arith}
-use lib.ListN.{length}
-use Rattle.model.specs.Netlist.{netName, label}
-use Rattle.net_gates.specs.Gates.{netOf}
+use Rattle.base.specs.{_≡_, ap, _+_, _/_, arith, length, needs}
+use Rattle.model.specs.{netName, label}
+use Rattle.net_gates.specs.{netOf}
 use Rattle.net_writer.proofs.Counting.{label-inside, label-phase}
-use borrow.Author.Needs.{needs}
 use Rattle.net_writer.proofs.label_len.Statement.{statement}
 use Rattle.net_writer.proofs.label_len.Tie as tie
 
@@ -23,7 +18,4 @@ returns-2 c =
     (omega (arith, ap length (label-phase n (c .before .if1 .left)), c .net-len2 .ensures .0), omega (arith, c .net-len2 .ensures .1))
 
 pub label-len-spec : {M : Type 1} → statement M
-label-len-spec =
-    tie.close
-    (tie.spec
-    (λ c κs. search needs) (λ c. search needs) (λ c κs. search needs) returns returns-2)
+label-len-spec = tie.close (tie.spec (λ c κs. search needs) (λ c. search needs) (λ c κs. search needs) returns returns-2)

@@ -1,9 +1,6 @@
 -- `net_writer::latest` meets its contract. The invariant: the latest so far and the latest of those left make the latest. The measure is the number of outputs left.
--- Assumes nothing.
-use mathlib.Core.Path.{_≡_, ap}
-use Prim.Native.Nat.{_-_, _≤_, max}
-use native.Mathlib.Omega.{arith}
-use Rattle.net_writer.specs.Lines.{latestFrom}
+use Rattle.base.specs.{_≡_, ap, _-_, _≤_, max, arith}
+use Rattle.net_writer.specs.{latestFrom}
 use Rattle.net_writer.proofs.Counting.{latest-next, latest-none}
 use Rattle.net_writer.proofs.latest.Statement.{statement}
 use Rattle.net_writer.proofs.latest.Tie as tie
@@ -36,7 +33,5 @@ returns c =
     omega (arith, l .inv .1, latest-none (a .work .now) (a .m) (a .outputs) (l .i) (c .loop-test .left))
 
 pub latest-spec : {M : Type 1} → statement M
-latest-spec =
-    tie.close
-    (tie.spec
+latest-spec = tie.close (tie.spec
     Inv-loop μ-loop loop-holds output-arrival-requires (λ c κs. tt) (λ c. omega arith) (λ c. omega arith) loop-again returns)

@@ -1,13 +1,6 @@
 -- `net_writer::letter` meets its contract: "`p` or `m` (negative)".
--- Assumes nothing.
-use mathlib.Core.Path.{sym, ap}
-use mathlib.Core.Bool.{Bool, cond}
-use mathlib.Core.List.{_∷_}
-use Prim.Native.Nat.{_/_}
-use borrow.Author.Tests.{eq-eqb, ne-eqb}
-use Rattle.model.specs.Text.{decimal}
-use Rattle.model.specs.Graph.{varOf, negated}
-use Rattle.model.specs.Netlist.{netName}
+use Rattle.base.specs.{sym, ap, Bool, cond, _∷_, _/_, eq-eqb, ne-eqb}
+use Rattle.model.specs.{decimal, varOf, negated, netName}
 use Rattle.net_writer.proofs.letter.Statement.{statement}
 use Rattle.net_writer.proofs.letter.Tie as tie
 

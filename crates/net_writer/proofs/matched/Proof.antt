@@ -1,17 +1,13 @@
 -- `net_writer::matched` meets its contract: the leaves at the order's places, in the mask's phases.
--- Assumes nothing.
-use mathlib.Core.List.{List, map}
-use mathlib.Core.Path.{refl, sym, ap, subst, _∙_}
-use Prim.Native.Nat.{ℕ}
-use Rattle.model.specs.Graph.{varOf}
+use Rattle.base.specs.{List, map, refl, sym, ap, subst, _∙_, ℕ, needs}
+use Rattle.model.specs.{varOf}
 use Rattle.model.specs.declared.Cut.{Cut}
-use Rattle.base_truth.specs.Variant.{placesOf}
-use Rattle.base_words.specs.Record.{cutOf}
-use Rattle.net_gates.specs.Gates.{phaseNet, fourNets, driverBy, pinsBy, gatesUnder, Drives}
-use Rattle.net_writer.specs.Lines.{matchedGates}
+use Rattle.base_words.specs.{cutOf}
+use Rattle.base_truth.specs.{placesOf}
+use Rattle.net_gates.specs.{phaseNet, fourNets, driverBy, pinsBy, gatesUnder, Drives}
 use Rattle.net_gates.specs.declared.Driver.{Driver}
-use Rattle.net_gates.proofs.Feeding.{four-taken, drives-by, number-pins}
-use borrow.Author.Needs.{needs}
+use Rattle.net_gates.proofs.{four-taken, drives-by, number-pins}
+use Rattle.net_writer.specs.{matchedGates}
 use Rattle.net_writer.proofs.matched.Statement.{statement}
 use Rattle.net_writer.proofs.matched.Tie as tie
 
@@ -31,6 +27,4 @@ returns c =
     (subst (λ (fed : List ℕ). Drives (driverBy (a .book .now) (x .cell) (map phaseNet ps) (a .l)) (gatesUnder (a .book .now) (x .cell) fed (a .l))) taken (drives-by ps refl (a .l) (a .book .now) (x .cell) (ready .number)))
 
 pub matched-spec : {M : Type 1} → statement M
-matched-spec = tie.close
-    (tie.spec
-    (λ c κs. search needs) (λ c κs. search needs) (λ c κs. search needs) returns)
+matched-spec = tie.close (tie.spec (λ c κs. search needs) (λ c κs. search needs) (λ c κs. search needs) returns)

@@ -1,14 +1,9 @@
 -- `net_writer::measure` meets its contract: what the words hold is what `model` defines.
--- Assumes nothing.
-use mathlib.Core.List.{List}
-use mathlib.Core.Path.{sym, ap, subst, _∙_}
-use Prim.Native.Nat.{ℕ}
-use lib.ListN.{length, drop, replicate}
-use Rattle.model.specs.Cells.{cellsOf}
-use Rattle.cells_pairs.specs.Bytes.{bookOf}
-use Rattle.net_writer.specs.Lines.{Gated, measuredIn}
+use Rattle.base.specs.{List, sym, ap, subst, _∙_, ℕ, length, drop, replicate, needs}
+use Rattle.model.specs.{cellsOf}
+use Rattle.cells_pairs.specs.{bookOf}
+use Rattle.net_writer.specs.{Gated, measuredIn}
 use Rattle.net_writer.proofs.Held.{book-is, gated, named, measured-held}
-use borrow.Author.Needs.{needs}
 use Rattle.net_writer.proofs.measure.Statement.{statement}
 use Rattle.net_writer.proofs.measure.Tie as tie
 
@@ -35,7 +30,4 @@ returns c =
     )
 
 pub measure-spec : {M : Type 1} → statement M
-measure-spec =
-    tie.close
-    (tie.spec
-    (λ c. search needs) (λ c κs. search needs) (λ c. search needs) measure-words-requires returns)
+measure-spec = tie.close (tie.spec (λ c. search needs) (λ c κs. search needs) (λ c. search needs) measure-words-requires returns)

@@ -1,9 +1,7 @@
 -- `net_writer::measure_words` meets its contract.
--- Assumes nothing.
-use native.Mathlib.Omega.{arith}
+use Rattle.base.specs.{arith, needs}
 use Rattle.model.specs.declared.Figures.{Figures}
 use Rattle.net_writer.proofs.Counting.{figures-in, measured-in}
-use borrow.Author.Needs.{needs}
 use Rattle.net_writer.proofs.measure_words.Statement.{statement}
 use Rattle.net_writer.proofs.measure_words.Tie as tie
 
@@ -22,8 +20,6 @@ returns c =
     )
 
 pub measure-words-spec : {M : Type 1} → statement M
-measure-words-spec =
-    tie.close
-    (tie.spec
+measure-words-spec = tie.close (tie.spec
     (λ c κs. search needs) (λ c κs. search needs) (λ c κs. search needs) (λ c κs. search needs) (λ c. omega arith) (λ c. omega arith)
     (λ c κs. search needs) (λ c. omega arith) returns)

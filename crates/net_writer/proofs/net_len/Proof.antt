@@ -1,9 +1,6 @@
 -- `net_writer::net_len` meets its contract: a letter and at most ten digits.
--- Assumes nothing.
-use Prim.Native.Nat.{_/_}
-use native.Mathlib.Omega.{arith}
+use Rattle.base.specs.{_/_, arith, needs}
 use Rattle.net_writer.proofs.Counting.{net-length, ten-digits}
-use borrow.Author.Needs.{needs}
 use Rattle.net_writer.proofs.net_len.Statement.{statement}
 use Rattle.net_writer.proofs.net_len.Tie as tie
 
@@ -14,6 +11,4 @@ returns : tie.Need-returns
 returns c = let l = c .before .args .l in (omega (arith, net-length l), omega (arith, ten-digits (l / 2) (omega arith)))
 
 pub net-len-spec : {M : Type 1} → statement M
-net-len-spec = tie.close
-    (tie.spec
-    (λ c κs. search needs) add-result returns)
+net-len-spec = tie.close (tie.spec (λ c κs. search needs) add-result returns)

@@ -1,8 +1,6 @@
 -- `net_writer::out_len` meets its contract: a letter and at most ten digits.
--- Assumes nothing.
-use native.Mathlib.Omega.{arith}
+use Rattle.base.specs.{arith, needs}
 use Rattle.net_writer.proofs.Counting.{out-length, ten-digits}
-use borrow.Author.Needs.{needs}
 use Rattle.net_writer.proofs.out_len.Statement.{statement}
 use Rattle.net_writer.proofs.out_len.Tie as tie
 
@@ -13,6 +11,4 @@ returns : tie.Need-returns
 returns c = let k = c .before .args .k in (omega (arith, out-length k), omega (arith, ten-digits k (omega arith)))
 
 pub out-len-spec : {M : Type 1} → statement M
-out-len-spec = tie.close
-    (tie.spec
-    (λ c κs. search needs) add-result returns)
+out-len-spec = tie.close (tie.spec (λ c κs. search needs) add-result returns)

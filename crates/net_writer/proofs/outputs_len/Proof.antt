@@ -1,10 +1,6 @@
 -- `net_writer::outputs_len` meets its contract. The invariant: what is counted and what is left make the whole, at most 12 bytes for each name. The measure is the number of names left.
--- Assumes nothing.
-use mathlib.Core.Path.{_≡_, ap}
-use Prim.Native.Nat.{ℕ, _+_, _-_, _*_, _≤_}
-use native.Mathlib.Omega.{arith}
-use lib.ListN.{length, length-append}
-use Rattle.net_writer.specs.Lines.{outputNamesFrom, spaced}
+use Rattle.base.specs.{_≡_, ap, ℕ, _+_, _-_, _*_, _≤_, arith, length, length-append}
+use Rattle.net_writer.specs.{outputNamesFrom, spaced}
 use Rattle.net_writer.proofs.Counting.{outputs-next, outputs-none}
 use Rattle.net_writer.proofs.outputs_len.Statement.{statement}
 use Rattle.net_writer.proofs.outputs_len.Tie as tie
@@ -30,8 +26,6 @@ returns : tie.Need-returns Inv-loop μ-loop
 returns c = let l = c .before in omega (arith, ap length (outputs-none (l .before .args .n) (l .loop .i) (c .loop-test .left)))
 
 pub outputs-len-spec : {M : Type 1} → statement M
-outputs-len-spec =
-    tie.close
-    (tie.spec
-    Inv-loop μ-loop loop-holds (λ c. omega arith) (λ c. omega arith) (λ c κs. tt) (λ c. omega arith) (λ c. omega arith)
-    (λ c. omega arith) loop-again returns)
+outputs-len-spec = tie.close (tie.spec
+    Inv-loop μ-loop loop-holds (λ c. omega arith) (λ c. omega arith) (λ c κs. tt) (λ c. omega arith) (λ c. omega arith) (λ c. omega arith)
+    loop-again returns)

@@ -1,11 +1,6 @@
 -- `net_writer::pins_len` meets its contract. The invariant: what is counted and what is left make the whole, at most 15 bytes for each pin. The measure is the number of pins left.
--- Assumes nothing.
-use mathlib.Core.Path.{_≡_, ap}
-use Prim.Native.Nat.{_+_, _-_, _*_, _≤_}
-use native.Mathlib.Omega.{arith}
-use borrow.Author.Needs.{needs}
-use lib.ListN.{length, take, drop, length-append}
-use Rattle.net_writer.specs.Lines.{netWords}
+use Rattle.base.specs.{_≡_, ap, _+_, _-_, _*_, _≤_, arith, needs, length, take, drop, length-append}
+use Rattle.net_writer.specs.{netWords}
 use Rattle.net_writer.proofs.Counting.{pins-next, pins-none}
 use Rattle.net_writer.proofs.pins_len.Statement.{statement}
 use Rattle.net_writer.proofs.pins_len.Tie as tie
@@ -32,8 +27,6 @@ returns c =
     omega (arith, ap length (pins-none (s .args .t1) (s .args .count) four (s .pre) (l .loop .j) (c .loop-test .left)))
 
 pub pins-len-spec : {M : Type 1} → statement M
-pins-len-spec =
-    tie.close
-    (tie.spec
+pins-len-spec = tie.close (tie.spec
     Inv-loop μ-loop (λ c. omega arith) (λ c. omega arith) (λ c. omega arith) (λ c. omega arith) (λ c κs. tt) (λ c. omega arith)
     (λ c. omega arith) (λ c. omega arith) loop-again returns)

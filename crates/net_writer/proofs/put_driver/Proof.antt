@@ -1,11 +1,6 @@
 -- `net_writer::put_driver` meets its contract: the inner's line and the root's, the root's alone, or none.
--- Assumes nothing.
-use mathlib.Core.Path.{ap}
-use Prim.Native.Nat.{_≤_}
-use native.Mathlib.Omega.{arith}
-use borrow.Author.Needs.{needs}
-use lib.ListN.{length, length-append}
-use Rattle.base_text.proofs.Progress.{idle}
+use Rattle.base.specs.{ap, _≤_, arith, needs, length, length-append}
+use Rattle.base_text.proofs.{idle}
 use Rattle.net_writer.proofs.Counting.{lines-two, lines-one, lines-absent}
 use Rattle.net_writer.proofs.Behind.{then, reads}
 use Rattle.net_writer.proofs.put_driver.Statement.{statement}
@@ -50,7 +45,6 @@ returns-3 c =
     idle (a .out .now) (a .at) (lines-absent (a .d) (c .if1 .left))
 
 pub put-driver-spec : {M : Type 1} → statement M
-put-driver-spec =
-    tie.close
-    (tie.spec
-    put-instance-requires put-instance-requires-2 (λ c. search needs) returns put-instance-requires-3 (λ c. search needs) returns-2 returns-3)
+put-driver-spec = tie.close (tie.spec
+    put-instance-requires put-instance-requires-2 (λ c. search needs) returns put-instance-requires-3 (λ c. search needs) returns-2
+    returns-3)

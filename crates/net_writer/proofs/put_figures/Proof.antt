@@ -1,12 +1,8 @@
 -- `net_writer::put_figures` meets its contract.
--- Assumes nothing.
-use Prim.Native.Nat.{_≤_}
-use native.Mathlib.Omega.{arith}
-use borrow.Author.Needs.{needs}
-use lib.ListN.{length}
-use Rattle.model.specs.Text.{text}
-use Rattle.base_text.proofs.Progress.{as-wrote}
-use Rattle.net_writer.specs.Lines.{figuresText}
+use Rattle.base.specs.{_≤_, arith, needs, length}
+use Rattle.model.specs.{text}
+use Rattle.base_text.proofs.{as-wrote}
+use Rattle.net_writer.specs.{figuresText}
 use Rattle.net_writer.proofs.Behind.{then}
 use Rattle.net_writer.proofs.put_figures.Statement.{statement}
 use Rattle.net_writer.proofs.put_figures.Tie as tie
@@ -27,8 +23,6 @@ returns c =
     (then h (third .put-bytes3 .ensures) (then h (as-wrote (arrival .put-number3 .ensures)) (p .put-byte .ensures))))))
 
 pub put-figures-spec : {M : Type 1} → statement M
-put-figures-spec =
-    tie.close
-    (tie.spec
+put-figures-spec = tie.close (tie.spec
     (λ c. search needs) (λ c κs. omega arith) (λ c κs. omega arith) (λ c. search needs) (λ c κs. omega arith) (λ c κs. omega arith)
     (λ c. search needs) (λ c κs. omega arith) (λ c κs. omega arith) (λ c κs. omega arith) (λ c. search needs) returns)

@@ -1,12 +1,8 @@
 -- `net_writer::put_frame` meets its contract.
--- Assumes nothing.
-use Prim.Native.Nat.{_≤_}
-use native.Mathlib.Omega.{arith}
-use borrow.Author.Needs.{needs}
-use lib.ListN.{length}
-use Rattle.model.specs.Text.{text}
-use Rattle.base_words.proofs.Columns.{room-need}
-use Rattle.net_writer.specs.Lines.{frameText}
+use Rattle.base.specs.{_≤_, arith, needs, length}
+use Rattle.model.specs.{text}
+use Rattle.base_words.proofs.{room-need}
+use Rattle.net_writer.specs.{frameText}
 use Rattle.net_writer.proofs.Behind.{then}
 use Rattle.net_writer.proofs.put_frame.Statement.{statement}
 use Rattle.net_writer.proofs.put_frame.Tie as tie
@@ -29,8 +25,6 @@ returns c =
     (then h (second .put-bytes2 .ensures) (then h (outputs .put-outputs .ensures) (p .put-byte .ensures))))
 
 pub put-frame-spec : {M : Type 1} → statement M
-put-frame-spec =
-    tie.close
-    (tie.spec
+put-frame-spec = tie.close (tie.spec
     (λ c. search needs) (λ c κs. omega arith) put-inputs-requires (λ c. search needs) (λ c κs. omega arith) (λ c κs. omega arith)
     (λ c κs. omega arith) (λ c. search needs) returns)

@@ -1,10 +1,6 @@
 -- `net_writer::put_gate` meets its contract: `.gate`, the name, the pins, the output and the line's end.
--- Assumes nothing.
-use Prim.Native.Nat.{_≤_}
-use native.Mathlib.Omega.{arith}
-use borrow.Author.Needs.{needs}
-use lib.ListN.{length, take}
-use Rattle.model.specs.Text.{text}
+use Rattle.base.specs.{_≤_, arith, needs, length, take}
+use Rattle.model.specs.{text}
 use Rattle.net_writer.proofs.Counting.{line-is}
 use Rattle.net_writer.proofs.Behind.{then, reads}
 use Rattle.net_writer.proofs.put_gate.Statement.{statement}
@@ -26,8 +22,6 @@ returns c =
     (then h (pins .put-pins .ensures) (then h (output .put-pin .ensures) (p .put-byte .ensures)))))
 
 pub put-gate-spec : {M : Type 1} → statement M
-put-gate-spec =
-    tie.close
-    (tie.spec
+put-gate-spec = tie.close (tie.spec
     (λ c. search needs) (λ c κs. omega arith) (λ c κs. omega arith) (λ c κs. omega arith) (λ c κs. omega arith) (λ c κs. omega arith)
     (λ c. search needs) returns)

@@ -1,15 +1,10 @@
 -- `net_writer::put_gates` meets its contract. The invariant: the lines of the phases before l are written. The measure is the number of
 -- phases left.
--- Assumes nothing.
-use mathlib.Core.Path.{_≡_}
-use Prim.Native.Nat.{_+_, _-_, _*_, _≤_}
-use native.Mathlib.Omega.{arith}
-use borrow.Author.Needs.{needs}
-use Rattle.model.specs.Base.{each}
-use Rattle.model.specs.Netlist.{gateLine}
-use Rattle.net_gates.specs.Gates.{gatesOf}
-use Rattle.net_writer.specs.Lines.{gatesFrom}
-use Rattle.base_text.proofs.Progress.{Partly, begin, step, room, kept, end}
+use Rattle.base.specs.{_≡_, _+_, _-_, _*_, _≤_, arith, needs}
+use Rattle.model.specs.{each, gateLine}
+use Rattle.base_text.proofs.{Partly, begin, step, room, kept, end}
+use Rattle.net_gates.specs.{gatesOf}
+use Rattle.net_writer.specs.{gatesFrom}
 use Rattle.net_writer.proofs.Counting.{lines-none}
 use Rattle.net_writer.proofs.Walking.{gatesLeft, comes, lines-on}
 use Rattle.net_writer.proofs.put_gates.Statement.{statement}
@@ -63,8 +58,6 @@ returns c =
     end (s .pre .1) (l .loop .inv .1) none
 
 pub put-gates-spec : {M : Type 1} → statement M
-put-gates-spec =
-    tie.close
-    (tie.spec
+put-gates-spec = tie.close (tie.spec
     Inv-loop μ-loop (λ c. omega arith) (λ c. omega arith) (λ c κs. search needs) loop-holds (λ c κs. search needs) put-driver-requires
     (λ c κs. search needs) (λ c. omega (arith, comes (omega arith) (c .gate-after .ensures) .low)) loop-again same-length returns)

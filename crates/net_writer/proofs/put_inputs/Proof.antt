@@ -1,13 +1,8 @@
 -- `net_writer::put_inputs` meets its contract. The invariant: the first i names are written. The measure is the number of names left.
--- Assumes nothing.
-use mathlib.Core.Path.{_≡_, ap}
-use Prim.Native.Nat.{ℕ, _-_, _≤_}
-use native.Mathlib.Omega.{arith}
-use borrow.Author.Needs.{needs}
-use lib.ListN.{length, length-append}
-use Rattle.net_writer.specs.Lines.{inputNamesFrom, spaced}
+use Rattle.base.specs.{_≡_, ap, ℕ, _-_, _≤_, arith, needs, length, length-append}
+use Rattle.base_text.proofs.{Partly, begin, step, kept, end}
+use Rattle.net_writer.specs.{inputNamesFrom, spaced}
 use Rattle.net_writer.proofs.Counting.{inputs-next, inputs-none}
-use Rattle.base_text.proofs.Progress.{Partly, begin, step, kept, end}
 use Rattle.net_writer.proofs.Behind.{then, left}
 use Rattle.net_writer.proofs.put_inputs.Statement.{statement}
 use Rattle.net_writer.proofs.put_inputs.Tie as tie
@@ -61,8 +56,6 @@ returns c =
     end (s .pre .2) (l .loop .inv .1) (inputs-none (s .args .work .now) (s .args .m) (s .args .n) (l .loop .i) (c .loop-test .left))
 
 pub put-inputs-spec : {M : Type 1} → statement M
-put-inputs-spec =
-    tie.close
-    (tie.spec
-    Inv-loop μ-loop loop-holds (λ c κs. search needs) put-byte-requires put-net-requires (λ c. omega arith)
-    (λ c. omega arith) loop-again same-length returns)
+put-inputs-spec = tie.close (tie.spec
+    Inv-loop μ-loop loop-holds (λ c κs. search needs) put-byte-requires put-net-requires (λ c. omega arith) (λ c. omega arith) loop-again
+    same-length returns)

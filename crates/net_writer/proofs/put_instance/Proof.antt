@@ -1,9 +1,6 @@
 -- `net_writer::put_instance` meets its contract.
--- Assumes nothing.
-use native.Mathlib.Omega.{arith}
-use borrow.Author.Needs.{needs}
-use lib.ListN.{take}
-use Rattle.net_gates.specs.Gates.{gateOf}
+use Rattle.base.specs.{arith, needs, take}
+use Rattle.net_gates.specs.{gateOf}
 use Rattle.net_writer.proofs.Counting.{line-length}
 use Rattle.net_writer.proofs.put_instance.Statement.{statement}
 use Rattle.net_writer.proofs.put_instance.Tie as tie
@@ -19,7 +16,4 @@ unfolding gateOf
 returns c = c .before .before .put-gate .ensures
 
 pub put-instance-spec : {M : Type 1} → statement M
-put-instance-spec =
-    tie.close
-    (tie.spec
-    put-gate-requires (λ c. search needs) returns)
+put-instance-spec = tie.close (tie.spec put-gate-requires (λ c. search needs) returns)

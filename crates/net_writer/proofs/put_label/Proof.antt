@@ -1,10 +1,5 @@
 -- `net_writer::put_label` meets its contract: the net's name, inside a pair behind an `s`.
--- Assumes nothing.
-use mathlib.Core.Path.{ap}
-use Prim.Native.Nat.{_≤_}
-use native.Mathlib.Omega.{arith}
-use borrow.Author.Needs.{needs}
-use lib.ListN.{length}
+use Rattle.base.specs.{ap, _≤_, arith, needs, length}
 use Rattle.net_writer.proofs.Counting.{label-inside, label-phase}
 use Rattle.net_writer.proofs.Behind.{then, reads}
 use Rattle.net_writer.proofs.put_label.Statement.{statement}
@@ -35,7 +30,5 @@ returns-2 c =
     reads (label-phase (l .before .before .args .n) (l .if1 .left)) (c .before .before .put-net2 .ensures)
 
 pub put-label-spec : {M : Type 1} → statement M
-put-label-spec =
-    tie.close
-    (tie.spec
+put-label-spec = tie.close (tie.spec
     put-byte-requires put-net-requires (λ c. search needs) returns put-net-requires-2 (λ c. search needs) returns-2)

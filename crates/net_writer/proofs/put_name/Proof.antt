@@ -1,13 +1,6 @@
 -- `net_writer::put_name` meets its contract: an array has eight bytes, so no name is longer.
--- Assumes nothing.
-use mathlib.Core.Path.{_≡_, sym, ap, subst}
-use mathlib.Core.List.{List}
-use Prim.Native.Nat.{ℕ}
-use native.Mathlib.Omega.{arith}
-use lib.ListN.{length}
-use lib.Seq.{length-take-le}
-use Rattle.base_text.specs.Writing.{Wrote}
-use borrow.Author.Needs.{needs}
+use Rattle.base.specs.{_≡_, sym, ap, subst, List, ℕ, arith, length, length-take-le, needs}
+use Rattle.base_text.specs.{Wrote}
 use Rattle.net_writer.proofs.put_name.Statement.{statement}
 use Rattle.net_writer.proofs.put_name.Tie as tie
 
@@ -28,7 +21,5 @@ returns c =
     (c .before .before .before .before .before .name-len .ensures .1 (c .before .before .before .before .before .before .before .args .t3) eight) (c .before .before .put-bytes .ensures)
 
 pub put-name-spec : {M : Type 1} → statement M
-put-name-spec =
-    tie.close
-    (tie.spec
+put-name-spec = tie.close (tie.spec
     (λ c κs. search needs) (λ c. search needs) slice-aggregate-put-bytes put-bytes-requires (λ c. search needs) returns)

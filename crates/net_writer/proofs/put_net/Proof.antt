@@ -1,11 +1,6 @@
 -- `net_writer::put_net` meets its contract: the phase's letter, and the variable behind it.
--- Assumes nothing.
-use mathlib.Core.Path.{sym}
-use Prim.Native.Nat.{_≤_}
-use native.Mathlib.Omega.{arith}
-use borrow.Author.Needs.{needs}
-use lib.ListN.{length}
-use Rattle.base_text.proofs.Progress.{as-wrote}
+use Rattle.base.specs.{sym, _≤_, arith, needs, length}
+use Rattle.base_text.proofs.{as-wrote}
 use Rattle.net_writer.proofs.Counting.{net-length}
 use Rattle.net_writer.proofs.Behind.{then, reads}
 use Rattle.net_writer.proofs.put_net.Statement.{statement}
@@ -26,7 +21,4 @@ returns c =
     reads (sym (first .before .letter .ensures)) (then h (first .put-byte .ensures) (as-wrote (p .put-number .ensures)))
 
 pub put-net-spec : {M : Type 1} → statement M
-put-net-spec =
-    tie.close
-    (tie.spec
-    (λ c κs. search needs) put-byte-requires put-number-requires (λ c. search needs) returns)
+put-net-spec = tie.close (tie.spec (λ c κs. search needs) put-byte-requires put-number-requires (λ c. search needs) returns)

@@ -1,11 +1,7 @@
 -- `net_writer::put_out` meets its contract: the letter, and the number behind it.
--- Assumes nothing.
-use Prim.Native.Nat.{_≤_}
-use native.Mathlib.Omega.{arith}
-use borrow.Author.Needs.{needs}
-use lib.ListN.{length}
-use Rattle.model.specs.Netlist.{outName}
-use Rattle.base_text.proofs.Progress.{as-wrote}
+use Rattle.base.specs.{_≤_, arith, needs, length}
+use Rattle.model.specs.{outName}
+use Rattle.base_text.proofs.{as-wrote}
 use Rattle.net_writer.proofs.Counting.{out-length}
 use Rattle.net_writer.proofs.Behind.{then}
 use Rattle.net_writer.proofs.put_out.Statement.{statement}
@@ -20,7 +16,6 @@ returns c =
     then h (first .put-byte .ensures) (as-wrote (p .put-number .ensures))
 
 pub put-out-spec : {M : Type 1} → statement M
-put-out-spec = tie.close
-    (tie.spec
+put-out-spec = tie.close (tie.spec
     (λ c κs. omega (arith, out-length (c .before .before .args .k)))
     (λ c κs. omega (arith, out-length (c .before .before .before .before .before .before .args .k))) (λ c. search needs) returns)

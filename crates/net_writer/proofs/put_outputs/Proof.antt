@@ -1,12 +1,8 @@
 -- `net_writer::put_outputs` meets its contract. The invariant: the first i names are written. The measure is the number of names left.
--- Assumes nothing.
-use mathlib.Core.Path.{_≡_, ap}
-use Prim.Native.Nat.{ℕ, _-_, _≤_}
-use native.Mathlib.Omega.{arith}
-use lib.ListN.{length, length-append}
-use Rattle.net_writer.specs.Lines.{outputNamesFrom, spaced}
+use Rattle.base.specs.{_≡_, ap, ℕ, _-_, _≤_, arith, length, length-append}
+use Rattle.base_text.proofs.{Partly, begin, step, kept, end}
+use Rattle.net_writer.specs.{outputNamesFrom, spaced}
 use Rattle.net_writer.proofs.Counting.{outputs-next, outputs-none}
-use Rattle.base_text.proofs.Progress.{Partly, begin, step, kept, end}
 use Rattle.net_writer.proofs.Behind.{then, left}
 use Rattle.net_writer.proofs.put_outputs.Statement.{statement}
 use Rattle.net_writer.proofs.put_outputs.Tie as tie
@@ -57,8 +53,6 @@ returns c =
     end (s .pre .1) (l .loop .inv .1) (outputs-none (s .args .n) (l .loop .i) (c .loop-test .left))
 
 pub put-outputs-spec : {M : Type 1} → statement M
-put-outputs-spec =
-    tie.close
-    (tie.spec
-    Inv-loop μ-loop loop-holds put-byte-requires (λ c. omega arith) put-out-requires (λ c. omega arith)
-    (λ c. omega arith) loop-again same-length returns)
+put-outputs-spec = tie.close (tie.spec
+    Inv-loop μ-loop loop-holds put-byte-requires (λ c. omega arith) put-out-requires (λ c. omega arith) (λ c. omega arith) loop-again
+    same-length returns)

@@ -1,9 +1,5 @@
 -- `net_writer::put_pin` meets its contract: a space, the pin's letter, `=` and the net.
--- Assumes nothing.
-use Prim.Native.Nat.{_≤_}
-use native.Mathlib.Omega.{arith}
-use borrow.Author.Needs.{needs}
-use lib.ListN.{length}
+use Rattle.base.specs.{_≤_, arith, needs, length}
 use Rattle.net_writer.proofs.Behind.{then}
 use Rattle.net_writer.proofs.put_pin.Statement.{statement}
 use Rattle.net_writer.proofs.put_pin.Tie as tie
@@ -15,7 +11,4 @@ returns c =
     then h (p .before .before .before .before .put-bytes .ensures) (p .put-label .ensures)
 
 pub put-pin-spec : {M : Type 1} → statement M
-put-pin-spec =
-    tie.close
-    (tie.spec
-    (λ c. search needs) (λ c κs. omega arith) (λ c κs. omega arith) (λ c. search needs) returns)
+put-pin-spec = tie.close (tie.spec (λ c. search needs) (λ c κs. omega arith) (λ c κs. omega arith) (λ c. search needs) returns)

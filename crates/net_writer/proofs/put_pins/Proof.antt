@@ -1,13 +1,8 @@
 -- `net_writer::put_pins` meets its contract. The invariant: the words of the first j pins are written. The measure is the number of pins left.
--- Assumes nothing.
-use mathlib.Core.Path.{_≡_, refl, ap}
-use Prim.Native.Nat.{_+_, _-_, _≤_}
-use native.Mathlib.Omega.{arith}
-use borrow.Author.Needs.{needs}
-use lib.ListN.{length, take, drop, length-append}
-use Rattle.net_writer.specs.Lines.{netWords}
+use Rattle.base.specs.{_≡_, refl, ap, _+_, _-_, _≤_, arith, needs, length, take, drop, length-append}
+use Rattle.base_text.proofs.{Partly, begin, step, kept, end}
+use Rattle.net_writer.specs.{netWords}
 use Rattle.net_writer.proofs.Counting.{pins-next, pins-none}
-use Rattle.base_text.proofs.Progress.{Partly, begin, step, kept, end}
 use Rattle.net_writer.proofs.Behind.{left}
 use Rattle.net_writer.proofs.put_pins.Statement.{statement}
 use Rattle.net_writer.proofs.put_pins.Tie as tie
@@ -46,9 +41,6 @@ returns c =
     end (s .pre .1) (l .loop .inv .1) (pins-none (s .args .t3) (s .args .count) four (s .pre .0) (l .loop .j) (c .loop-test .left))
 
 pub put-pins-spec : {M : Type 1} → statement M
-put-pins-spec =
-    tie.close
-    (tie.spec
-    Inv-loop μ-loop (λ c. (omega arith, begin (c .before .args .out .now) (c .before .args .at) refl)) (λ c. omega arith)
-    (λ c. omega arith) (λ c. omega arith) (λ c. omega arith) put-pin-requires (λ c. omega arith)
-    (λ c. omega arith) loop-again same-length returns)
+put-pins-spec = tie.close (tie.spec
+    Inv-loop μ-loop (λ c. (omega arith, begin (c .before .args .out .now) (c .before .args .at) refl)) (λ c. omega arith) (λ c. omega arith)
+    (λ c. omega arith) (λ c. omega arith) put-pin-requires (λ c. omega arith) (λ c. omega arith) loop-again same-length returns)

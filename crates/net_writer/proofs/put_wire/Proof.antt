@@ -1,11 +1,6 @@
 -- `net_writer::put_wire` meets its contract: the keyword, the net, the output's own name and the row.
--- Assumes nothing.
-use Prim.Native.Nat.{_≤_}
-use native.Mathlib.Omega.{arith}
-use borrow.Author.Needs.{needs}
-use lib.ListN.{length}
-use Rattle.model.specs.Text.{text}
-use Rattle.model.specs.Netlist.{wireLine}
+use Rattle.base.specs.{_≤_, arith, needs, length}
+use Rattle.model.specs.{text, wireLine}
 use Rattle.net_writer.proofs.Behind.{then}
 use Rattle.net_writer.proofs.put_wire.Statement.{statement}
 use Rattle.net_writer.proofs.put_wire.Tie as tie
@@ -23,8 +18,6 @@ returns c =
     (then h (space .put-byte .ensures) (then h (name .put-out .ensures) (p .put-bytes2 .ensures))))
 
 pub put-wire-spec : {M : Type 1} → statement M
-put-wire-spec =
-    tie.close
-    (tie.spec
+put-wire-spec = tie.close (tie.spec
     (λ c. search needs) (λ c κs. omega arith) (λ c κs. omega arith) (λ c κs. omega arith) (λ c κs. omega arith) (λ c. search needs)
     (λ c κs. omega arith) (λ c. search needs) returns)

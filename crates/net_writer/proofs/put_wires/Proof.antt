@@ -1,13 +1,8 @@
 -- `net_writer::put_wires` meets its contract. The invariant: the lines of the first i outputs are written. The measure is the number of outputs left.
--- Assumes nothing.
-use mathlib.Core.Path.{_≡_, ap}
-use Prim.Native.Nat.{_-_, _≤_}
-use native.Mathlib.Omega.{arith}
-use borrow.Author.Needs.{needs}
-use lib.ListN.{length, length-append}
-use Rattle.net_writer.specs.Lines.{wireLinesFrom}
+use Rattle.base.specs.{_≡_, ap, _-_, _≤_, arith, needs, length, length-append}
+use Rattle.base_text.proofs.{Partly, begin, step, kept, end}
+use Rattle.net_writer.specs.{wireLinesFrom}
 use Rattle.net_writer.proofs.Counting.{wire-length, wires-next, wires-none}
-use Rattle.base_text.proofs.Progress.{Partly, begin, step, kept, end}
 use Rattle.net_writer.proofs.Behind.{left}
 use Rattle.net_writer.proofs.put_wires.Statement.{statement}
 use Rattle.net_writer.proofs.put_wires.Tie as tie
@@ -53,8 +48,6 @@ returns c =
     end (s .pre .2) (l .loop .inv .1) (wires-none (s .args .work .now) (s .args .m) (s .args .outputs) (l .loop .i) (c .loop-test .left))
 
 pub put-wires-spec : {M : Type 1} → statement M
-put-wires-spec =
-    tie.close
-    (tie.spec
-    Inv-loop μ-loop loop-holds (λ c κs. search needs) (λ c. omega arith) put-wire-requires (λ c. omega arith)
-    (λ c. omega arith) loop-again same-length returns)
+put-wires-spec = tie.close (tie.spec
+    Inv-loop μ-loop loop-holds (λ c κs. search needs) (λ c. omega arith) put-wire-requires (λ c. omega arith) (λ c. omega arith) loop-again
+    same-length returns)

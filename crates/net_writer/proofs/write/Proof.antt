@@ -1,17 +1,11 @@
 -- `net_writer::write` meets its contract: what the words hold is what `model` defines.
--- Assumes nothing.
-use mathlib.Core.Path.{_≡_, sym, ap, subst, _∙_}
-use mathlib.Core.List.{List, _++_}
-use Prim.Native.Nat.{ℕ, _+_}
-use native.Mathlib.Omega.{arith}
-use lib.ListN.{length, drop, replicate}
-use Rattle.model.specs.Cells.{cellsOf}
-use Rattle.base_text.proofs.Progress.{put-front}
-use Rattle.cells_pairs.specs.Bytes.{bookOf}
-use Rattle.net_writer.specs.Lines.{Gated, textIn}
+use Rattle.base.specs.{_≡_, sym, ap, subst, _∙_, List, _++_, ℕ, _+_, arith, length, drop, replicate, needs}
+use Rattle.model.specs.{cellsOf}
+use Rattle.base_text.proofs.{put-front}
+use Rattle.cells_pairs.specs.{bookOf}
+use Rattle.net_writer.specs.{Gated, textIn}
 use Rattle.net_writer.proofs.Counting.{text-length}
 use Rattle.net_writer.proofs.Held.{book-is, gated, named, text-held}
-use borrow.Author.Needs.{needs}
 use Rattle.net_writer.proofs.write.Statement.{statement}
 use Rattle.net_writer.proofs.write.Tie as tie
 
@@ -45,7 +39,5 @@ returns c =
     (r .ensures .ends ∙ z ∙ ap length e, r .ensures .leaves ∙ put-front (a .out .now) t ∙ ap (λ (bs : List ℕ). bs ++ drop (length bs) (a .out .now)) e)
 
 pub write-spec : {M : Type 1} → statement M
-write-spec =
-    tie.close
-    (tie.spec
+write-spec = tie.close (tie.spec
     (λ c. search needs) (λ c κs. search needs) (λ c. search needs) write-words-requires (λ c. search needs) returns)

@@ -1,10 +1,6 @@
 -- `net_writer::write_words` meets its contract: the first lines, the gates, the outputs' wires and the last lines.
--- Assumes nothing.
-use Prim.Native.Nat.{_≤_}
-use native.Mathlib.Omega.{arith}
-use borrow.Author.Needs.{needs}
-use lib.ListN.{length}
-use Rattle.net_writer.specs.Lines.{textIn, allGates}
+use Rattle.base.specs.{_≤_, arith, needs, length}
+use Rattle.net_writer.specs.{textIn, allGates}
 use Rattle.net_writer.proofs.Counting.{frame-length, figures-length}
 use Rattle.net_writer.proofs.Behind.{then}
 use Rattle.net_writer.proofs.write_words.Statement.{statement}
@@ -32,7 +28,5 @@ returns c =
     then h (frame .put-frame .ensures) (then h (gates .put-gates .ensures) (then h (wires .put-wires .ensures) (p .put-figures .ensures)))
 
 pub write-words-spec : {M : Type 1} → statement M
-write-words-spec =
-    tie.close
-    (tie.spec
+write-words-spec = tie.close (tie.spec
     put-frame-requires (λ c κs. search needs) (λ c κs. search needs) put-figures-requires (λ c. search needs) returns)

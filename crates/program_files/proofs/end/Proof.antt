@@ -1,12 +1,7 @@
 -- `program_files::end` meets its contract. The invariant: the text from here on ends where that from the start does; the measure is what is left.
--- Assumes nothing.
-use mathlib.Core.Path.{_≡_, refl, sym, _∙_}
-use Prim.Native.Nat.{_-_}
-use native.Mathlib.Omega.{arith}
-use lib.ListN.{length}
-use Rattle.program_files.specs.Parts.{endFrom}
+use Rattle.base.specs.{_≡_, refl, sym, _∙_, _-_, arith, length, needs}
+use Rattle.program_files.specs.{endFrom}
 use Rattle.program_files.proofs.Ends.{end-here, end-on, end-past, end-within}
-use borrow.Author.Needs.{needs}
 use Rattle.program_files.proofs.end.Statement.{statement}
 use Rattle.program_files.proofs.end.Tie as tie
 
@@ -32,7 +27,5 @@ returns-2 c =
     (e, omega (arith, e, end-within (s .args .s .now) (s .args .from) (s .pre) .0), omega (arith, e, end-within (s .args .s .now) (s .args .from) (s .pre) .1))
 
 pub end-spec : {M : Type 1} → statement M
-end-spec =
-    tie.close
-    (tie.spec
+end-spec = tie.close (tie.spec
     Inv-loop μ-loop (λ c. refl) (λ c. search needs) returns (λ c. search needs) (λ c. search needs) loop-again returns-2)

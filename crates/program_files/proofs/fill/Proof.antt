@@ -1,13 +1,7 @@
 -- `program_files::fill` meets its contract. The invariant: the bytes read so far are within the buffer, which keeps its length; the measure is the room left.
--- Assumes nothing.
-use Prim.Native.Nat.{_-_, _≤_}
-use native.Mathlib.Omega.{arith}
-use mathlib.Core.Path.{_≡_, refl, sym, subst}
-use lib.ListN.{length}
-use lib.Seq.{length-take-le}
-use Rattle.program_files.specs.Loading.{Loaded-in}
+use Rattle.base.specs.{_-_, _≤_, arith, _≡_, refl, sym, subst, length, length-take-le, needs}
+use Rattle.program_files.specs.{Loaded-in}
 use Rattle.program_files.specs.declared.Loaded.{Loaded}
-use borrow.Author.Needs.{needs}
 use Rattle.program_files.proofs.fill.Statement.{statement}
 use Rattle.program_files.proofs.fill.Tie as tie
 
@@ -48,9 +42,7 @@ returns-3 : tie.Need-returns-3 Inv-loop μ-loop
 returns-3 c = (search needs, sym (length-take-le _ _ (search needs)))
 
 pub fill-spec : {M : Type 1} → statement M
-fill-spec =
-    tie.close
-    (tie.spec
+fill-spec = tie.close (tie.spec
     Inv-loop μ-loop loop-holds (λ c. search needs) (λ c. search needs) (λ c. search needs) (λ c κs. search needs) (λ c. search needs)
-    (λ c. search needs) (λ c. search needs) (λ c. search needs) (λ c. search needs) returns-2 add-done loop-less loop-again (λ c. search needs)
-    returns-3)
+    (λ c. search needs) (λ c. search needs) (λ c. search needs) (λ c. search needs) returns-2 add-done loop-less loop-again
+    (λ c. search needs) returns-3)

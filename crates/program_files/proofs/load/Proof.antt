@@ -1,8 +1,7 @@
--- `program_files::load` meets its contract: what it counts is what `find` counts. Assumes nothing.
-use mathlib.Core.Path.{subst}
-use Rattle.program_files.specs.Loading.{Found-in}
+-- `program_files::load` meets its contract: what it counts is what `find` counts.
+use Rattle.base.specs.{subst, needs}
+use Rattle.program_files.specs.{Found-in}
 use Rattle.program_files.specs.declared.Found.{Found}
-use borrow.Author.Needs.{needs}
 use Rattle.program_files.proofs.load.Statement.{statement}
 use Rattle.program_files.proofs.load.Tie as tie
 
@@ -12,8 +11,6 @@ returns c =
     subst (λ (a : Found). Found-in a (f .last .1 .1 .0)) (c .before .n .given .1) (f .ensures)
 
 pub load-spec : {M : Type 1} → statement M
-load-spec =
-    tie.close
-    (tie.spec
+load-spec = tie.close (tie.spec
     (λ c κs. search needs) (λ c. search needs) (λ c. search needs) (λ c. search needs) (λ c. search needs) returns (λ c. search needs)
     (λ c. search needs) (λ c. search needs) (λ c. search needs))

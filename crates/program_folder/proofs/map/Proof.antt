@@ -1,9 +1,8 @@
--- `program_folder::map` is safe: what `load` counts is within its buffer. Assumes nothing.
-use mathlib.Core.Path.{subst}
-use Rattle.program_files.specs.Loading.{Loaded-in}
+-- `program_folder::map` is safe: what `load` counts is within its buffer.
+use Rattle.base.specs.{subst, needs}
+use Rattle.program_files.specs.{Loaded-in}
 use Rattle.program_files.specs.declared.Loaded.{Loaded}
 use Rattle.program_files.specs.declared.Loaded.the-variants.{Bytes}
-use borrow.Author.Needs.{needs}
 use Rattle.program_folder.proofs.map.Statement.{statement}
 use Rattle.program_folder.proofs.map.Tie as tie
 
@@ -41,11 +40,9 @@ slice-aggregate-map-files-3 : tie.Need-slice-aggregate-map-files-3
 slice-aggregate-map-files-3 c = counted-arrivals (c .before .before .before) .1
 
 pub map-spec : {M : Type 1} → statement M
-map-spec =
-    tie.close
-    (tie.spec
-    (λ c. search needs) (λ c. search needs) (λ c κs. search needs) (λ c. search needs) (λ c. search needs) (λ c. search needs) (λ c. search needs)
-    (λ c. search needs) (λ c κs. search needs) (λ c. search needs) (λ c. search needs) (λ c. search needs) (λ c. search needs) (λ c. search needs)
-    (λ c κs. search needs) (λ c. search needs) (λ c. search needs) (λ c. search needs) array-share-prefix-cells slice-aggregate-map-files
-    array-share-prefix-graph slice-aggregate-map-files-2 array-share-prefix-arrivals slice-aggregate-map-files-3 (λ c. search needs)
-    (λ c. search needs) (λ c κs. search needs) (λ c. search needs))
+map-spec = tie.close (tie.spec
+    (λ c. search needs) (λ c. search needs) (λ c κs. search needs) (λ c. search needs) (λ c. search needs) (λ c. search needs)
+    (λ c. search needs) (λ c. search needs) (λ c κs. search needs) (λ c. search needs) (λ c. search needs) (λ c. search needs)
+    (λ c. search needs) (λ c. search needs) (λ c κs. search needs) (λ c. search needs) (λ c. search needs) (λ c. search needs)
+    array-share-prefix-cells slice-aggregate-map-files array-share-prefix-graph slice-aggregate-map-files-2 array-share-prefix-arrivals
+    slice-aggregate-map-files-3 (λ c. search needs) (λ c. search needs) (λ c κs. search needs) (λ c. search needs))

@@ -1,11 +1,7 @@
--- `program_folder::map_files` is safe: the netlist's length is within text memory, as `map_texts` ensures. Assumes nothing.
-use Prim.Native.Nat.{_≤_}
-use native.Mathlib.Omega.{arith}
-use mathlib.Core.Path.{subst}
-use lib.ListN.{length, length-take}
+-- `program_folder::map_files` is safe: the netlist's length is within text memory, as `map_texts` ensures.
+use Rattle.base.specs.{_≤_, arith, subst, length, length-take, needs}
 use Rattle.model.specs.declared.Answer.{Answer}
-use Rattle.promises.specs.Promised.{Fits}
-use borrow.Author.Needs.{needs}
+use Rattle.promises.specs.{Fits}
 use Rattle.program_folder.proofs.map_files.Statement.{statement}
 use Rattle.program_folder.proofs.map_files.Tie as tie
 
@@ -26,9 +22,7 @@ slice-aggregate-put c =
     omega (arith, length-take (n .0 .0) (at-map-texts .map-texts .last .1 .1 .1 .1 .1 .0))
 
 pub map-files-spec : {M : Type 1} → statement M
-map-files-spec =
-    tie.close
-    (tie.spec
+map-files-spec = tie.close (tie.spec
     (λ c κs. search needs) (λ c. search needs) slice-reshare-prefix-put slice-aggregate-put (λ c κs. search needs) (λ c κs. search needs)
-    (λ c. search needs) (λ c κs. search needs) (λ c κs. search needs) (λ c. search needs) (λ c. search needs) (λ c. search needs) (λ c. search needs)
-    (λ c. search needs) (λ c. search needs))
+    (λ c. search needs) (λ c κs. search needs) (λ c κs. search needs) (λ c. search needs) (λ c. search needs) (λ c. search needs)
+    (λ c. search needs) (λ c. search needs) (λ c. search needs))

@@ -1,7 +1,5 @@
--- `run_genlib::convert_case` is safe: the part lent is no longer than what it is a part of. Assumes nothing.
-use native.Mathlib.Omega.{arith}
-use lib.ListN.{length-take}
-use borrow.Author.Needs.{needs}
+-- `run_genlib::convert_case` is safe: the part lent is no longer than what it is a part of.
+use Rattle.base.specs.{arith, length-take, needs}
 use Rattle.run_genlib.proofs.convert_case.Statement.{statement}
 use Rattle.run_genlib.proofs.convert_case.Tie as tie
 
@@ -9,7 +7,5 @@ slice-aggregate-convert-lent : tie.Need-slice-aggregate-convert-lent
 slice-aggregate-convert-lent c = simp length-take (omega arith)
 
 pub convert-case-spec : {M : Type 1} → statement M
-convert-case-spec =
-    tie.close
-    (tie.spec
+convert-case-spec = tie.close (tie.spec
     (λ c. search needs) slice-aggregate-convert-lent (λ c κs. search needs) (λ c. search needs) (λ c. search needs) (λ c. search needs))

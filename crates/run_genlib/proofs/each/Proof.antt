@@ -1,9 +1,5 @@
--- `run_genlib::each` is safe: each case begins within the input, and the memory lent keeps its length. Assumes nothing.
-use mathlib.Core.Path.{_≡_}
-use Prim.Native.Nat.{_+_, _≤_, _-_}
-use native.Mathlib.Omega.{arith}
-use lib.ListN.{length}
-use borrow.Author.Needs.{needs}
+-- `run_genlib::each` is safe: each case begins within the input, and the memory lent keeps its length.
+use Rattle.base.specs.{_≡_, _+_, _≤_, _-_, arith, length, needs}
 use Rattle.run_genlib.proofs.each.Statement.{statement}
 use Rattle.run_genlib.proofs.each.Tie as tie
 
@@ -14,9 +10,8 @@ abbrev μ-loop : tie.MeasureT-loop
 μ-loop s text₀ from₀ text from = length s + 1 - from
 
 pub each-spec : {M : Type 1} → statement M
-each-spec =
-    tie.close
-    (tie.spec
-    Inv-loop μ-loop (λ c. search needs) (λ c κs. search needs) (λ c. omega arith) (λ c. search needs) (λ c. search needs) (λ c κs. search needs)
-    (λ c. search needs) (λ c. search needs) (λ c. search needs) (λ c. search needs) (λ c. search needs) (λ c. search needs) (λ c. search needs)
-    (λ c κs. search needs) (λ c. search needs) (λ c. search needs) (λ c. search needs) (λ c. omega arith) (λ c. search needs))
+each-spec = tie.close (tie.spec
+    Inv-loop μ-loop (λ c. search needs) (λ c κs. search needs) (λ c. omega arith) (λ c. search needs) (λ c. search needs)
+    (λ c κs. search needs) (λ c. search needs) (λ c. search needs) (λ c. search needs) (λ c. search needs) (λ c. search needs)
+    (λ c. search needs) (λ c. search needs) (λ c κs. search needs) (λ c. search needs) (λ c. search needs) (λ c. search needs)
+    (λ c. omega arith) (λ c. search needs))

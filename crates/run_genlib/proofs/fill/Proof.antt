@@ -1,10 +1,5 @@
 -- `run_genlib::fill` is safe. The measure is what is left.
--- Assumes nothing.
-use mathlib.Core.Path.{_≡_, refl}
-use Prim.Native.Nat.{_≤_, _-_}
-use native.Mathlib.Omega.{arith}
-use lib.ListN.{length, length-set}
-use borrow.Author.Needs.{needs}
+use Rattle.base.specs.{_≡_, refl, _≤_, _-_, arith, length, length-set, needs}
 use Rattle.run_genlib.proofs.fill.Statement.{statement}
 use Rattle.run_genlib.proofs.fill.Tie as tie
 
@@ -27,7 +22,5 @@ same-length : tie.Need-same-length Inv-loop μ-loop
 same-length c = c .before .loop .inv .1
 
 pub fill-spec : {M : Type 1} → statement M
-fill-spec =
-    tie.close
-    (tie.spec
+fill-spec = tie.close (tie.spec
     Inv-loop μ-loop loop-holds (λ c. search needs) (λ c. search needs) loop-less loop-again same-length (λ c. search needs))

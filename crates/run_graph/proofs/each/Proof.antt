@@ -1,9 +1,5 @@
 -- `run_graph::each` is safe. The measure is what is left.
--- Assumes nothing.
-use borrow.Author.Needs.{needs}
-use mathlib.Core.Path.{_≡_}
-use Prim.Native.Nat.{_+_, _≤_, _-_}
-use lib.ListN.{length}
+use Rattle.base.specs.{needs, _≡_, _+_, _≤_, _-_, length}
 use Rattle.run_graph.proofs.each.Statement.{statement}
 use Rattle.run_graph.proofs.each.Tie as tie
 
@@ -14,8 +10,6 @@ abbrev μ-loop : tie.MeasureT-loop
 μ-loop s work₀ from₀ work from = length s + 1 - from
 
 pub each-spec : {M : Type 1} → statement M
-each-spec =
-    tie.close
-    (tie.spec
-    Inv-loop μ-loop (λ c. search needs) (λ c κs. search needs) (λ c. search needs) (λ c. search needs) (λ c. search needs) (λ c κs. search needs)
-    (λ c. search needs) (λ c. search needs) (λ c. search needs) (λ c. search needs) (λ c. search needs))
+each-spec = tie.close (tie.spec
+    Inv-loop μ-loop (λ c. search needs) (λ c κs. search needs) (λ c. search needs) (λ c. search needs) (λ c. search needs)
+    (λ c κs. search needs) (λ c. search needs) (λ c. search needs) (λ c. search needs) (λ c. search needs) (λ c. search needs))

@@ -1,10 +1,7 @@
 -- `run_graph::show` is safe: a header that is answered is the text's.
--- Assumes nothing.
-use mathlib.Core.Path.{sym, _∙_}
-use native.Mathlib.Omega.{arith}
-use Rattle.theory_text.proofs.ReadGraph.{header-fits}
-use Rattle.graph_reader.proofs.Head.{header-read}
-use borrow.Author.Needs.{needs}
+use Rattle.base.specs.{sym, _∙_, arith, needs}
+use Rattle.theory_text.proofs.{header-fits}
+use Rattle.graph_reader.proofs.{header-read}
 use Rattle.run_graph.proofs.show.Statement.{statement}
 use Rattle.run_graph.proofs.show.Tie as tie
 
@@ -21,8 +18,6 @@ show-loaded-requires c κs =
     (header-read _ _ (sym (at-h .before .before .header .ensures .0) ∙ at-h .h .given .1), omega (arith, at-need-words .need-words .ensures))
 
 pub show-spec : {M : Type 1} → statement M
-show-spec =
-    tie.close
-    (tie.spec
+show-spec = tie.close (tie.spec
     (λ c κs. search needs) (λ c. search needs) need-words-requires (λ c κs. search needs) show-loaded-requires (λ c. search needs)
     (λ c κs. search needs) (λ c. search needs) (λ c. search needs) (λ c. search needs) (λ c. search needs))

@@ -1,9 +1,7 @@
 -- `run_graph::show_loaded` is safe: what `place` asks is what an accepted `load` leaves.
--- Assumes nothing.
-use mathlib.Core.Path.{sym, _∙_}
-use Rattle.graph_binary.proofs.Loads.{header-fit}
-use Rattle.graph_reader.proofs.Loads.{place-asks}
-use borrow.Author.Needs.{needs}
+use Rattle.base.specs.{sym, _∙_, needs}
+use Rattle.graph_binary.proofs.{header-fit}
+use Rattle.graph_reader.proofs.{place-asks}
 use Rattle.run_graph.proofs.show_loaded.Statement.{statement}
 use Rattle.run_graph.proofs.show_loaded.Tie as tie
 
@@ -20,8 +18,6 @@ show-placed-requires c κs =
     place-asks (args .work .now) (args .text .now) (args .h) _ fit (sym (at-load .load .ensures .0) ∙ at-enum-told .enum-told .given .1) (at-load .load .ensures .1 .0)
 
 pub show-loaded-spec : {M : Type 1} → statement M
-show-loaded-spec =
-    tie.close
-    (tie.spec
+show-loaded-spec = tie.close (tie.spec
     (λ c κs. search needs) enum-told show-placed-requires (λ c. search needs) (λ c κs. search needs) (λ c. search needs) (λ c. search needs)
     (λ c. search needs) (λ c. search needs))

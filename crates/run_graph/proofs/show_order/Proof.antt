@@ -1,9 +1,6 @@
 -- `run_graph::show_order` is safe. The measure is the slots that are left.
--- Assumes nothing.
-use borrow.Author.Needs.{needs}
-use Prim.Native.Nat.{_+_, _-_, _≤_}
-use native.Mathlib.Omega.{arith}
-use Rattle.graph_placing.proofs.Slots.{fit-room}
+use Rattle.base.specs.{needs, _+_, _-_, _≤_, arith}
+use Rattle.graph_placing.proofs.{fit-room}
 use Rattle.run_graph.proofs.show_order.Statement.{statement}
 use Rattle.run_graph.proofs.show_order.Tie as tie
 
@@ -17,8 +14,6 @@ slot-requires : tie.Need-slot-requires Inv-loop μ-loop
 slot-requires c κs = (fit-room (c .before .before .before .before .before .before .args .h) (c .before .before .before .before .before .before .args .work .now) (c .before .before .before .before .before .before .pre), omega arith)
 
 pub show-order-spec : {M : Type 1} → statement M
-show-order-spec =
-    tie.close
-    (tie.spec
+show-order-spec = tie.close (tie.spec
     Inv-loop μ-loop (λ c. search needs) (λ c κs. search needs) (λ c. search needs) (λ c. search needs) slot-requires (λ c κs. search needs)
     (λ c. search needs) (λ c. search needs) (λ c. search needs) (λ c. search needs))

@@ -1,7 +1,5 @@
 -- `run_graph::show_outputs` is safe. The measure is the outputs that are left.
--- Assumes nothing.
-use borrow.Author.Needs.{needs}
-use Prim.Native.Nat.{_-_, _≤_}
+use Rattle.base.specs.{needs, _-_, _≤_}
 use Rattle.run_graph.proofs.show_outputs.Statement.{statement}
 use Rattle.run_graph.proofs.show_outputs.Tie as tie
 
@@ -12,8 +10,6 @@ abbrev μ-loop : tie.MeasureT-loop
 μ-loop work h i₀ t5 i = h .outputs - i
 
 pub show-outputs-spec : {M : Type 1} → statement M
-show-outputs-spec =
-    tie.close
-    (tie.spec
-    Inv-loop μ-loop (λ c. search needs) (λ c κs. search needs) (λ c. search needs) (λ c κs. search needs) (λ c κs. search needs) (λ c. search needs)
-    (λ c. search needs) (λ c. search needs) (λ c. search needs) (λ c κs. search needs) (λ c. search needs))
+show-outputs-spec = tie.close (tie.spec
+    Inv-loop μ-loop (λ c. search needs) (λ c κs. search needs) (λ c. search needs) (λ c κs. search needs) (λ c κs. search needs)
+    (λ c. search needs) (λ c. search needs) (λ c. search needs) (λ c. search needs) (λ c κs. search needs) (λ c. search needs))

@@ -1,8 +1,5 @@
 -- `run_library::each` is safe. The measure is what is left.
--- Assumes nothing.
-use Prim.Native.Nat.{_+_, _≤_, _-_}
-use lib.ListN.{length}
-use borrow.Author.Needs.{needs}
+use Rattle.base.specs.{_+_, _≤_, _-_, length, needs}
 use Rattle.run_library.proofs.each.Statement.{statement}
 use Rattle.run_library.proofs.each.Tie as tie
 
@@ -13,8 +10,6 @@ abbrev μ-loop : tie.MeasureT-loop
 μ-loop s from₀ from = length s + 1 - from
 
 pub each-spec : {M : Type 1} → statement M
-each-spec =
-    tie.close
-    (tie.spec
-    Inv-loop μ-loop (λ c. search needs) (λ c κs. search needs) (λ c. search needs) (λ c. search needs) (λ c. search needs) (λ c κs. search needs)
-    (λ c. search needs) (λ c. search needs) (λ c. search needs) (λ c. search needs))
+each-spec = tie.close (tie.spec
+    Inv-loop μ-loop (λ c. search needs) (λ c κs. search needs) (λ c. search needs) (λ c. search needs) (λ c. search needs)
+    (λ c κs. search needs) (λ c. search needs) (λ c. search needs) (λ c. search needs) (λ c. search needs))

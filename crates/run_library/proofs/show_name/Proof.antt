@@ -1,10 +1,5 @@
 -- `run_library::show_name` is safe: a part of an array of eight bytes.
--- Assumes nothing.
-use borrow.Author.Needs.{needs}
-use mathlib.Core.Path.{_≡_, sym}
-use native.Mathlib.Omega.{arith}
-use lib.ListN.{length}
-use lib.Seq.{length-take-le}
+use Rattle.base.specs.{needs, _≡_, sym, arith, length, length-take-le}
 use Rattle.run_library.proofs.show_name.Statement.{statement}
 use Rattle.run_library.proofs.show_name.Tie as tie
 
@@ -15,8 +10,6 @@ slice-aggregate-write-all-2 c =
     sym (length-take-le (a .len) (a .t1) (omega arith))
 
 pub show-name-spec : {M : Type 1} → statement M
-show-name-spec =
-    tie.close
-    (tie.spec
+show-name-spec = tie.close (tie.spec
     (λ c. search needs) (λ c κs. search needs) (λ c. search needs) slice-aggregate-write-all-2 (λ c κs. search needs) (λ c. search needs)
     (λ c. search needs))

@@ -1,9 +1,5 @@
--- `run_map::each` is safe: each case begins within the input, and the memory lent keeps its length. Assumes nothing.
-use borrow.Author.Needs.{needs}
-use mathlib.Core.Path.{_≡_}
-use Prim.Native.Nat.{ℕ, _≤_, _+_, _-_}
-use native.Mathlib.Omega.{arith}
-use lib.ListN.{length}
+-- `run_map::each` is safe: each case begins within the input, and the memory lent keeps its length.
+use Rattle.base.specs.{needs, _≡_, ℕ, _≤_, _+_, _-_, arith, length}
 use Rattle.run_map.proofs.each.Statement.{statement}
 use Rattle.run_map.proofs.each.Tie as tie
 
@@ -30,12 +26,11 @@ loop-again c =
     (inside (at-end4 .end4 .ensures .2) (c .before .before .before .before .before .before .before .before .before .before .before .if4 .left), omega arith, omega arith)
 
 pub each-spec : {M : Type 1} → statement M
-each-spec =
-    tie.close
-    (tie.spec
+each-spec = tie.close (tie.spec
     Inv-loop μ-loop (λ c. search needs) (λ c κs. search needs) (λ c. omega arith) (λ c. omega arith) (λ c. search needs) (λ c. search needs)
-    (λ c κs. search needs) (λ c. omega arith) (λ c. omega arith) (λ c. search needs) (λ c. search needs) (λ c κs. search needs) (λ c. omega arith)
-    (λ c. omega arith) (λ c. search needs) (λ c. search needs) (λ c κs. search needs) (λ c. omega arith) (λ c. omega arith) (λ c. search needs)
-    (λ c. search needs) (λ c. search needs) (λ c. search needs) (λ c. search needs) (λ c. search needs) (λ c. search needs) (λ c. search needs)
-    (λ c. search needs) (λ c. search needs) (λ c. search needs) (λ c. search needs) (λ c. search needs) (λ c. search needs) (λ c. search needs)
-    (λ c. search needs) (λ c κs. search needs) (λ c. search needs) loop-less loop-again (λ c. omega arith) (λ c. omega arith) (λ c. search needs))
+    (λ c κs. search needs) (λ c. omega arith) (λ c. omega arith) (λ c. search needs) (λ c. search needs) (λ c κs. search needs)
+    (λ c. omega arith) (λ c. omega arith) (λ c. search needs) (λ c. search needs) (λ c κs. search needs) (λ c. omega arith)
+    (λ c. omega arith) (λ c. search needs) (λ c. search needs) (λ c. search needs) (λ c. search needs) (λ c. search needs)
+    (λ c. search needs) (λ c. search needs) (λ c. search needs) (λ c. search needs) (λ c. search needs) (λ c. search needs)
+    (λ c. search needs) (λ c. search needs) (λ c. search needs) (λ c. search needs) (λ c. search needs) (λ c κs. search needs)
+    (λ c. search needs) loop-less loop-again (λ c. omega arith) (λ c. omega arith) (λ c. search needs))

@@ -1,7 +1,5 @@
--- `run_map::map_case` is safe: the parts lent are no longer than what they are parts of. Assumes nothing.
-use native.Mathlib.Omega.{arith}
-use lib.ListN.{length-take}
-use borrow.Author.Needs.{needs}
+-- `run_map::map_case` is safe: the parts lent are no longer than what they are parts of.
+use Rattle.base.specs.{arith, length-take, needs}
 use Rattle.run_map.proofs.map_case.Statement.{statement}
 use Rattle.run_map.proofs.map_case.Tie as tie
 
@@ -12,8 +10,6 @@ slice-aggregate-map-lent-2 : tie.Need-slice-aggregate-map-lent-2
 slice-aggregate-map-lent-2 c = simp length-take (omega arith)
 
 pub map-case-spec : {M : Type 1} → statement M
-map-case-spec =
-    tie.close
-    (tie.spec
+map-case-spec = tie.close (tie.spec
     (λ c. search needs) slice-aggregate-map-lent (λ c. search needs) slice-aggregate-map-lent-2 (λ c κs. search needs) (λ c. search needs)
     (λ c. search needs) (λ c. search needs) (λ c. search needs) (λ c. search needs))

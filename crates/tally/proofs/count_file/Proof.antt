@@ -1,9 +1,8 @@
--- `tally::count_file` is safe: what `find` counts is within the buffer. Assumes nothing.
-use mathlib.Core.Path.{subst}
-use Rattle.program_files.specs.Loading.{Found-in}
+-- `tally::count_file` is safe: what `find` counts is within the buffer.
+use Rattle.base.specs.{subst, needs}
+use Rattle.program_files.specs.{Found-in}
 use Rattle.program_files.specs.declared.Found.{Found}
 use Rattle.program_files.specs.declared.Found.the-variants.{Bytes}
-use borrow.Author.Needs.{needs}
 use Rattle.tally.proofs.count_file.Statement.{statement}
 use Rattle.tally.proofs.count_file.Tie as tie
 
@@ -19,9 +18,7 @@ slice-aggregate-count-one : tie.Need-slice-aggregate-count-one
 slice-aggregate-count-one c = counted (c .before) .1
 
 pub count-file-spec : {M : Type 1} → statement M
-count-file-spec =
-    tie.close
-    (tie.spec
-    (λ c. search needs) (λ c κs. search needs) (λ c. search needs) slice-reshare-prefix-count-one slice-aggregate-count-one (λ c κs. search needs)
-    (λ c. search needs) (λ c. search needs) (λ c. search needs) (λ c. search needs) (λ c. search needs) (λ c. search needs) (λ c. search needs)
-    (λ c. search needs))
+count-file-spec = tie.close (tie.spec
+    (λ c. search needs) (λ c κs. search needs) (λ c. search needs) slice-reshare-prefix-count-one slice-aggregate-count-one
+    (λ c κs. search needs) (λ c. search needs) (λ c. search needs) (λ c. search needs) (λ c. search needs) (λ c. search needs)
+    (λ c. search needs) (λ c. search needs) (λ c. search needs))

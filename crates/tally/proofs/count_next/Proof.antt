@@ -1,11 +1,6 @@
 -- `tally::count_next` meets its contract: a name has at most fifteen bytes.
--- Assumes nothing.
-use native.Mathlib.Omega.{arith}
-use mathlib.Core.Path.{_≡_, sym}
-use lib.ListN.{length}
-use lib.Seq.{length-take-le}
+use Rattle.base.specs.{arith, _≡_, sym, length, length-take-le, needs}
 use Rattle.tally.proofs.Within.{ten-digits}
-use borrow.Author.Needs.{needs}
 use Rattle.tally.proofs.count_next.Statement.{statement}
 use Rattle.tally.proofs.count_next.Tie as tie
 
@@ -33,8 +28,6 @@ slice-aggregate-count-file c =
     sym (length-take-le (q .result) (q .last .0) (omega (arith, p .ensures .0, q .ensures .ends, ten-digits (c .before .before .before .before .before .before .before .before .before .before .args .k) (search needs))))
 
 pub count-next-spec : {M : Type 1} → statement M
-count-next-spec =
-    tie.close
-    (tie.spec
+count-next-spec = tie.close (tie.spec
     (λ c. search needs) put-number-requires (λ c. search needs) (λ c. search needs) put-bytes-requires array-share-prefix-name
     slice-aggregate-count-file (λ c κs. search needs) (λ c. search needs) (λ c. search needs))

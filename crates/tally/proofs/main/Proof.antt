@@ -1,9 +1,8 @@
--- `tally::main` is safe: what `load` counts is within its buffer. Assumes nothing.
-use mathlib.Core.Path.{subst}
-use Rattle.program_files.specs.Loading.{Loaded-in}
+-- `tally::main` is safe: what `load` counts is within its buffer.
+use Rattle.base.specs.{subst, needs}
+use Rattle.program_files.specs.{Loaded-in}
 use Rattle.program_files.specs.declared.Loaded.{Loaded}
 use Rattle.program_files.specs.declared.Loaded.the-variants.{Bytes}
-use borrow.Author.Needs.{needs}
 use Rattle.tally.proofs.main.Statement.{statement}
 use Rattle.tally.proofs.main.Tie as tie
 
@@ -25,9 +24,7 @@ slice-aggregate-show : tie.Need-slice-aggregate-show
 slice-aggregate-show c = counted (c .before .before .before .before .before .before .before .before) .1
 
 pub main-spec : {M : Type 1} → statement M
-main-spec =
-    tie.close
-    (tie.spec
-    (λ c. search needs) (λ c. search needs) (λ c. search needs) (λ c κs. search needs) (λ c. search needs) (λ c. search needs) (λ c. search needs)
-    array-share-prefix-cells slice-aggregate-count-all (λ c. search needs) (λ c κs. search needs) (λ c. search needs) (λ c. search needs)
-    array-share-prefix-cells-2 slice-aggregate-show (λ c. search needs) (λ c κs. search needs) (λ c. search needs))
+main-spec = tie.close (tie.spec
+    (λ c. search needs) (λ c. search needs) (λ c. search needs) (λ c κs. search needs) (λ c. search needs) (λ c. search needs)
+    (λ c. search needs) array-share-prefix-cells slice-aggregate-count-all (λ c. search needs) (λ c κs. search needs) (λ c. search needs)
+    (λ c. search needs) array-share-prefix-cells-2 slice-aggregate-show (λ c. search needs) (λ c κs. search needs) (λ c. search needs))

@@ -1,10 +1,6 @@
 -- `tally::show` meets its contract: the length that `report` answers is within text memory.
--- Assumes nothing.
-use native.Mathlib.Omega.{arith}
-use mathlib.Core.Path.{sym, _∙_}
-use lib.ListN.{length, length-take}
+use Rattle.base.specs.{arith, sym, _∙_, length, length-take, needs}
 use Rattle.tally.proofs.Within.{report-within}
-use borrow.Author.Needs.{needs}
 use Rattle.tally.proofs.show.Statement.{statement}
 use Rattle.tally.proofs.show.Tie as tie
 
@@ -22,9 +18,7 @@ slice-aggregate-put c =
     omega (arith, length-take (c .before .before .n .given .0 .0) (r .last .1 .1 .0))
 
 pub show-spec : {M : Type 1} → statement M
-show-spec =
-    tie.close
-    (tie.spec
+show-spec = tie.close (tie.spec
     (λ c κs. search needs) (λ c. search needs) slice-reshare-prefix-put slice-aggregate-put (λ c κs. search needs) (λ c. search needs)
     (λ c κs. search needs) (λ c. search needs) (λ c κs. search needs) (λ c. search needs) (λ c κs. search needs) (λ c. search needs)
     (λ c. search needs) (λ c. search needs) (λ c. search needs))

@@ -1,11 +1,7 @@
--- `tally_call::column` meets its contract. The invariant: the numbers before this one are copied; the measure is what is left. Assumes nothing.
-use borrow.Author.Needs.{needs}
-use native.Mathlib.Omega.{arith}
-use mathlib.Core.Path.{_≡_, sym}
-use Prim.Native.Nat.{_-_, _≤_}
-use lib.ListN.{take, drop}
-use Rattle.base_words.specs.Put.{putAt, zeros}
-use Rattle.base_words.proofs.Putting.{put-none}
+-- `tally_call::column` meets its contract. The invariant: the numbers before this one are copied; the measure is what is left.
+use Rattle.base.specs.{needs, arith, _≡_, sym, _-_, _≤_, take, drop}
+use Rattle.base_words.specs.{putAt, zeros}
+use Rattle.base_words.proofs.{put-none}
 use Rattle.tally_call.proofs.Columns.{column-step, column-end}
 use Rattle.tally_call.proofs.column.Statement.{statement}
 use Rattle.tally_call.proofs.column.Tie as tie

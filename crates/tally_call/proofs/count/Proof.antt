@@ -1,14 +1,12 @@
--- `tally_call::count` meets its contract: a refusal leaves the numbers, and else they are the tally of one netlist more. Assumes nothing.
-use mathlib.Core.Path.{_≡_, sym, ap, _∙_}
-use Rattle.model.specs.Reading.{holds}
-use Rattle.model.specs.Tally.{countText}
+-- `tally_call::count` meets its contract: a refusal leaves the numbers, and else they are the tally of one netlist more.
+use Rattle.base.specs.{_≡_, sym, ap, _∙_, needs}
+use Rattle.model.specs.{holds, countText}
 use Rattle.model.specs.declared.Tally.{Tally}
-use Rattle.model.proofs.Answers.{verdict-ruled}
-use Rattle.theory_tally.proofs.CountCalls.{count-exactly}
-use Rattle.tally_call.specs.Numbers.{tallyOf}
+use Rattle.model.proofs.{verdict-ruled}
+use Rattle.theory_tally.proofs.{count-exactly}
+use Rattle.tally_call.specs.{tallyOf}
 use Rattle.tally_call.proofs.Columns.{was-counted, was-refused, only-97, numbers-held, numbers-kept}
 use Rattle.tally_call.proofs.RoundTrip.{count-sums, refused-sums}
-use borrow.Author.Needs.{needs}
 use Rattle.tally_call.proofs.count.Statement.{statement}
 use Rattle.tally_call.proofs.count.Tie as tie
 

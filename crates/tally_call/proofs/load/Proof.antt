@@ -1,8 +1,6 @@
--- `tally_call::load` meets its contract: column by column. Assumes nothing.
-use native.Mathlib.Omega.{arith}
-use mathlib.Core.Path.{_∙_}
+-- `tally_call::load` meets its contract: column by column.
+use Rattle.base.specs.{arith, _∙_, needs}
 use Rattle.tally_call.proofs.Columns.{tally-short, tally-is}
-use borrow.Author.Needs.{needs}
 use Rattle.tally_call.proofs.load.Statement.{statement}
 use Rattle.tally_call.proofs.load.Tie as tie
 

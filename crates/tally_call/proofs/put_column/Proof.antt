@@ -1,13 +1,7 @@
--- `tally_call::put_column` meets its contract. The invariant: the numbers before this one are put; the measure is what is left. Assumes nothing.
-use borrow.Author.Needs.{needs}
-use native.Mathlib.Omega.{arith}
-use mathlib.Core.Path.{_≡_, refl, sym, ap, _∙_}
-use mathlib.Core.List.{List}
-use Prim.Native.Nat.{ℕ, _+_, _-_, _≤_}
-use lib.ListN.{length, take, getD, set, length-set}
-use lib.Seq.{take-all}
-use Rattle.base_words.specs.Put.{putAt}
-use Rattle.base_words.proofs.Putting.{put-none, put-taken}
+-- `tally_call::put_column` meets its contract. The invariant: the numbers before this one are put; the measure is what is left.
+use Rattle.base.specs.{needs, arith, _≡_, refl, sym, ap, _∙_, List, ℕ, _+_, _-_, _≤_, length, take, getD, set, length-set, take-all}
+use Rattle.base_words.specs.{putAt}
+use Rattle.base_words.proofs.{put-none, put-taken}
 use Rattle.tally_call.proofs.put_column.Statement.{statement}
 use Rattle.tally_call.proofs.put_column.Tie as tie
 

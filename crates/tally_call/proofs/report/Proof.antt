@@ -1,14 +1,11 @@
--- `tally_call::report` meets its contract: the tally that the numbers are, and its bytes read back. Assumes nothing.
-use lib.ListN.{length}
-use Rattle.model.specs.Genlib.{writtenAnswer, writtenAfter}
-use Rattle.model.specs.Tally.{reportOf}
-use mathlib.Core.Path.{_≡_, ap, _∙_}
+-- `tally_call::report` meets its contract: the tally that the numbers are, and its bytes read back.
+use Rattle.base.specs.{length, _≡_, ap, _∙_, needs}
+use Rattle.model.specs.{writtenAnswer, writtenAfter, reportOf}
 use Rattle.model.specs.declared.Tally.{Tally}
-use Rattle.model.proofs.Answers.{written-ruled}
-use Rattle.theory_tally.proofs.CountCalls.{report-exactly}
-use Rattle.tally_call.specs.Numbers.{tallyOf}
+use Rattle.model.proofs.{written-ruled}
+use Rattle.theory_tally.proofs.{report-exactly}
+use Rattle.tally_call.specs.{tallyOf}
 use Rattle.tally_call.proofs.RoundTrip.{report-sums}
-use borrow.Author.Needs.{needs}
 use Rattle.tally_call.proofs.report.Statement.{statement}
 use Rattle.tally_call.proofs.report.Tie as tie
 

@@ -1,8 +1,6 @@
--- `tally_call::store` meets its contract: column by column. Assumes nothing.
-use mathlib.Core.Path.{_∙_}
-use lib.ListN.{length-set}
+-- `tally_call::store` meets its contract: column by column.
+use Rattle.base.specs.{_∙_, length-set, needs}
 use Rattle.tally_call.proofs.Columns.{stored-is}
-use borrow.Author.Needs.{needs}
 use Rattle.tally_call.proofs.store.Statement.{statement}
 use Rattle.tally_call.proofs.store.Tie as tie
 

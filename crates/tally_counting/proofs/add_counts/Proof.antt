@@ -1,10 +1,6 @@
 -- `tally_counting::add_counts` meets its contract. The invariant: the places before this one are added; the measure is the places left.
--- Assumes nothing.
-use borrow.Author.Needs.{needs}
-use native.Mathlib.Omega.{arith}
-use mathlib.Core.Path.{_≡_, refl, ap, _∙_}
-use Prim.Native.Nat.{ℕ, _-_, _≤_}
-use Rattle.tally_counting.specs.Adding.{addUpTo, addedUpTo}
+use Rattle.base.specs.{needs, arith, _≡_, refl, ap, _∙_, ℕ, _-_, _≤_}
+use Rattle.tally_counting.specs.{addUpTo, addedUpTo}
 use Rattle.tally_counting.proofs.Places.{tally-low, tally-step}
 use Rattle.tally_counting.proofs.add_counts.Statement.{statement}
 use Rattle.tally_counting.proofs.add_counts.Tie as tie

@@ -1,14 +1,7 @@
 -- `tally_counting::all_small` meets its contract. The invariant: all are small where all that are left are; the measure is what is left.
--- Assumes nothing.
-use borrow.Author.Needs.{needs}
-use native.Mathlib.Omega.{arith}
-use mathlib.Core.Path.{_≡_, refl, sym, _∙_}
-use Prim.Native.Nat.{ℕ, _-_, _^_, _≤_}
-use lib.Dec.{leb}
-use lib.ListN.{length, drop, getD}
-use borrow.Author.Tests.{lt-leb, le-leb}
-use Rattle.model.specs.Base.{all}
-use Rattle.base_text.proofs.Bytes.{all-step, all-end}
+use Rattle.base.specs.{needs, arith, _≡_, refl, sym, _∙_, ℕ, _-_, _^_, _≤_, leb, length, drop, getD, lt-leb, le-leb}
+use Rattle.model.specs.{all}
+use Rattle.base_text.proofs.{all-step, all-end}
 use Rattle.tally_counting.proofs.all_small.Statement.{statement}
 use Rattle.tally_counting.proofs.all_small.Tie as tie
 

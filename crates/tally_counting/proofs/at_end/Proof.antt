@@ -1,5 +1,5 @@
--- `tally_counting::at_end` meets its contract: a line that is left is one too many. Assumes nothing.
-use native.Mathlib.Omega.{arith}
+-- `tally_counting::at_end` meets its contract: a line that is left is one too many.
+use Rattle.base.specs.{arith}
 use Rattle.tally_counting.proofs.DueLines.{end-yes, end-no}
 use Rattle.tally_counting.proofs.at_end.Statement.{statement}
 use Rattle.tally_counting.proofs.at_end.Tie as tie

@@ -1,22 +1,15 @@
--- `tally_counting::count` meets its contract: 1, the library's, then 28 and 29. Assumes nothing.
-use native.Mathlib.Omega.{arith}
-use mathlib.Core.Path.{_≡_, sym, ap, subst, _∙_}
-use mathlib.Core.Bool.{Bool}
-use mathlib.Core.List.{List}
-use Rattle.model.specs.Reading.{Read, rulingOf, verdictRuling}
-use Rattle.model.specs.Cells.{cellsOf}
-use Rattle.model.specs.LibraryText.{readLibrary, isRanged}
-use Rattle.model.specs.Tally.{countText, countedAnswer}
+-- `tally_counting::count` meets its contract: 1, the library's, then 28 and 29.
+use Rattle.base.specs.{arith, _≡_, sym, ap, subst, _∙_, Bool, List, needs}
+use Rattle.model.specs.{Read, rulingOf, verdictRuling, cellsOf, readLibrary, isRanged, countText, countedAnswer}
 use Rattle.model.specs.declared.Cell.{Cell}
 use Rattle.model.specs.declared.Library.{Library}
 use Rattle.model.specs.declared.Tally.{Tally}
 use Rattle.model.specs.declared.Counted.{Counted}
-use Rattle.model.proofs.Answers.{counted-ruled}
-use Rattle.tally_lines.specs.Kinds.{Listed}
-use Rattle.tally_counting.specs.Adding.{Blank}
-use Rattle.tally_counting.specs.Netlists.{countRead}
-use Rattle.tally_counting.proofs.Answers.{accepted, turned-back, cells-back, listed, blanks, count-long, count-long-too, count-refused, count-read}
-use borrow.Author.Needs.{needs}
+use Rattle.model.proofs.{counted-ruled}
+use Rattle.tally_lines.specs.{Listed}
+use Rattle.tally_counting.specs.{Blank, countRead}
+use Rattle.tally_counting.proofs.Answers.{accepted, turned-back, cells-back, listed, blanks, count-long, count-long-too}
+use Rattle.tally_counting.proofs.Answers.{count-refused, count-read}
 use Rattle.tally_counting.proofs.count.Statement.{statement}
 use Rattle.tally_counting.proofs.count.Tie as tie
 

@@ -1,11 +1,7 @@
--- `tally_counting::count_in` meets its contract: 28, then 29. Assumes nothing.
-use native.Mathlib.Omega.{arith}
-use mathlib.Core.Path.{sym, ap, _∙_}
-use borrow.Author.Tests.{not-true, not-false}
-use Rattle.model.specs.Cells.{cellsOf}
-use Rattle.model.specs.Tally.{countedAnswer}
+-- `tally_counting::count_in` meets its contract: 28, then 29.
+use Rattle.base.specs.{arith, sym, ap, _∙_, not-true, not-false, needs}
+use Rattle.model.specs.{cellsOf, countedAnswer}
 use Rattle.tally_counting.proofs.Answers.{count-many, count-over, count-broken, count-whole}
-use borrow.Author.Needs.{needs}
 use Rattle.tally_counting.proofs.count_in.Statement.{statement}
 use Rattle.tally_counting.proofs.count_in.Tie as tie
 

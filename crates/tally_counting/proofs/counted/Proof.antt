@@ -1,9 +1,7 @@
--- `tally_counting::counted` meets its contract: the counts in all places, and one netlist more. Assumes nothing.
-use mathlib.Core.Path.{ap}
-use Prim.Native.Nat.{_+_}
+-- `tally_counting::counted` meets its contract: the counts in all places, and one netlist more.
+use Rattle.base.specs.{ap, _+_, needs}
 use Rattle.model.specs.declared.Tally.{Tally}
 use Rattle.model.specs.declared.Verdict.the-variants.{Accepted}
-use borrow.Author.Needs.{needs}
 use Rattle.tally_counting.proofs.counted.Statement.{statement}
 use Rattle.tally_counting.proofs.counted.Tie as tie
 

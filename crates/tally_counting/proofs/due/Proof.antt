@@ -1,10 +1,7 @@
--- `tally_counting::due` meets its contract: by the line at the place. Assumes nothing.
-use native.Mathlib.Omega.{arith}
-use mathlib.Core.Path.{sym, _∙_}
-use Rattle.tally_counting.specs.Forms.{formTest}
+-- `tally_counting::due` meets its contract: by the line at the place.
+use Rattle.base.specs.{arith, sym, _∙_, _-_, needs}
+use Rattle.tally_counting.specs.{formTest}
 use Rattle.tally_counting.proofs.DueLines.{ten-line, span-bounds, part-short, due-yes, due-no, due-out}
-use Prim.Native.Nat.{_-_}
-use borrow.Author.Needs.{needs}
 use Rattle.tally_counting.proofs.due.Statement.{statement}
 use Rattle.tally_counting.proofs.due.Tie as tie
 

@@ -1,9 +1,8 @@
--- `tally_counting::has_form` meets its contract: the line is judged by its kind. Assumes nothing.
-use mathlib.Core.Path.{sym, ap, _∙_}
-use Rattle.model.specs.Text.{text}
-use Rattle.tally_counting.specs.Forms.{formTest}
+-- `tally_counting::has_form` meets its contract: the line is judged by its kind.
+use Rattle.base.specs.{sym, ap, _∙_, needs}
+use Rattle.model.specs.{text}
+use Rattle.tally_counting.specs.{formTest}
 use Rattle.tally_counting.specs.declared.Form.{Form}
-use borrow.Author.Needs.{needs}
 use Rattle.tally_counting.proofs.has_form.Statement.{statement}
 use Rattle.tally_counting.proofs.has_form.Tie as tie
 

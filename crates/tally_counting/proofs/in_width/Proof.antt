@@ -1,9 +1,7 @@
--- `tally_counting::in_width` meets its contract: figure by figure. Assumes nothing.
-use mathlib.Core.Path.{sym, _∙_}
-use borrow.Author.Tests.{not-true, not-false}
+-- `tally_counting::in_width` meets its contract: figure by figure.
+use Rattle.base.specs.{sym, _∙_, not-true, not-false, needs}
 use Rattle.tally_counting.proofs.Reading.{never}
 use Rattle.tally_counting.proofs.Places.{width-gates, width-areas, width-occurs, width-over, width-yes, width-wide}
-use borrow.Author.Needs.{needs}
 use Rattle.tally_counting.proofs.in_width.Statement.{statement}
 use Rattle.tally_counting.proofs.in_width.Tie as tie
 

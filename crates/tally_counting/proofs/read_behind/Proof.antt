@@ -1,10 +1,8 @@
--- `tally_counting::read_behind` meets its contract: in the order of the lines. Assumes nothing.
-use lib.ListN.{length}
-use Rattle.model.specs.Reading.{holds, next}
-use Rattle.tally_counting.specs.Forms.{formTest}
-use Rattle.tally_counting.specs.Reached.{linesOf, readIn}
+-- `tally_counting::read_behind` meets its contract: in the order of the lines.
+use Rattle.base.specs.{length, needs}
+use Rattle.model.specs.{holds, next}
+use Rattle.tally_counting.specs.{formTest, linesOf, readIn}
 use Rattle.tally_counting.proofs.DueLines.{behind-is}
-use borrow.Author.Needs.{needs}
 use Rattle.tally_counting.proofs.read_behind.Statement.{statement}
 use Rattle.tally_counting.proofs.read_behind.Tie as tie
 

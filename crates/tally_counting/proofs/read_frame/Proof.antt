@@ -1,10 +1,8 @@
--- `tally_counting::read_frame` meets its contract: the three lines in order. Assumes nothing.
-use lib.ListN.{length}
-use Rattle.model.specs.Tally.{frame}
-use Rattle.tally_counting.specs.Forms.{formTest}
-use Rattle.tally_counting.specs.Reached.{linesOf}
+-- `tally_counting::read_frame` meets its contract: the three lines in order.
+use Rattle.base.specs.{length, needs}
+use Rattle.model.specs.{frame}
+use Rattle.tally_counting.specs.{formTest, linesOf}
 use Rattle.tally_counting.proofs.DueLines.{due-three}
-use borrow.Author.Needs.{needs}
 use Rattle.tally_counting.proofs.read_frame.Statement.{statement}
 use Rattle.tally_counting.proofs.read_frame.Tie as tie
 

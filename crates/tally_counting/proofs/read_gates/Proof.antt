@@ -1,10 +1,5 @@
 -- `tally_counting::read_gates` meets its contract. The invariant: what was counted and what is left are all gates; the measure is what is left of the text.
--- Assumes nothing.
-use borrow.Author.Needs.{needs}
-use native.Mathlib.Omega.{arith}
-use mathlib.Core.Path.{sym, ap, subst, _∙_}
-use Prim.Native.Nat.{_-_, _<_}
-use lib.ListN.{length}
+use Rattle.base.specs.{needs, arith, sym, ap, subst, _∙_, _-_, _<_, length}
 use Rattle.tally_counting.specs.declared.Counts.{Counts}
 use Rattle.tally_counting.proofs.Gating.{SoFar, so-far-first, so-far-last, so-far-listed, so-far-later, so-far-more}
 use Rattle.tally_counting.proofs.read_gates.Statement.{statement}

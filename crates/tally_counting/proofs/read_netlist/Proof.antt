@@ -1,7 +1,6 @@
--- `tally_counting::read_netlist` meets its contract: the frame, the gates, and what is due behind them. Assumes nothing.
-use borrow.Author.Tests.{not-true, not-false}
+-- `tally_counting::read_netlist` meets its contract: the frame, the gates, and what is due behind them.
+use Rattle.base.specs.{not-true, not-false, needs}
 use Rattle.tally_counting.proofs.Reading.{frame-broken, behind-broken, behind-whole, never}
-use borrow.Author.Needs.{needs}
 use Rattle.tally_counting.proofs.read_netlist.Statement.{statement}
 use Rattle.tally_counting.proofs.read_netlist.Tie as tie
 

@@ -1,14 +1,7 @@
 -- `tally_counting::read_timings` meets its contract. The invariant: what is due from here on is what is left of all that is due; the measure is the lines left.
--- Assumes nothing.
-use native.Mathlib.Omega.{arith}
-use mathlib.Core.Path.{_≡_, sym, _∙_}
-use mathlib.Core.Logic.{⊎-elim}
-use Prim.Native.Nat.{_-_, _≤_}
-use lib.ListN.{length}
-use Rattle.model.specs.Reading.{next}
-use Rattle.model.specs.Tally.{dueLines, timings}
-use Rattle.tally_counting.specs.Forms.{formTest}
-use Rattle.tally_counting.specs.Reached.{readIn}
+use Rattle.base.specs.{arith, _≡_, sym, _∙_, ⊎-elim, _-_, _≤_, length}
+use Rattle.model.specs.{next, dueLines, timings}
+use Rattle.tally_counting.specs.{formTest, readIn}
 use Rattle.tally_counting.proofs.DueLines.{timesFrom, timings-first, timings-step, timings-end, count-yes, count-no}
 use Rattle.tally_counting.proofs.read_timings.Statement.{statement}
 use Rattle.tally_counting.proofs.read_timings.Tie as tie

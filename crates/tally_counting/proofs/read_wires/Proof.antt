@@ -1,13 +1,7 @@
 -- `tally_counting::read_wires` meets its contract. The invariant: what is due from here on is what is left of all that is due; the measure is the outputs left.
--- Assumes nothing.
-use native.Mathlib.Omega.{arith}
-use mathlib.Core.Path.{_≡_, sym, _∙_}
-use Prim.Native.Nat.{_-_, _≤_}
-use lib.ListN.{length}
-use Rattle.model.specs.Reading.{next}
-use Rattle.model.specs.Tally.{dueLines, wirePairs}
-use Rattle.tally_counting.specs.Forms.{formTest}
-use Rattle.tally_counting.specs.Reached.{readIn}
+use Rattle.base.specs.{arith, _≡_, sym, _∙_, _-_, _≤_, length}
+use Rattle.model.specs.{next, dueLines, wirePairs}
+use Rattle.tally_counting.specs.{formTest, readIn}
 use Rattle.tally_counting.proofs.DueLines.{pairsFrom, wires-first, wires-step, wires-end}
 use Rattle.tally_counting.proofs.read_wires.Statement.{statement}
 use Rattle.tally_counting.proofs.read_wires.Tie as tie

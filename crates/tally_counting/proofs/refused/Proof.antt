@@ -1,6 +1,6 @@
--- `tally_counting::refused` meets its contract: nothing is added. Assumes nothing.
-use mathlib.Core.Path.{refl}
-use Rattle.model.specs.Tally.{countedAnswer}
+-- `tally_counting::refused` meets its contract: nothing is added.
+use Rattle.base.specs.{refl}
+use Rattle.model.specs.{countedAnswer}
 use Rattle.tally_counting.proofs.refused.Statement.{statement}
 use Rattle.tally_counting.proofs.refused.Tie as tie
 

@@ -1,12 +1,8 @@
--- `tally_counting::then_due` meets its contract: a refusal stays. Assumes nothing.
-use native.Mathlib.Omega.{arith}
-use mathlib.Core.Path.{sym, _∙_}
-use mathlib.Core.List.{_∷_, []}
-use lib.ListN.{length}
-use Rattle.model.specs.Tally.{dueLines}
-use Rattle.tally_counting.specs.Forms.{formTest}
+-- `tally_counting::then_due` meets its contract: a refusal stays.
+use Rattle.base.specs.{arith, sym, _∙_, _∷_, [], length, needs}
+use Rattle.model.specs.{dueLines}
+use Rattle.tally_counting.specs.{formTest}
 use Rattle.tally_counting.proofs.DueLines.{read-on, read-off}
-use borrow.Author.Needs.{needs}
 use Rattle.tally_counting.proofs.then_due.Statement.{statement}
 use Rattle.tally_counting.proofs.then_due.Tie as tie
 

@@ -1,12 +1,7 @@
 -- `tally_lines::all_digits` meets its contract. The invariant: all bytes are digits where all that are left are; the measure is what is left.
--- Assumes nothing.
-use borrow.Author.Needs.{needs}
-use mathlib.Core.Path.{_≡_, refl, sym, _∙_}
-use Prim.Native.Nat.{_-_}
-use lib.ListN.{length, drop}
-use Rattle.model.specs.Base.{all}
-use Rattle.model.specs.Text.{between}
-use Rattle.base_text.proofs.Bytes.{all-step, all-end}
+use Rattle.base.specs.{needs, _≡_, refl, sym, _∙_, _-_, length, drop}
+use Rattle.model.specs.{all, between}
+use Rattle.base_text.proofs.{all-step, all-end}
 use Rattle.tally_lines.proofs.Digits.{digit-low, digit-high, digit-is}
 use Rattle.tally_lines.proofs.all_digits.Statement.{statement}
 use Rattle.tally_lines.proofs.all_digits.Tie as tie

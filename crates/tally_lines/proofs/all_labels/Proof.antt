@@ -1,13 +1,7 @@
 -- `tally_lines::all_labels` meets its contract. The invariant: the names from here on are names where all are; the measure is what is left of the line.
--- Assumes nothing.
-use Prim.Native.Nat.{_+_, _-_, _≤_}
-use native.Mathlib.Omega.{arith}
-use mathlib.Core.Path.{_≡_, sym, ap, _∙_}
-use lib.ListN.{length}
-use Rattle.model.specs.Base.{all}
-use Rattle.model.specs.NetlistLines.{isLabel}
-use Rattle.tally_lines.specs.Steps.{fieldsAt}
-use Rattle.tally_lines.specs.Kinds.{kindTest}
+use Rattle.base.specs.{_+_, _-_, _≤_, arith, _≡_, sym, ap, _∙_, length}
+use Rattle.model.specs.{all, isLabel}
+use Rattle.tally_lines.specs.{fieldsAt, kindTest}
 use Rattle.tally_lines.proofs.Forms.{step-low, step-on, Labels, labels-first, labels-step, labels-yes, labels-no}
 use Rattle.tally_lines.proofs.all_labels.Statement.{statement}
 use Rattle.tally_lines.proofs.all_labels.Tie as tie

@@ -1,7 +1,6 @@
--- `tally_lines::are_digits` meets its contract: an empty field has none. Assumes nothing.
+-- `tally_lines::are_digits` meets its contract: an empty field has none.
+use Rattle.base.specs.{_∙_, needs}
 use Rattle.tally_lines.proofs.Digits.{digits-none, digits-some}
-use mathlib.Core.Path.{_∙_}
-use borrow.Author.Needs.{needs}
 use Rattle.tally_lines.proofs.are_digits.Statement.{statement}
 use Rattle.tally_lines.proofs.are_digits.Tie as tie
 

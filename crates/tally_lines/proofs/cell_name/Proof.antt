@@ -1,14 +1,7 @@
--- `tally_lines::cell_name` meets its contract: an array has eight bytes, so no name is longer. Assumes nothing.
-use native.Mathlib.Omega.{arith}
-use mathlib.Core.Path.{_≡_, sym, ap, _∙_}
-use mathlib.Core.Logic.{⊎-elim}
-use mathlib.Core.List.{List}
-use Prim.Native.Nat.{ℕ}
-use lib.ListN.{length, take}
-use lib.Seq.{length-take-le, take-all}
-use Rattle.model.specs.Base.{same}
-use Rattle.tally_lines.specs.Steps.{stepAt}
-use borrow.Author.Needs.{needs}
+-- `tally_lines::cell_name` meets its contract: an array has eight bytes, so no name is longer.
+use Rattle.base.specs.{arith, _≡_, sym, ap, _∙_, ⊎-elim, List, ℕ, length, take, length-take-le, take-all, needs}
+use Rattle.model.specs.{same}
+use Rattle.tally_lines.specs.{stepAt}
 use Rattle.tally_lines.proofs.cell_name.Statement.{statement}
 use Rattle.tally_lines.proofs.cell_name.Tie as tie
 

@@ -1,10 +1,8 @@
--- `tally_lines::field` meets its contract: by the test of the field's bytes. Assumes nothing.
-use Rattle.tally_lines.specs.Kinds.{kindTest}
+-- `tally_lines::field` meets its contract: by the test of the field's bytes.
+use Rattle.base.specs.{arith, sym, _∙_, needs}
+use Rattle.tally_lines.specs.{kindTest}
 use Rattle.tally_lines.proofs.Fields.{field-fits, field-from}
 use Rattle.tally_lines.proofs.Forms.{step-past, step-takes, step-fails}
-use native.Mathlib.Omega.{arith}
-use mathlib.Core.Path.{sym, _∙_}
-use borrow.Author.Needs.{needs}
 use Rattle.tally_lines.proofs.field.Statement.{statement}
 use Rattle.tally_lines.proofs.field.Tie as tie
 

@@ -1,10 +1,6 @@
 -- `tally_lines::field_end` meets its contract. The invariant: the field from here on ends where that from the start does; the measure is what is left of the line.
--- Assumes nothing.
-use borrow.Author.Needs.{needs}
-use mathlib.Core.Path.{_≡_, refl, sym, _∙_}
-use Prim.Native.Nat.{_-_}
-use lib.ListN.{length}
-use Rattle.tally_lines.specs.Steps.{fieldEnd}
+use Rattle.base.specs.{needs, _≡_, refl, sym, _∙_, _-_, length}
+use Rattle.tally_lines.specs.{fieldEnd}
 use Rattle.tally_lines.proofs.Fields.{end-space, end-step, end-out}
 use Rattle.tally_lines.proofs.field_end.Statement.{statement}
 use Rattle.tally_lines.proofs.field_end.Tie as tie

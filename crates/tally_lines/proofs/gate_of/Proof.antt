@@ -1,14 +1,8 @@
 -- `tally_lines::gate_of` meets its contract. The invariant: the line is of a cell from here on where it is of one at all; the measure is the cells left.
--- Assumes nothing.
-use native.Mathlib.Omega.{arith}
-use mathlib.Core.Path.{_≡_, refl, sym, ap, _∙_}
-use Prim.Native.Nat.{_-_, _≤_}
-use lib.ListN.{length, drop, getD}
-use Rattle.model.specs.Text.{fields}
-use Rattle.model.specs.Cells.{noCell, cellsOf}
-use Rattle.model.specs.NetlistLines.{ofForm, gateForm, gateOf}
+use Rattle.base.specs.{arith, _≡_, refl, sym, ap, _∙_, _-_, _≤_, length, drop, getD}
+use Rattle.model.specs.{fields, noCell, cellsOf, ofForm, gateForm, gateOf}
 use Rattle.model.specs.declared.Cell.{Cell}
-use Rattle.tally_lines.specs.Kinds.{whichOf}
+use Rattle.tally_lines.specs.{whichOf}
 use Rattle.tally_lines.proofs.Gates.{cells-count, cells-at, gate-end, gate-here, gate-later, gate-behind, gate-never}
 use Rattle.tally_lines.proofs.gate_of.Statement.{statement}
 use Rattle.tally_lines.proofs.gate_of.Tie as tie

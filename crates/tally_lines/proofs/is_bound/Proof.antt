@@ -1,9 +1,7 @@
--- `tally_lines::is_bound` meets its contract: each return knows what was met in the field. Assumes nothing.
-use Rattle.model.specs.NetlistLines.{isGateNet}
+-- `tally_lines::is_bound` meets its contract: each return knows what was met in the field.
+use Rattle.base.specs.{arith, ap, _∙_, needs}
+use Rattle.model.specs.{isGateNet}
 use Rattle.tally_lines.proofs.Digits.{rest-part, bound-short, bound-letter, bound-sign, bound-is}
-use native.Mathlib.Omega.{arith}
-use mathlib.Core.Path.{ap, _∙_}
-use borrow.Author.Needs.{needs}
 use Rattle.tally_lines.proofs.is_bound.Statement.{statement}
 use Rattle.tally_lines.proofs.is_bound.Tie as tie
 

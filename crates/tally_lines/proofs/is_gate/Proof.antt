@@ -1,11 +1,9 @@
--- `tally_lines::is_gate` meets its contract: by steps over its fields behind `.gate`. Assumes nothing.
-use native.Mathlib.Omega.{arith}
-use Rattle.tally_lines.specs.Kinds.{kindTest}
+-- `tally_lines::is_gate` meets its contract: by steps over its fields behind `.gate`.
+use Rattle.base.specs.{arith, drop, needs}
+use Rattle.model.specs.{gateForm}
+use Rattle.tally_lines.specs.{kindTest}
 use Rattle.tally_lines.proofs.Forms.{form-yes, form-no}
 use Rattle.tally_lines.proofs.Gates.{gate-steps}
-use lib.ListN.{drop}
-use Rattle.model.specs.NetlistLines.{gateForm}
-use borrow.Author.Needs.{needs}
 use Rattle.tally_lines.proofs.is_gate.Statement.{statement}
 use Rattle.tally_lines.proofs.is_gate.Tie as tie
 

@@ -1,9 +1,7 @@
--- `tally_lines::is_inner_net` meets its contract: each return knows what was met in the field. Assumes nothing.
-use Rattle.model.specs.NetlistLines.{isPhaseNet}
-use native.Mathlib.Omega.{arith}
+-- `tally_lines::is_inner_net` meets its contract: each return knows what was met in the field.
+use Rattle.base.specs.{arith, ap, _∙_, needs}
+use Rattle.model.specs.{isPhaseNet}
 use Rattle.tally_lines.proofs.Digits.{inner-none, inner-other, inner-is, rest-part}
-use mathlib.Core.Path.{ap, _∙_}
-use borrow.Author.Needs.{needs}
 use Rattle.tally_lines.proofs.is_inner_net.Statement.{statement}
 use Rattle.tally_lines.proofs.is_inner_net.Tie as tie
 

@@ -1,8 +1,7 @@
--- `tally_lines::is_kind` meets its contract: the field is judged by its kind. Assumes nothing.
+-- `tally_lines::is_kind` meets its contract: the field is judged by its kind.
+use Rattle.base.specs.{sym, ap, _∙_, needs}
 use Rattle.tally_lines.specs.declared.Kind.{Kind}
-use Rattle.tally_lines.specs.Kinds.{kindTest}
-use mathlib.Core.Path.{sym, ap, _∙_}
-use borrow.Author.Needs.{needs}
+use Rattle.tally_lines.specs.{kindTest}
 use Rattle.tally_lines.proofs.is_kind.Statement.{statement}
 use Rattle.tally_lines.proofs.is_kind.Tie as tie
 

@@ -1,9 +1,7 @@
--- `tally_lines::is_label` meets its contract: each return knows what was met in the field. Assumes nothing.
-use Rattle.model.specs.NetlistLines.{areDigits}
-use native.Mathlib.Omega.{arith}
+-- `tally_lines::is_label` meets its contract: each return knows what was met in the field.
+use Rattle.base.specs.{arith, ap, _∙_, needs}
+use Rattle.model.specs.{areDigits}
 use Rattle.tally_lines.proofs.Digits.{label-none, label-other, label-is, rest-part}
-use mathlib.Core.Path.{ap, _∙_}
-use borrow.Author.Needs.{needs}
 use Rattle.tally_lines.proofs.is_label.Statement.{statement}
 use Rattle.tally_lines.proofs.is_label.Tie as tie
 

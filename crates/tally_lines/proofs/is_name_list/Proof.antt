@@ -1,12 +1,8 @@
--- `tally_lines::is_name_list` meets its contract: by steps over its fields. Assumes nothing.
-use native.Mathlib.Omega.{arith}
-use mathlib.Core.Path.{ap, _∙_}
-use Prim.Native.Nat.{ℕ}
-use Rattle.model.specs.Base.{all}
-use Rattle.model.specs.NetlistLines.{isLabel}
-use Rattle.tally_lines.specs.Steps.{fieldsAt}
+-- `tally_lines::is_name_list` meets its contract: by steps over its fields.
+use Rattle.base.specs.{arith, ap, _∙_, ℕ, needs}
+use Rattle.model.specs.{all, isLabel}
+use Rattle.tally_lines.specs.{fieldsAt}
 use Rattle.tally_lines.proofs.Forms.{list-no, list-yes}
-use borrow.Author.Needs.{needs}
 use Rattle.tally_lines.proofs.is_name_list.Statement.{statement}
 use Rattle.tally_lines.proofs.is_name_list.Tie as tie
 

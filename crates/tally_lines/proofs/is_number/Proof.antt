@@ -1,12 +1,6 @@
--- `tally_lines::is_number` meets its contract: the number's digits are written, and compared. Assumes nothing.
-use lib.ListN.{length}
-use lib.Seq.{length-take-le}
-use borrow.Author.Needs.{needs}
-use native.Mathlib.Omega.{arith}
-use mathlib.Core.Path.{_≡_, sym, ap, _∙_}
-use mathlib.Core.List.{List}
-use Prim.Native.Nat.{ℕ}
-use Rattle.model.specs.Base.{same}
+-- `tally_lines::is_number` meets its contract: the number's digits are written, and compared.
+use Rattle.base.specs.{length, length-take-le, needs, arith, _≡_, sym, ap, _∙_, List, ℕ}
+use Rattle.model.specs.{same}
 use Rattle.tally_lines.proofs.Digits.{ten-digits, written}
 use Rattle.tally_lines.proofs.is_number.Statement.{statement}
 use Rattle.tally_lines.proofs.is_number.Tie as tie

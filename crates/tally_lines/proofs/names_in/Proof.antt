@@ -1,12 +1,6 @@
 -- `tally_lines::names_in` meets its contract. The invariant: the fields from here on and the spaces passed are all fields; the measure is what is left of the line.
--- Assumes nothing.
-use borrow.Author.Needs.{needs}
-use native.Mathlib.Omega.{arith}
-use mathlib.Core.Path.{_≡_}
-use mathlib.Core.Logic.{⊎-elim}
-use Prim.Native.Nat.{_+_, _-_, _≤_}
-use lib.ListN.{length, drop}
-use Rattle.model.specs.Text.{fields}
+use Rattle.base.specs.{needs, arith, _≡_, ⊎-elim, _+_, _-_, _≤_, length, drop}
+use Rattle.model.specs.{fields}
 use Rattle.tally_lines.proofs.Fields.{count-space, count-step, count-out}
 use Rattle.tally_lines.proofs.names_in.Statement.{statement}
 use Rattle.tally_lines.proofs.names_in.Tie as tie

@@ -1,11 +1,7 @@
 -- `tally_lines::pins` meets its contract. The invariant: the steps over the pins from here on lead where all lead; the measure is the pins left.
--- Assumes nothing.
-use Prim.Native.Nat.{_-_, _≤_}
-use native.Mathlib.Omega.{arith}
-use mathlib.Core.Path.{_≡_, sym, _∙_}
-use Rattle.model.specs.Base.{from, below}
-use Rattle.tally_lines.specs.Steps.{stepsAt}
-use Rattle.tally_lines.specs.Kinds.{kindTest}
+use Rattle.base.specs.{_-_, _≤_, arith, _≡_, sym, _∙_}
+use Rattle.model.specs.{from, below}
+use Rattle.tally_lines.specs.{stepsAt, kindTest}
 use Rattle.tally_lines.proofs.Gates.{pinTests, pins-first, pins-step, pins-end}
 use Rattle.tally_lines.proofs.pins.Statement.{statement}
 use Rattle.tally_lines.proofs.pins.Tie as tie

@@ -1,10 +1,8 @@
--- `tally_lines::word` meets its contract: by the test of the field's bytes. Assumes nothing.
+-- `tally_lines::word` meets its contract: by the test of the field's bytes.
+use Rattle.base.specs.{arith, sym, _∙_, needs}
+use Rattle.model.specs.{same}
 use Rattle.tally_lines.proofs.Fields.{field-fits, field-from}
 use Rattle.tally_lines.proofs.Forms.{step-past, step-takes, step-fails}
-use Rattle.model.specs.Base.{same}
-use native.Mathlib.Omega.{arith}
-use mathlib.Core.Path.{sym, _∙_}
-use borrow.Author.Needs.{needs}
 use Rattle.tally_lines.proofs.word.Statement.{statement}
 use Rattle.tally_lines.proofs.word.Tie as tie
 

@@ -1,21 +1,16 @@
 -- The proof of the cycle of calls {put_long}. The measure is the number; the call writes all digits but the last, and that one goes behind them.
--- Assumes nothing.
-use mathlib.Core.Path.{sym, ap, _∙_}
-use native.Mathlib.Omega.{arith}
-use Prim.Native.Nat.{ℕ, _+_, _/_, _%_, _<_}
-use mathlib.Core.List.{List}
-use lib.ListN.{set, length-set}
-use Rattle.base_words.specs.Put.{putAt}
-use Rattle.base_words.proofs.Putting.{put-one, put-more}
-use Rattle.model.specs.Text.{decimal}
-use Rattle.base_text.proofs.Decimal.{dec-small, dec-big, dec-small-length, dec-big-length}
 use borrow.Fn.Kinds.{In}
 use borrow.Fn.PlainCycle.{Measures, is, falls, and}
+use Rattle.base.specs.{sym, ap, _∙_, arith, ℕ, _+_, _/_, _%_, _<_, List, set, length-set}
+use Rattle.model.specs.{decimal}
+use Rattle.base_words.specs.{putAt}
+use Rattle.base_words.proofs.{put-one, put-more}
+use Rattle.base_text.proofs.{dec-small, dec-big, dec-small-length, dec-big-length}
+use Rattle.tally_report.proofs.+put_long.{statement}
+use Rattle.tally_report.proofs.+put_long.Tie.{close}
 use Rattle.tally_report.proofs.put_long.Reads as put-long
 use Rattle.tally_report.proofs.put_long.Kinds as put-long-kinds
 use Rattle.tally_report.proofs.+put_long.Lts-put_long as put-long-lts
-use Rattle.tally_report.proofs.+put_long.{statement}
-use Rattle.tally_report.proofs.+put_long.Tie.{close}
 
 abbrev μ-put-long : Measures 1 put-long-kinds.ps ℕ
 μ-put-long κs a = a .1 .1 .0

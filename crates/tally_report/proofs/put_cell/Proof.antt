@@ -1,11 +1,7 @@
--- `tally_report::put_cell` meets its contract: the cell by its place in the array. Assumes nothing.
-use mathlib.Core.Path.{sym, subst}
-use mathlib.Core.List.{List}
-use Prim.Native.Nat.{ℕ, _+_, _≤_}
-use lib.ListN.{length}
-use Rattle.base_text.specs.Writing.{Wrote}
+-- `tally_report::put_cell` meets its contract: the cell by its place in the array.
+use Rattle.base.specs.{sym, subst, List, ℕ, _+_, _≤_, length, needs}
+use Rattle.base_text.specs.{Wrote}
 use Rattle.tally_report.proofs.Lines.{cell-is}
-use borrow.Author.Needs.{needs}
 use Rattle.tally_report.proofs.put_cell.Statement.{statement}
 use Rattle.tally_report.proofs.put_cell.Tie as tie
 

@@ -1,12 +1,8 @@
 -- `tally_report::put_cells` meets its contract. The invariant: the lines before this cell's are written; the measure is the cells left.
--- Assumes nothing.
-use native.Mathlib.Omega.{arith}
-use Prim.Native.Nat.{_+_, _-_, _≤_, _<_}
-use lib.ListN.{length}
-use Rattle.base_text.proofs.Progress.{Partly, begin, step, room, kept, end}
-use Rattle.model.specs.Cells.{cellsOf}
-use Rattle.model.specs.Tally.{cellLine}
-use Rattle.tally_report.specs.Pages.{cellLines}
+use Rattle.base.specs.{arith, _+_, _-_, _≤_, _<_, length}
+use Rattle.model.specs.{cellsOf, cellLine}
+use Rattle.base_text.proofs.{Partly, begin, step, room, kept, end}
+use Rattle.tally_report.specs.{cellLines}
 use Rattle.tally_report.proofs.Lines.{cells-first, cells-step, cells-end}
 use Rattle.tally_report.proofs.put_cells.Statement.{statement}
 use Rattle.tally_report.proofs.put_cells.Tie as tie

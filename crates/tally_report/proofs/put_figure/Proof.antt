@@ -1,12 +1,9 @@
--- `tally_report::put_figure` meets its contract: a space, and the number behind it. Assumes nothing.
-use mathlib.Core.Path.{refl, sym}
-use mathlib.Core.List.{_∷_, [], append-nil}
-use native.Mathlib.Omega.{arith}
-use Rattle.model.specs.Text.{decimal}
-use Rattle.tally_report.specs.Pages.{figureText}
-use Rattle.base_text.proofs.Progress.{Partly, begin, step, room, finish, as-wrote}
+-- `tally_report::put_figure` meets its contract: a space, and the number behind it.
+use Rattle.base.specs.{refl, sym, _∷_, [], append-nil, arith, needs}
+use Rattle.model.specs.{decimal}
+use Rattle.base_text.proofs.{Partly, begin, step, room, finish, as-wrote}
+use Rattle.tally_report.specs.{figureText}
 use Rattle.tally_report.proofs.Lines.{figure-is, figure-length}
-use borrow.Author.Needs.{needs}
 use Rattle.tally_report.proofs.put_figure.Statement.{statement}
 use Rattle.tally_report.proofs.put_figure.Tie as tie
 

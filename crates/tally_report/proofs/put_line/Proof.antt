@@ -1,13 +1,9 @@
--- `tally_report::put_line` meets its contract: the name, three figures, and the line's end. Assumes nothing.
-use mathlib.Core.Path.{refl}
-use mathlib.Core.List.{List, _∷_, [], _++_}
-use Prim.Native.Nat.{ℕ}
-use native.Mathlib.Omega.{arith}
-use Rattle.model.specs.Tally.{reportLine}
-use Rattle.base_text.proofs.Progress.{Partly, begin, step, room, finish}
-use Rattle.tally_report.specs.Pages.{figureText}
+-- `tally_report::put_line` meets its contract: the name, three figures, and the line's end.
+use Rattle.base.specs.{refl, List, _∷_, [], _++_, ℕ, arith, needs}
+use Rattle.model.specs.{reportLine}
+use Rattle.base_text.proofs.{Partly, begin, step, room, finish}
+use Rattle.tally_report.specs.{figureText}
 use Rattle.tally_report.proofs.Lines.{behindName, line-is}
-use borrow.Author.Needs.{needs}
 use Rattle.tally_report.proofs.put_line.Statement.{statement}
 use Rattle.tally_report.proofs.put_line.Tie as tie
 

@@ -1,14 +1,7 @@
--- `tally_report::put_named` meets its contract: an array has eight bytes, so no name is longer. Assumes nothing.
-use native.Mathlib.Omega.{arith}
-use mathlib.Core.Path.{_≡_, sym, ap, subst, _∙_}
-use mathlib.Core.Logic.{⊎-elim}
-use mathlib.Core.List.{List}
-use Prim.Native.Nat.{ℕ, _+_, _≤_}
-use lib.ListN.{length, take}
-use lib.Seq.{length-take-le, take-all}
-use Rattle.model.specs.Tally.{reportLine}
-use Rattle.base_text.specs.Writing.{Wrote}
-use borrow.Author.Needs.{needs}
+-- `tally_report::put_named` meets its contract: an array has eight bytes, so no name is longer.
+use Rattle.base.specs.{arith, _≡_, sym, ap, subst, _∙_, ⊎-elim, List, ℕ, _+_, _≤_, length, take, length-take-le, take-all, needs}
+use Rattle.model.specs.{reportLine}
+use Rattle.base_text.specs.{Wrote}
 use Rattle.tally_report.proofs.put_named.Statement.{statement}
 use Rattle.tally_report.proofs.put_named.Tie as tie
 

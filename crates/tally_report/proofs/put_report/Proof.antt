@@ -1,15 +1,9 @@
--- `tally_report::put_report` meets its contract: the cells' lines, and the total. Assumes nothing.
-use native.Mathlib.Omega.{arith}
-use mathlib.Core.Path.{refl, sym}
-use mathlib.Core.List.{[], _++_, append-nil}
-use Prim.Native.Nat.{_+_, _≤_}
-use lib.ListN.{length}
-use Rattle.model.specs.Cells.{cellsOf}
-use Rattle.model.specs.Tally.{totalLine, reportText}
-use Rattle.base_text.proofs.Progress.{Partly, begin, step, room, finish}
-use Rattle.tally_report.specs.Pages.{cellLines}
+-- `tally_report::put_report` meets its contract: the cells' lines, and the total.
+use Rattle.base.specs.{arith, refl, sym, [], _++_, append-nil, _+_, _≤_, length, needs}
+use Rattle.model.specs.{cellsOf, totalLine, reportText}
+use Rattle.base_text.proofs.{Partly, begin, step, room, finish}
+use Rattle.tally_report.specs.{cellLines}
 use Rattle.tally_report.proofs.Lines.{report-is}
-use borrow.Author.Needs.{needs}
 use Rattle.tally_report.proofs.put_report.Statement.{statement}
 use Rattle.tally_report.proofs.put_report.Tie as tie
 

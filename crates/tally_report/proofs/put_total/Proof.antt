@@ -1,11 +1,7 @@
--- `tally_report::put_total` meets its contract: the sums over the listed cells. Assumes nothing.
-use mathlib.Core.Path.{sym, subst}
-use mathlib.Core.List.{List}
-use Prim.Native.Nat.{ℕ, _+_, _≤_}
-use lib.ListN.{length}
-use Rattle.base_text.specs.Writing.{Wrote}
+-- `tally_report::put_total` meets its contract: the sums over the listed cells.
+use Rattle.base.specs.{sym, subst, List, ℕ, _+_, _≤_, length, needs}
+use Rattle.base_text.specs.{Wrote}
 use Rattle.tally_report.proofs.Lines.{total-is}
-use borrow.Author.Needs.{needs}
 use Rattle.tally_report.proofs.put_total.Statement.{statement}
 use Rattle.tally_report.proofs.put_total.Tie as tie
 

@@ -1,23 +1,14 @@
--- `tally_report::report` meets its contract: 1, the library's, 28, then 18. Assumes nothing.
-use native.Mathlib.Omega.{arith}
-use mathlib.Core.Path.{_≡_, sym, ap, subst, _∙_}
-use mathlib.Core.List.{List}
-use Prim.Native.Nat.{ℕ, _≤_}
-use lib.ListN.{length}
-use Rattle.model.specs.Reading.{Read}
-use Rattle.model.specs.Cells.{cellsOf}
-use Rattle.model.specs.LibraryText.{readLibrary}
-use Rattle.model.specs.Genlib.{writtenAnswer, writtenPair, writtenBy, writtenAfter}
-use Rattle.model.specs.Tally.{reportText, reportOf}
+-- `tally_report::report` meets its contract: 1, the library's, 28, then 18.
+use Rattle.base.specs.{arith, _≡_, sym, ap, subst, _∙_, List, ℕ, _≤_, length, needs}
+use Rattle.model.specs.{Read, cellsOf, readLibrary, writtenAnswer, writtenPair, writtenBy, writtenAfter, reportText, reportOf}
 use Rattle.model.specs.declared.Cell.{Cell}
 use Rattle.model.specs.declared.Library.{Library}
 use Rattle.model.specs.declared.Written.{Written}
-use Rattle.model.proofs.Answers.{written-ruled}
-use Rattle.tally_lines.specs.Kinds.{Listed}
-use Rattle.tally_counting.proofs.Answers.{accepted, turned-back, cells-back, listed}
-use Rattle.tally_report.specs.Pages.{fitting}
+use Rattle.model.proofs.{written-ruled}
+use Rattle.tally_lines.specs.{Listed}
+use Rattle.tally_counting.proofs.{accepted, turned-back, cells-back, listed}
+use Rattle.tally_report.specs.{fitting}
 use Rattle.tally_report.proofs.Pages.{refuses, report-long, report-refused, report-over, report-read, page-enough}
-use borrow.Author.Needs.{needs}
 use Rattle.tally_report.proofs.report.Statement.{statement}
 use Rattle.tally_report.proofs.report.Tie as tie
 

@@ -1,12 +1,8 @@
--- `tally_report::report_in` meets its contract: on a page of its own first. Assumes nothing.
-use native.Mathlib.Omega.{arith}
-use mathlib.Core.Path.{sym, ap, _∙_}
-use lib.ListN.{length}
-use Rattle.model.specs.Cells.{cellsOf}
-use Rattle.model.specs.Tally.{reportText}
-use Rattle.base_words.specs.Put.{putAt}
+-- `tally_report::report_in` meets its contract: on a page of its own first.
+use Rattle.base.specs.{arith, sym, ap, _∙_, length, needs}
+use Rattle.model.specs.{cellsOf, reportText}
+use Rattle.base_words.specs.{putAt}
 use Rattle.tally_report.proofs.Pages.{page-end, page-is, too-short, fits}
-use borrow.Author.Needs.{needs}
 use Rattle.tally_report.proofs.report_in.Statement.{statement}
 use Rattle.tally_report.proofs.report_in.Tie as tie
 

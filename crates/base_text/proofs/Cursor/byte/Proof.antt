@@ -1,8 +1,6 @@
 -- `base_text::Cursor::byte` meets its contract: each return knows the tests that `byteAt` picks by.
--- Assumes nothing.
-use borrow.Author.Needs.{needs}
-use borrow.Author.Tests.{lt-ltb, le-ltb, eq-eqb, ne-eqb}
-use Rattle.base_text.specs.Fields.{byteAt}
+use Rattle.base.specs.{needs, lt-ltb, le-ltb, eq-eqb, ne-eqb}
+use Rattle.base_text.specs.{byteAt}
 use Rattle.base_text.proofs.Cursor.byte.Statement.{statement}
 use Rattle.base_text.proofs.Cursor.byte.Tie as tie
 
@@ -19,6 +17,4 @@ unfolding byteAt
 returns-3 c = rw (lt-ltb _ _ (c .before .before .if1 .left), ne-eqb _ _ (c .if2 .left))
 
 pub byte-spec : {M : Type 1} → statement M
-byte-spec = tie.close
-    (tie.spec
-    returns (λ c. search needs) (λ c. search needs) returns-2 returns-3)
+byte-spec = tie.close (tie.spec returns (λ c. search needs) (λ c. search needs) returns-2 returns-3)

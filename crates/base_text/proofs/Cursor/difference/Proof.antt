@@ -1,8 +1,5 @@
 -- `base_text::Cursor::difference` meets its contract: each return knows the bytes that led there.
--- Assumes nothing.
-use borrow.Author.Needs.{needs}
-use mathlib.Core.Path.{sym}
-use native.Mathlib.Omega.{arith}
+use Rattle.base.specs.{needs, sym, arith}
 use Rattle.base_text.proofs.Differences.{differs-none, differs-one, differs-short, differs-two, differs-long}
 use Rattle.base_text.proofs.Cursor.difference.Statement.{statement}
 use Rattle.base_text.proofs.Cursor.difference.Tie as tie
@@ -37,8 +34,7 @@ returns-5 c =
     sym (differs-long _ _ (at-if2 .before .before .if1 .left) (at-if2 .if2 .left) (at-if3 .if3 .left) (c .if4 .left))
 
 pub difference-spec : {M : Type 1} → statement M
-difference-spec =
-    tie.close
-    (tie.spec
+difference-spec = tie.close (tie.spec
     returns (λ c. search needs) (λ c. search needs) (λ c. search needs) returns-2 (λ c. search needs) returns-3 (λ c. search needs)
-    (λ c. search needs) cast-t16 (λ c. search needs) (λ c. search needs) (λ c. search needs) add-t20 (λ c. search needs) returns-4 returns-5)
+    (λ c. search needs) cast-t16 (λ c. search needs) (λ c. search needs) (λ c. search needs) add-t20 (λ c. search needs) returns-4
+    returns-5)

@@ -1,10 +1,6 @@
 -- `base_text::Cursor::line_end` meets its contract: `ends_at` says how many bytes of the end stand there.
--- Assumes nothing.
-use borrow.Author.Needs.{needs}
-use mathlib.Core.Path.{sym, ap, _∙_}
-use native.Mathlib.Omega.{arith}
-use lib.Dec.{ltb}
-use Rattle.base_text.specs.Fields.{lineEndAt}
+use Rattle.base.specs.{needs, sym, ap, _∙_, arith, ltb}
+use Rattle.base_text.specs.{lineEndAt}
 use Rattle.base_text.proofs.Words.{some-end, end-fits}
 use Rattle.base_text.proofs.Cursor.line_end.Statement.{statement}
 use Rattle.base_text.proofs.Cursor.line_end.Tie as tie
@@ -23,6 +19,4 @@ unfolding lineEndAt
 returns-2 c = rw (some-end _ (λ e. c .if1 .left (c .before .ends-at .ensures ∙ e)), sym (c .before .ends-at .ensures))
 
 pub line-end-spec : {M : Type 1} → statement M
-line-end-spec = tie.close
-    (tie.spec
-    (λ c κs. search needs) add-t7 returns returns-2)
+line-end-spec = tie.close (tie.spec (λ c κs. search needs) add-t7 returns returns-2)

@@ -1,11 +1,7 @@
 -- `base_text::Cursor::name` meets its contract: the field is the part of the text that `is_name` judges.
--- Assumes nothing.
-use borrow.Author.Needs.{needs}
-use mathlib.Core.Path.{refl, sym, _∙_}
-use native.Mathlib.Omega.{arith}
-use mathlib.Core.List.{[]}
-use Rattle.model.specs.Text.{isName}
-use Rattle.base_text.specs.Fields.{nameAt}
+use Rattle.base.specs.{needs, refl, sym, _∙_, arith, []}
+use Rattle.model.specs.{isName}
+use Rattle.base_text.specs.{nameAt}
 use Rattle.base_text.proofs.Words.{word-out, end-le, end-from, passes-at, fails-at}
 use Rattle.base_text.proofs.Names.{name-empty}
 use Rattle.base_text.proofs.Cursor.name.Statement.{statement}
@@ -33,7 +29,5 @@ unfolding nameAt
 returns-3 c = fails-at isName _ _ _ (c .before .before .before .field-end .ensures) (sym (c .before .is-name .ensures) ∙ c .if2 .left)
 
 pub name-spec : {M : Type 1} → statement M
-name-spec =
-    tie.close
-    (tie.spec
+name-spec = tie.close (tie.spec
     returns (λ c κs. search needs) sub-is-name part-is-name-start part-is-name-end (λ c κs. search needs) returns-2 returns-3)

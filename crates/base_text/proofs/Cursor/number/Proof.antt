@@ -1,9 +1,6 @@
 -- `base_text::Cursor::number` meets its contract: each return knows the first byte of the field.
--- Assumes nothing.
-use borrow.Author.Needs.{needs}
-use mathlib.Core.Path.{sym, ap, _∙_}
-use native.Mathlib.Omega.{arith}
-use Rattle.model.specs.Text.{number}
+use Rattle.base.specs.{needs, sym, ap, _∙_, arith}
+use Rattle.model.specs.{number}
 use Rattle.base_text.proofs.Words.{word-out}
 use Rattle.base_text.proofs.Decimal.{number-empty}
 use Rattle.base_text.proofs.Runs.{number-none, zero-first, low-first}
@@ -23,8 +20,6 @@ returns-4 : tie.Need-returns-4
 returns-4 c = sym (low-first _ _ (omega arith) (omega arith))
 
 pub number-spec : {M : Type 1} → statement M
-number-spec =
-    tie.close
-    (tie.spec
-    returns (λ c. search needs) digits-at-requires (λ c. search needs) (λ c. search needs) (λ c. search needs) (λ c κs. search needs) returns-3
-    returns-4)
+number-spec = tie.close (tie.spec
+    returns (λ c. search needs) digits-at-requires (λ c. search needs) (λ c. search needs) (λ c. search needs) (λ c κs. search needs)
+    returns-3 returns-4)

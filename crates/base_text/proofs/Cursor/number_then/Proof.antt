@@ -1,8 +1,6 @@
 -- `base_text::Cursor::number_then` meets its contract, which is composed of those of `number` and `then_byte`.
--- Assumes nothing.
-use borrow.Author.Needs.{needs}
-use mathlib.Core.Path.{sym}
-use Rattle.base_text.specs.Fields.{numberThen}
+use Rattle.base.specs.{needs, sym}
+use Rattle.base_text.specs.{numberThen}
 use Rattle.base_text.proofs.Cursor.number_then.Statement.{statement}
 use Rattle.base_text.proofs.Cursor.number_then.Tie as tie
 
@@ -11,6 +9,4 @@ unfolding numberThen
 returns c = rw (sym (c .before .number .ensures)) (c .then-byte .ensures)
 
 pub number-then-spec : {M : Type 1} → statement M
-number-then-spec = tie.close
-    (tie.spec
-    (λ c κs. search needs) (λ c κs. search needs) returns)
+number-then-spec = tie.close (tie.spec (λ c κs. search needs) (λ c κs. search needs) returns)

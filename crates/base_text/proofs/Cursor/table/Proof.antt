@@ -1,9 +1,7 @@
 -- `base_text::Cursor::table` meets its contract: the field is the part of the text that `hex_of` judges.
--- Assumes nothing.
-use borrow.Author.Needs.{needs}
-use native.Mathlib.Omega.{arith}
-use Rattle.model.specs.Text.{hexTable}
-use Rattle.base_text.specs.Fields.{tableAt}
+use Rattle.base.specs.{needs, arith}
+use Rattle.model.specs.{hexTable}
+use Rattle.base_text.specs.{tableAt}
 use Rattle.base_text.proofs.Words.{word-out, end-le, end-from, found-at, not-at}
 use Rattle.base_text.proofs.Hex.{value-is, value-none, table-empty}
 use Rattle.base_text.proofs.Cursor.table.Statement.{statement}
@@ -31,8 +29,6 @@ unfolding tableAt
 returns-3 c = not-at hexTable _ _ _ (c .before .before .before .before .field-end .ensures) (value-none _ _ (c .before .before .hex-of .ensures) (c .enum-told .given .1))
 
 pub table-spec : {M : Type 1} → statement M
-table-spec =
-    tie.close
-    (tie.spec
-    returns (λ c κs. search needs) sub-hex-of part-hex-of-start part-hex-of-end (λ c κs. search needs) (λ c. search needs) (λ c. search needs)
-    returns-2 returns-3)
+table-spec = tie.close (tie.spec
+    returns (λ c κs. search needs) sub-hex-of part-hex-of-start part-hex-of-end (λ c κs. search needs) (λ c. search needs)
+    (λ c. search needs) returns-2 returns-3)
