@@ -40,8 +40,9 @@ pub fn due(s: &[u8], at: usize, w: &[u8]) -> Place
     ensures { λ r. ⌜ Due (now (s .entry)) (now (w .entry)) at r ⌝ }
 {
     if at >= s.len() {
+        let end = s.len();
         return Place {
-            at: s.len(),
+            at: end,
             broken: true,
         };
     }
