@@ -12,7 +12,7 @@
  *              mapper_map_pairs      1,150 KB
  *              mapper_map_two        1,150 KB
  *              mapper_map_two_pairs  1,150 KB
- *              mapper_check          1,000 KB
+ *              mapper_check          1,050 KB
  *              mapper_cells              6 KB
  *              mapper_count             16 KB
  *              mapper_report            14 KB

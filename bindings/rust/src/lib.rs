@@ -26,7 +26,7 @@
 //! | [`map_pairs`], [`map_pairs_in`] | `mapper_map_pairs` | 1,150 KB |
 //! | [`map_two`] | `mapper_map_two` | 1,150 KB |
 //! | [`map_two_pairs`] | `mapper_map_two_pairs` | 1,150 KB |
-//! | [`check`], [`check_in`] | `mapper_check` | 1,000 KB |
+//! | [`check`], [`check_in`] | `mapper_check` | 1,050 KB |
 //! | [`cells`] | `mapper_cells` | 6 KB |
 //! | [`Tally::count`] | `mapper_count` | 16 KB |
 //! | [`Tally::report`] | `mapper_report` | 14 KB |
