@@ -1,6 +1,6 @@
 // A set of numbers below 4,096: a bit for each, and a bit for each word of those that says whether any of its bits is set, so that the lowest
 // number is found by counting zeros twice.
-ghost use Rattle.base.specs.{_≡_, _^_, _<_, bitOr, bitXor, trailingZeros, replicate};
+ghost use Rattle.base.specs.{_≡_, _^_, _<_, trailingZeros, replicate};
 ghost use Rattle.base_marks.specs.{added, removed, lowestOf};
 
 // 64 words of 64 bits, and the word about them.
@@ -14,18 +14,11 @@ pub fn none() -> [u64; WORDS]
     [0u64; WORDS]
 }
 
-fn with_bit(x: u64, j: usize) -> u64
+fn one_at(j: usize) -> u64
     requires { ⌜ j < 64 ⌝ }
-    ensures { λ r. ⌜ r ≡ bitOr x (2 ^ j) ⌝ }
+    ensures { λ r. ⌜ r ≡ 2 ^ j ⌝ }
 {
-    x | (1u64 << j)
-}
-
-fn flip_bit(x: u64, j: usize) -> u64
-    requires { ⌜ j < 64 ⌝ }
-    ensures { λ r. ⌜ r ≡ bitXor x (2 ^ j) ⌝ }
-{
-    x ^ (1u64 << j)
+    1u64 << j
 }
 
 fn zeros(x: u64) -> usize
@@ -39,8 +32,8 @@ pub fn add(marks: &mut [u64; WORDS], v: usize)
     ensures { λ _. ⌜ now (marks .exit) ≡ added (now (marks .entry)) v ⌝ }
 {
     let i = v / 64;
-    let word = with_bit(marks[i], v % 64);
-    let top = with_bit(marks[TOP], i);
+    let word = marks[i] | one_at(v % 64);
+    let top = marks[TOP] | one_at(i);
     marks[i] = word;
     marks[TOP] = top;
 }
@@ -50,8 +43,8 @@ pub fn remove(marks: &mut [u64; WORDS], v: usize)
     ensures { λ _. ⌜ now (marks .exit) ≡ removed (now (marks .entry)) v ⌝ }
 {
     let i = v / 64;
-    let word = flip_bit(marks[i], v % 64);
-    let top = flip_bit(marks[TOP], i);
+    let word = marks[i] ^ one_at(v % 64);
+    let top = marks[TOP] ^ one_at(i);
     marks[i] = word;
     if word == 0 {
         marks[TOP] = top;

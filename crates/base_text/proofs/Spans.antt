@@ -1,8 +1,9 @@
 -- The line at a place, byte by byte: where its contents stop, and where the next line begins.
-use Rattle.base.specs.{ℕ, suc, _+_, _-_, _≤_, _<_, add-one, add-zero, zero-add, arith, _≡_, refl, sym, ap, _∙_, Bool, true, false, List, []}
+use Rattle.base.specs.{ℕ, suc, _+_, _-_, _≤_, _<_, add-one, add-zero, zero-add, arith, _≡_, refl, sym, ap, _∙_, Bool, true, false, _&&_, List, []}
 use Rattle.base.specs.{_∷_, ltb, length, take, drop, getD, drop-of-length-le, length-drop, drop-cons, lt-ltb, le-ltb, ltb-true, ltb-false}
-use Rattle.model.specs.{ended}
-use Rattle.base_text.specs.{pickBytes, endOf, stops, lineOf, endingOf, lineAt, pastLine, spanAt}
+use Rattle.model.specs.{same, ended}
+use Rattle.base_text.specs.{pickBytes, endOf, stops, lineOf, endingOf, lineAt, pastLine, spanAt, firstIs}
+use Rattle.base_text.specs.declared.Span.{Span}
 use Rattle.base_text.proofs.Bridge.{line-stop, ending-stop}
 use Rattle.base_text.proofs.Words.{some-end}
 
@@ -82,3 +83,17 @@ module _ (s : List ℕ) (at : ℕ) where
   pub span-long : spanAt s at .next ≡ spanAt s at .stop + lineAt s at .ending
   unfolding spanAt lineAt
   span-long = omega arith
+
+-- ---- the first line of a text
+
+pub first-contents : (s : List ℕ) → take (spanAt s 0 .stop) s ≡ lineAt s 0 .bytes
+first-contents s = let z : spanAt s 0 .stop - 0 ≡ spanAt s 0 .stop = omega arith in ap (λ (k : ℕ). take k s) (sym z) ∙ span-contents s 0
+
+-- the test of it
+pub first-is : (s bytes : List ℕ) → firstIs s (spanAt s 0) bytes ≡ (ended (lineAt s 0) && same (lineAt s 0 .bytes) bytes)
+unfolding firstIs
+first-is s bytes = rw (span-ended s 0, first-contents s)
+
+-- as it is handed back
+pub first-fits : (s : List ℕ) (l : Span) → l ≡ spanAt s 0 → l .stop ≤ length s
+first-fits s l is = omega (arith, ap (λ (x : Span). x .stop) is, span-fits s 0 (omega arith))

@@ -1,6 +1,6 @@
 -- A line of a text, and its fields from a place on: what a reader that goes from field to field meets.
-use Rattle.base.specs.{ℕ, zero, suc, _+_, Bool, true, false, _&&_, Option, none, some, List, [], _∷_, ltb, length, drop}
-use Rattle.model.specs.{andThen, Line, nextOf}
+use Rattle.base.specs.{ℕ, zero, suc, _+_, Bool, true, false, _&&_, Option, none, some, List, [], _∷_, ltb, length, take, drop}
+use Rattle.model.specs.{same, andThen, Line, nextOf}
 use Rattle.base_text.specs.declared.Span.{Span}
 use Rattle.base_text.specs.Fields.{pickBytes, pickN, endOf, stops, wordAt, endAt, isByte, onNumber, numberThen, numberEnd}
 
@@ -33,6 +33,10 @@ pastLine s at = nextOf (lineAt s at)
 unfoldable pub spanAt : List ℕ → ℕ → Span
 unfolding lineOf endingOf
 spanAt s at = record { stop = at + length (lineOf (drop at s)); next = at + (length (lineOf (drop at s)) + endingOf (drop at s)) }
+
+-- a text's first line has its end, and its contents are these bytes
+unfoldable pub firstIs : List ℕ → Span → List ℕ → Bool
+firstIs s l bytes = ltb (l .stop) (l .next) && same (take (l .stop) s) bytes
 
 -- the field at a place and k more, whatever bytes stand between them
 unfoldable pub wordsAt : ℕ → List ℕ → ℕ → List (List ℕ)

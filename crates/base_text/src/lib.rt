@@ -5,7 +5,7 @@ ghost use Rattle.base.specs.{_≡_, _∷_, [], _+_, _/_, _%_, _≤_, _<_, lengt
 ghost use Rattle.model.specs.{all, same, decimal, number, hexDigit, hexFrom, hexTable, isLetter, isNameByte, isName, nameBytes};
 ghost use Rattle.base_words.specs.{putAt};
 ghost use Rattle.base_text.specs.{Wrote, endOf, endAt, valueOf, byteAt, lineEndAt, numberAt, tableAt, nameAt, closedAt, thenByte};
-ghost use Rattle.base_text.specs.{thenEnd, numberThen, numberEnd, tableThen, differenceAt, spanAt};
+ghost use Rattle.base_text.specs.{inClass, spanEnd, thenEnd, numberThen, numberEnd, tableThen, differenceAt, spanAt, firstIs};
 
 // A position in a text. The text itself is a parameter of each method.
 pub struct Cursor {
@@ -49,10 +49,7 @@ pub fn ends_at(s: &[u8], at: usize) -> usize
     if b == 10 {
         return 1;
     }
-    if b != 13 {
-        return 0;
-    }
-    if s.len() - at < 2 {
+    if b != 13 || s.len() - at < 2 {
         return 0;
     }
     if s[at + 1] == 10 { 2 } else { 0 }
@@ -82,10 +79,7 @@ pub fn field_end(s: &[u8], from: usize) -> usize
 {
     let mut at = from;
     while at < s.len() {
-        if s[at] == 32 {
-            return at;
-        }
-        if ends_at(s, at) != 0 {
+        if s[at] == 32 || ends_at(s, at) != 0 {
             return at;
         }
         at += 1;
@@ -110,23 +104,25 @@ pub fn same_bytes(a: &[u8], b: &[u8]) -> bool
     true
 }
 
+// A text's first line has its end, and these contents.
+pub fn first_is(s: &[u8], first: Span, bytes: &[u8]) -> bool
+    requires { ⌜ first .stop ≤ length (now s) ⌝ }
+    ensures { λ r. ⌜ r ≡ firstIs (now (s .entry)) first (now (bytes .entry)) ⌝ }
+{
+    let stop = first.stop;
+    stop < first.next && same_bytes(&s[..stop], bytes)
+}
+
 // ---- numbers
 
 // A number whose digits end at a place: it is one only if its field ends there.
 fn closed(s: &[u8], at: usize, n: u16) -> Number
     ensures { λ r. ⌜ r ≡ closedAt (now (s .entry)) at n ⌝ }
 {
-    if s.len() <= at {
+    if s.len() <= at || s[at] == 32 || ends_at(s, at) != 0 {
         return Number::Value(n, Cursor { at });
     }
-    if s[at] == 32 {
-        return Number::Value(n, Cursor { at });
-    }
-    if ends_at(s, at) == 0 {
-        Number::Broken
-    } else {
-        Number::Value(n, Cursor { at })
-    }
+    Number::Broken
 }
 
 // "decimal, 0 to 65,535, without leading zeros": the field at a place where no zero begins it, its digits and its end in one pass.
@@ -226,14 +222,7 @@ fn is_letter(b: u8) -> bool
 pub fn is_name_byte(b: u8) -> bool
     ensures { λ r. ⌜ r ≡ isNameByte b ⌝ }
 {
-    if is_letter(b) {
-        return true;
-    }
-    match b {
-        b'0'..=b'9' => true,
-        b'_' => true,
-        _ => false,
-    }
+    is_letter(b) || (b == b'_' || (b >= b'0' && b <= b'9'))
 }
 
 fn name_bytes_from(w: &[u8], from: usize) -> bool
@@ -252,16 +241,7 @@ fn name_bytes_from(w: &[u8], from: usize) -> bool
 pub fn is_name(w: &[u8]) -> bool
     ensures { λ r. ⌜ r ≡ isName (now (w .entry)) ⌝ }
 {
-    if w.len() == 0 {
-        return false;
-    }
-    if w.len() > 8 {
-        return false;
-    }
-    if !is_letter(w[0]) {
-        return false;
-    }
-    name_bytes_from(w, 1)
+    w.len() != 0 && (w.len() <= 8 && (is_letter(w[0]) && name_bytes_from(w, 1)))
 }
 
 // ---- the cursor
@@ -272,14 +252,10 @@ impl Cursor {
         ensures { λ r. ⌜ r ≡ byteAt (now (s .entry)) (self .at) b ⌝ }
     {
         let at = self.at;
-        if s.len() <= at {
+        if s.len() <= at || s[at] != b {
             return Step::Broken;
         }
-        if s[at] == b {
-            Step::To(Cursor { at: at + 1 })
-        } else {
-            Step::Broken
-        }
+        Step::To(Cursor { at: at + 1 })
     }
 
     // The end of a line: the cursor is where the next line begins.
@@ -289,10 +265,9 @@ impl Cursor {
         let at = self.at;
         let n = ends_at(s, at);
         if n == 0 {
-            Step::Broken
-        } else {
-            Step::To(Cursor { at: at + n })
+            return Step::Broken;
         }
+        Step::To(Cursor { at: at + n })
     }
 
     // A number's field.
@@ -307,10 +282,9 @@ impl Cursor {
             return digits_at(s, from);
         }
         if s[from] == 48 {
-            closed(s, from + 1, 0)
-        } else {
-            Number::Broken
+            return closed(s, from + 1, 0);
         }
+        Number::Broken
     }
 
     // A table's field.
@@ -338,10 +312,9 @@ impl Cursor {
         }
         let end = field_end(s, from);
         if is_name(&s[from..end]) {
-            Step::To(Cursor { at: end })
-        } else {
-            Step::Broken
+            return Step::To(Cursor { at: end });
         }
+        Step::Broken
     }
 
     // "A difference is in groups of seven bits, lowest first, the top bit set on all but the last byte"; one that "takes more than two bytes" is broken.
@@ -356,15 +329,11 @@ impl Cursor {
         if low < 128 {
             return Number::Value(low as u16, Cursor { at: at + 1 });
         }
-        if s.len() <= at + 1 {
+        if s.len() <= at + 1 || s[at + 1] >= 128 {
             return Number::Broken;
         }
         let high = s[at + 1];
-        if high < 128 {
-            Number::Value(low as u16 - 128 + 128 * high as u16, Cursor { at: at + 2 })
-        } else {
-            Number::Broken
-        }
+        Number::Value(low as u16 - 128 + 128 * high as u16, Cursor { at: at + 2 })
     }
 
     // A number's field, and the byte that must stand behind it.
@@ -488,4 +457,42 @@ pub fn put_number(out: &mut [u8], at: usize, n: u32) -> usize
         let next = put_number(out, at, n / 100);
         put_pair(out, next, n % 100)
     }
+}
+
+// ---- classes of bytes, and where the bytes of one class end
+
+// "Spaces or tabs part words"; digits; the bytes of a name, "letters, digits and underscores"; those of a name or a figure; all but the space, which
+// "separates fields".
+pub enum Class {
+    Blank,
+    Digit,
+    Name,
+    Word,
+    Field,
+}
+
+pub fn is_of(class: Class, b: u8) -> bool
+    ensures { λ r. ⌜ r ≡ inClass class b ⌝ }
+{
+    match class {
+        Class::Blank => b == b' ' || b == b'\t',
+        Class::Digit => b >= b'0' && b <= b'9',
+        Class::Name => is_name_byte(b),
+        Class::Word => is_name_byte(b) || b == b'.',
+        Class::Field => b != b' ',
+    }
+}
+
+// The first place from `from` on whose byte is of another class, or the end.
+pub fn span_end(w: &[u8], from: usize, class: Class) -> usize
+    ensures { λ r. ⌜ r ≡ spanEnd (inClass class) (now (w .entry)) from ⌝ }
+{
+    let mut at = from;
+    while at < w.len() {
+        if !is_of(class, w[at]) {
+            return at;
+        }
+        at += 1;
+    }
+    at
 }

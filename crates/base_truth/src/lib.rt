@@ -32,9 +32,7 @@ const ROWS: [[u8; 16]; 24] = [
     [0, 8, 4, 12, 2, 10, 6, 14, 1, 9, 5, 13, 3, 11, 7, 15],
 ];
 
-// aaaa, cccc, f0f0 and ff00.
-const PATTERNS: [u16; 4] = [0xaaaa, 0xcccc, 0xf0f0, 0xff00];
-
+// aaaa, cccc, f0f0 and ff00, the first lowest.
 const LEAVES: u64 = 0xff00f0f0ccccaaaa;
 
 // An entry of a table, as an index.
@@ -82,20 +80,12 @@ pub fn bit(table: u16, r: usize) -> bool
     (table >> r) % 2 == 1
 }
 
-// The row of a cell's pins, from the row that the order makes.
-fn pin_row(pins: u16, row: usize) -> usize
-    requires { ⌜ pins ≤ 4 ⌝ }
-    ensures { λ x. ⌜ (x ≡ row % 2 ^ pins) × (x < 16) ⌝ }
-{
-    row % (1 << pins)
-}
-
-// The value of a cell there.
+// The value of a cell in the row of its pins, from the row that the order makes.
 fn value_at(pins: u16, table: u16, row: usize) -> bool
     requires { ⌜ pins ≤ 4 ⌝ }
     ensures { λ x. ⌜ x ≡ value table (row % 2 ^ pins) ⌝ }
 {
-    bit(table, pin_row(pins, row))
+    bit(table, row % (1 << pins))
 }
 
 // A table with a row put below those that it has.
@@ -121,20 +111,12 @@ pub fn first_table(pins: u16, table: u16, order: usize) -> u16
     t
 }
 
-// What `pattern` has, out of a number: it stays at hand from mask to mask.
-fn ones_of(k: usize) -> u16
-    requires { ⌜ k < 4 ⌝ }
-    ensures { λ x. ⌜ x ≡ leafTable k ⌝ }
-{
-    ((LEAVES >> (16 * k)) % 65536) as u16
-}
-
 // A table with leaf k complemented: the rows where it is 1 and those where it is 0 change places.
 fn crossed(t: u16, k: usize) -> u16
     requires { ⌜ k < 4 ⌝ }
     ensures { λ x. ⌜ x ≡ crossed t k ⌝ }
 {
-    let p = ones_of(k);
+    let p = pattern(k);
     let n = 1usize << k;
     ((t & p) >> n) | ((t & complement(p)) << n)
 }
@@ -232,12 +214,12 @@ pub fn in_phase(neg: bool, t: u16) -> u16
     if neg { complement(t) } else { t }
 }
 
-// "leaf number i (ascending, from 0) is bit i of the row".
+// "leaf number i (ascending, from 0) is bit i of the row". Out of a number: it stays at hand from mask to mask.
 pub fn pattern(i: usize) -> u16
     requires { ⌜ i < 4 ⌝ }
     ensures { λ x. ⌜ x ≡ leafTable i ⌝ }
 {
-    PATTERNS[i]
+    ((LEAVES >> (16 * i)) % 65536) as u16
 }
 
 // ---- literals

@@ -1,6 +1,7 @@
 // The calls for C and Rust. A slice is a pointer and a number of elements; the answer is the five values that document 01 names.
 use model::Answer;
 use model::Checked;
+use model::Two;
 use model::Verdict;
 use model::Written;
 ghost use Rattle.base.specs.{_≡_, true, false, length};
@@ -23,16 +24,16 @@ pub struct MapperAnswer {
     pub arrival: u32,
 }
 
-// A number and a value, with zero figures: a refusal's number and place, or 0 and the length of a text that is no netlist.
-fn plain(number: usize, value: usize) -> MapperAnswer
-    ensures { λ r. ⌜ r ≡ answeredText (number, value) ⌝ }
+// The five values.
+fn values(number: usize, value: usize, gates: u32, area: u32, arrival: u32) -> MapperAnswer
+    ensures { λ r. ⌜ r ≡ record { number = number; value = value; gates = gates; area = area; arrival = arrival } ⌝ }
 {
     MapperAnswer {
         number: number as u64,
         value: value as u64,
-        gates: 0,
-        area: 0,
-        arrival: 0,
+        gates,
+        area,
+        arrival,
     }
 }
 
@@ -40,14 +41,8 @@ fn answer(a: Answer) -> MapperAnswer
     ensures { λ r. ⌜ r ≡ answered (returned a) ⌝ }
 {
     match a {
-        Answer::Mapped(n, f) => MapperAnswer {
-            number: 0,
-            value: n as u64,
-            gates: f.gates,
-            area: f.area,
-            arrival: f.arrival,
-        },
-        Answer::Refused(number, place) => plain(number, place),
+        Answer::Mapped(n, f) => values(0, n, f.gates, f.area, f.arrival),
+        Answer::Refused(number, place) => values(number, place, 0, 0, 0),
     }
 }
 
@@ -56,8 +51,8 @@ fn text_answer(a: Written) -> MapperAnswer
     ensures { λ r. ⌜ r ≡ answeredText (writtenPair a) ⌝ }
 {
     match a {
-        Written::Length(n) => plain(0, n),
-        Written::Refused(number, place) => plain(number, place),
+        Written::Length(n) => values(0, n, 0, 0, 0),
+        Written::Refused(number, place) => values(number, place, 0, 0, 0),
     }
 }
 
@@ -107,8 +102,8 @@ fn verdict_answer(v: Verdict) -> MapperAnswer
     ensures { λ r. ⌜ r ≡ answeredText (verdictPair v) ⌝ }
 {
     match v {
-        Verdict::Accepted => plain(0, 0),
-        Verdict::Refused(number, place) => plain(number, place),
+        Verdict::Accepted => values(0, 0, 0, 0, 0),
+        Verdict::Refused(number, place) => values(number, place, 0, 0, 0),
     }
 }
 
@@ -145,6 +140,16 @@ pub struct MapperTwo {
     pub second: MapperAnswer,
 }
 
+fn answers(t: Two) -> MapperTwo
+    ensures { λ r. ⌜ (r .first ≡ answered (returned (t .first))) × (r .second ≡ answered (returned (t .second))) ⌝ }
+{
+    let a = t.first;
+    let b = t.second;
+    let first = answer(a);
+    let second = answer(b);
+    MapperTwo { first, second }
+}
+
 // Maps two channels over one library text and lent words: of each a graph text and an arrivals' text, with bytes lent to it. The same bytes and words may
 // not be lent twice.
 #[no_mangle]
@@ -161,7 +166,7 @@ pub extern "C" fn mapper_map_two(
     ensures { λ r. ⌜ CalledTwo false (now (cells .entry)) (now (graph1 .entry)) (now (arrivals1 .entry)) (now (graph2 .entry)) (now (arrivals2 .entry))
         (now (work .entry)) (now (text1 .entry)) (now (text2 .entry)) r (now (work .exit)) (now (text1 .exit)) (now (text2 .exit)) ⌝ }
 {
-    let r = mapper_two::map_two(
+    answers(mapper_two::map_two(
         cells,
         graph1,
         arrivals1,
@@ -171,13 +176,7 @@ pub extern "C" fn mapper_map_two(
         work,
         text1,
         text2,
-    );
-    let first = r.first;
-    let second = r.second;
-    MapperTwo {
-        first: answer(first),
-        second: answer(second),
-    }
+    ))
 }
 
 // The same with pairs of cells, for both channels.
@@ -195,7 +194,7 @@ pub extern "C" fn mapper_map_two_pairs(
     ensures { λ r. ⌜ CalledTwo true (now (cells .entry)) (now (graph1 .entry)) (now (arrivals1 .entry)) (now (graph2 .entry)) (now (arrivals2 .entry))
         (now (work .entry)) (now (text1 .entry)) (now (text2 .entry)) r (now (work .exit)) (now (text1 .exit)) (now (text2 .exit)) ⌝ }
 {
-    let r = mapper_two::map_two(
+    answers(mapper_two::map_two(
         cells,
         graph1,
         arrivals1,
@@ -205,13 +204,7 @@ pub extern "C" fn mapper_map_two_pairs(
         work,
         text1,
         text2,
-    );
-    let first = r.first;
-    let second = r.second;
-    MapperTwo {
-        first: answer(first),
-        second: answer(second),
-    }
+    ))
 }
 
 // What a check answers: 0 where the netlist is accepted, 1 with "the lowest setting that differs" and "that setting's first wrong output", 2

@@ -52,9 +52,9 @@ unfolding library graphB text
 lent netlist words d = record { library = library; graph = text graphB; netlist = netlist; words = words; due = d }
 
 -- B needs 497 words and its netlist of nine lines 72 more
-unfoldable pub checkCases : List CheckCase
+unfoldable pub accepted : List CheckCase
 unfolding library with listing graphB headB text case inB inTwo lent
-checkCases =
+accepted =
     -- "every netlist that `map` prints from the same texts": B; "10 wants 8 more words for each byte 10 in it", those behind `.end` too
     lent listing 569 accepts
     ∷ lent listing 568 (refuses 10 0)
@@ -71,20 +71,29 @@ checkCases =
     ∷ inB ".gate inv A= O=p3\n.names p3 o0\n1 1\n.end\n" (refuses 32 37)
     -- a pin that is bound to any net, inputs on both pins exchanged: the NAND is the same
     ∷ inB ".gate inv A=m3 O=p3\n.gate nand2 A=p2 B=p1 O=m3\n.names p3 o0\n1 1\n.end\n" accepts
+    ∷ []
+
+pub accepted-hold : T (all checkHolds accepted)
+unfolding all checkHolds accepted
+accepted-hold = tt
+
+pub one-net-hold : T (all checkHolds (
     -- one net on both pins
-    ∷ case library "aag 1 1 0 1 0\n2\n3\n" ".model top\n.inputs p1\n.outputs o0\n.gate nand2 A=p1 B=p1 O=m1\n.names m1 o0\n1 1\n.end\n" accepts
+    case library "aag 1 1 0 1 0\n2\n3\n" ".model top\n.inputs p1\n.outputs o0\n.gate nand2 A=p1 B=p1 O=m1\n.names m1 o0\n1 1\n.end\n" accepts
+    ∷ []
+    ))
+unfolding all checkHolds library with listing graphB headB text case inB inTwo lent
+one-net-hold = tt
+
+pub differing-hold : T (all checkHolds (
     -- the output is p1 where the graph has p1 AND p2: setting 1 has input 0 alone; p2: setting 2; the constant 0: setting 3; not p1: setting 0
-    ∷ inB ".gate inv A=x O=p3\n.gate inv A=p1 O=x\n.names p3 o0\n1 1\n.end\n" (differs 1 0)
+    inB ".gate inv A=x O=p3\n.gate inv A=p1 O=x\n.names p3 o0\n1 1\n.end\n" (differs 1 0)
     ∷ inB ".names p1 o0\n1 1\n.end\n" (differs 1 0)
     ∷ inB ".names p2 o0\n1 1\n.end\n" (differs 2 0)
     ∷ inB ".gate inv A=p1 O=x\n.gate nand2 A=p1 B=x O=y\n.gate inv A=y O=z\n.names z o0\n1 1\n.end\n" (differs 3 0)
     ∷ inB ".gate inv A=p1 O=x\n.names x o0\n1 1\n.end\n" (differs 0 0)
     -- "input k as bit k", by the file's inputs: variable 2 is input 0
     ∷ case library "aag 3 2 0 1 1\n4\n2\n6\n6 2 4\n" ".model top\n.inputs p2 p1\n.outputs o0\n.names p1 o0\n1 1\n.end\n" (differs 2 0)
-    -- inputs past the second: p1 where the graph has input 2, the constant 0 where it has input 2, and where it has input 11 of twelve
-    ∷ case library "aag 3 3 0 1 0\n2\n4\n6\n6\n" ".model top\n.inputs p1 p2 p3\n.outputs o0\n.names p1 o0\n1 1\n.end\n" (differs 1 0)
-    ∷ case (with "tie0 0 0000 1 0 0 0 0\n") "aag 3 3 0 1 0\n2\n4\n6\n6\n" ".model top\n.inputs p1 p2 p3\n.outputs o0\n.gate tie0 O=x\n.names x o0\n1 1\n.end\n" (differs 4 0)
-    ∷ case (with "tie0 0 0000 1 0 0 0 0\n") "aag 12 12 0 1 0\n2\n4\n6\n8\n10\n12\n14\n16\n18\n20\n22\n24\n24\n" ".model top\n.inputs p1 p2 p3 p4 p5 p6 p7 p8 p9 p10 p11 p12\n.outputs o0\n.gate tie0 O=x\n.names x o0\n1 1\n.end\n" (differs 2048 0)
     -- "that setting's first wrong output"
     ∷ inTwo ".gate inv A=m3 O=p3\n.gate nand2 A=p1 B=p2 O=m3\n.names p3 o0\n1 1\n.names m3 o1\n1 1\n.end\n" accepts
     ∷ inTwo ".gate inv A=m3 O=p3\n.gate nand2 A=p1 B=p2 O=m3\n.names p3 o0\n1 1\n.names p3 o1\n1 1\n.end\n" (differs 0 1)
@@ -101,15 +110,37 @@ checkCases =
     ∷ case library "aag 12 12 0 0 0\n2\n4\n6\n8\n10\n12\n14\n16\n18\n20\n22\n24\n" ".model top\n.inputs p1 p2 p3 p4 p5 p6 p7 p8 p9 p10 p11 p12\n.outputs\n.end\n" accepts
     ∷ case library "aag 2 0 0 0 2\n2 4 4\n4 2 2\n" "" (refuses 15 1)
     ∷ case library "aag 14 13 0 0 1\n2\n4\n6\n8\n10\n12\n14\n16\n18\n20\n22\n24\n26\n28 28 28\n" "" (refuses 15 14)
+    ∷ []
+    ))
+unfolding all checkHolds library with listing graphB headB text case inB inTwo lent
+differing-hold = tt
+
+pub past-two-hold : T (all checkHolds (
+    -- inputs past the second: p1 where the graph has input 2, the constant 0 where it has input 2, and where it has input 11 of twelve
+    case library "aag 3 3 0 1 0\n2\n4\n6\n6\n" ".model top\n.inputs p1 p2 p3\n.outputs o0\n.names p1 o0\n1 1\n.end\n" (differs 1 0)
+    ∷ case (with "tie0 0 0000 1 0 0 0 0\n") "aag 3 3 0 1 0\n2\n4\n6\n6\n" ".model top\n.inputs p1 p2 p3\n.outputs o0\n.gate tie0 O=x\n.names x o0\n1 1\n.end\n" (differs 4 0)
+    ∷ case (with "tie0 0 0000 1 0 0 0 0\n") "aag 12 12 0 1 0\n2\n4\n6\n8\n10\n12\n14\n16\n18\n20\n22\n24\n24\n" ".model top\n.inputs p1 p2 p3 p4 p5 p6 p7 p8 p9 p10 p11 p12\n.outputs o0\n.gate tie0 O=x\n.names x o0\n1 1\n.end\n" (differs 2048 0)
+    ∷ []
+    ))
+unfolding all checkHolds library with listing graphB headB text case inB inTwo lent
+past-two-hold = tt
+
+pub lengths-hold : T (all checkHolds (
     -- "1 covers the netlist"; the library's refusals and the graph's come before 31 to 33
-    ∷ lent (replicate 65537 10) 0 (refuses 1 0)
+    lent (replicate 65537 10) 0 (refuses 1 0)
     ∷ record { library = replicate 65537 10; graph = text graphB; netlist = listing; words = 0; due = refuses 1 0 }
     ∷ record { library = library; graph = replicate 65537 10; netlist = listing; words = 0; due = refuses 1 0 }
     ∷ case (with "\n") graphB "" (refuses 4 80)
     ∷ case library "aag 1 0 1 0 0\n" "" (refuses 8 0)
     ∷ case library "aag 3 2 0 1 1\n2\n4\n6\n" "" (refuses 11 20)
+    ∷ []
+    ))
+unfolding all checkHolds library with listing graphB headB text case inB inTwo lent
+lengths-hold = tt
+
+pub broken-hold : T (all checkHolds (
     -- "32 when a line breaks its form .. or has other inputs or outputs than the graph": a missing line's place is the text's length
-    ∷ lent [] 32768 (refuses 32 0)
+    lent [] 32768 (refuses 32 0)
     ∷ case library graphB ".model tops\n" (refuses 32 0)
     ∷ case library graphB ".model top" (refuses 32 0)
     ∷ case library graphB ".model top\r\n" (refuses 32 0)
@@ -130,15 +161,27 @@ checkCases =
     -- "names no listed cell"
     ∷ inB ".gate nor2 A=p1 B=p2 O=x\n.names x o0\n1 1\n.end\n" (refuses 32 37)
     ∷ inB ".gate in A=p1 O=x\n.names x o0\n1 1\n.end\n" (refuses 32 37)
+    ∷ []
+    ))
+unfolding all checkHolds library with listing graphB headB text case inB inTwo lent
+broken-hold = tt
+
+pub pins-in-order-hold : T (all checkHolds (
     -- a pin too few, one too many, pins in another order, a pin's letter, the output's
-    ∷ inB ".gate inv A=p1 O=x\n.gate nand2 A=p1 O=y\n.names x o0\n1 1\n.end\n" (refuses 32 56)
+    inB ".gate inv A=p1 O=x\n.gate nand2 A=p1 O=y\n.names x o0\n1 1\n.end\n" (refuses 32 56)
     ∷ inB ".gate inv A=p1 B=p2 O=x\n.names x o0\n1 1\n.end\n" (refuses 32 37)
     ∷ inB ".gate nand2 B=p1 A=p2 O=x\n.names x o0\n1 1\n.end\n" (refuses 32 37)
     ∷ inB ".gate inv a=p1 O=x\n.names x o0\n1 1\n.end\n" (refuses 32 37)
     ∷ inB ".gate inv A=p1 Q=x\n.names x o0\n1 1\n.end\n" (refuses 32 37)
     ∷ inB ".gate inv A:p1 O=x\n.names x o0\n1 1\n.end\n" (refuses 32 37)
+    ∷ []
+    ))
+unfolding all checkHolds library with listing graphB headB text case inB inTwo lent
+pins-in-order-hold = tt
+
+pub output-lines-hold : T (all checkHolds (
     -- the lines of the outputs: in order, all of them, `1 1` behind each, no gate behind the first, `.end` behind the last
-    ∷ inTwo ".names p1 o1\n1 1\n.names p1 o0\n1 1\n.end\n" (refuses 32 40)
+    inTwo ".names p1 o1\n1 1\n.names p1 o0\n1 1\n.end\n" (refuses 32 40)
     ∷ inTwo ".names p1 o0\n1 1\n.end\n" (refuses 32 57)
     ∷ inTwo ".names p1 o0\n1 1\n" (refuses 32 57)
     ∷ inB ".names p1 o0\n1 0\n.end\n" (refuses 32 50)
@@ -169,10 +212,9 @@ checkCases =
     ∷ inB ".gate inv A=x O=x\n.gate inv A=y O=z\n.gate inv A=p1 O=z\n.names p1 o0\n1 1\n.end\n" (refuses 33 73)
     ∷ inB ".gate inv A=x O=x\n.gate inv A=y O=z\n.names p1 o0\n1 1\n.end\n" (refuses 33 55)
     ∷ []
-
-pub check-cases-hold : T (all checkHolds checkCases)
-unfolding all checkHolds checkCases
-check-cases-hold = tt
+    ))
+unfolding all checkHolds library with listing graphB headB text case inB inTwo lent
+output-lines-hold = tt
 
 -- "Work memory is unchanged by every refusal tried up to 10, and all zero after a later one and after success."
 pub check-work-left : T (

@@ -53,9 +53,7 @@ unfolding text
 nest n = text "GATE g 1 O=" ++ (replicate n 40 ++ (text "a" ++ (replicate n 41 ++ text ";\nPIN a x 1 1 1 1 1 1\n")))
 
 -- what foundries write
-unfoldable pub usual : List Case
-unfolding text gate tie
-usual =
+pub usual-hold : T (all shows (
     -- an empty genlib text writes the names line alone
     writes [] ""
     ∷ writes (text "GATE inv 1 O=!A;\nPIN A UNKNOWN 1 999 0.012 0 0.011 0\n") "inv 1 0001 1000 12 0 0 0\n"
@@ -110,9 +108,8 @@ usual =
     ∷ writes (tie "00065.5") "t 0 0001 65500 0 0 0 0\n"
     ∷ writes (tie "0.07") "t 0 0001 70 0 0 0 0\n"
     ∷ []
-
-pub usual-hold : T (all shows usual)
-unfolding all shows usual
+    ))
+unfolding all shows text gate tie
 usual-hold = tt
 
 -- the edges of each refusal
@@ -178,26 +175,45 @@ pub refusals-hold : T (all shows refusals)
 unfolding all shows refusals
 refusals-hold = tt
 
--- the edges between what is read and a reading close to it: each case alone refuses one
-unfoldable pub edges : List Case
-unfolding text gate tie
-edges =
+-- The edges between what is read and a reading close to it, a list for each: a wrong reading is refused by its own.
+
+pub four-pins-hold : T (all shows (
     -- four pins that no exchange leaves alike, in order of first appearance, each with its own delay
     writes (text "GATE g 1 O=a*(b+!c*d);\nPIN a x 1 1 1 1 1 1\nPIN b x 1 1 2 1 2 1\nPIN c x 1 1 3 1 3 1\nPIN d x 1 1 4 1 4 1\n") "g 4 8a88 1000 1000 2000 3000 4000\n"
     ∷ writes (text "GATE g 1 O=d*(c+!b*a);\nPIN a x 1 1 1 1 1 1\nPIN b x 1 1 2 1 2 1\nPIN c x 1 1 3 1 3 1\nPIN d x 1 1 4 1 4 1\n") "g 4 8a88 1000 4000 3000 2000 1000\n"
     ∷ writes (text "GATE g 1 O=q*!p+s*r*!q;\nPIN p x 1 1 1 1 2 1\nPIN q x 1 1 1 1 1 1\nPIN r x 1 1 4 1 3 1\nPIN s x 1 1 0 1 3 1\n") "g 4 7222 1000 1000 2000 3000 4000\n"
+    ∷ []
+    ))
+unfolding all shows text gate tie
+four-pins-hold = tt
+
+pub pin-lines-hold : T (all shows (
     -- every pin needs a PIN line, one above the fourth too: 22 comes before 23
-    ∷ refuses (text "GATE g 1 O=a+b+c+d+e;\nPIN a x 1 1 1 1 1 1\nPIN b x 1 1 1 1 1 1\nPIN c x 1 1 1 1 1 1\nPIN d x 1 1 1 1 1 1\n") 22 0
+    refuses (text "GATE g 1 O=a+b+c+d+e;\nPIN a x 1 1 1 1 1 1\nPIN b x 1 1 1 1 1 1\nPIN c x 1 1 1 1 1 1\nPIN d x 1 1 1 1 1 1\n") 22 0
     ∷ refuses (text "GATE g 1 O=a+b+c+d+e+f;\nPIN a x 1 1 1 1 1 1\nPIN b x 1 1 1 1 1 1\nPIN c x 1 1 1 1 1 1\nPIN d x 1 1 1 1 1 1\nPIN e x 1 1 1 1 1 1\n") 22 0
     ∷ refuses (text "GATE g 1 O=a+b+c+d;\nPIN a x 1 1 1 1 1 1\nPIN b x 1 1 1 1 1 1\nPIN c x 1 1 1 1 1 1\n") 22 0
     ∷ refuses (text "GATE g 1 O=a+b+c+d+e;\nPIN a x 1 1 1 1 1 1\nPIN b x 1 1 1 1 1 1\nPIN c x 1 1 1 1 1 1\nPIN d x 1 1 1 1 1 1\nPIN e x 1 1 1 1 1 1\n") 23 0
+    ∷ []
+    ))
+unfolding all shows text gate tie
+pin-lines-hold = tt
+
+pub whole-names-hold : T (all shows (
     -- a PIN line fits the pin of its whole name alone: no beginning, no end, no other case of letters
-    ∷ map (λ (s : String). refuses (text s) 22 0) ("GATE g 1 O=a;\nPIN ab x 1 1 1 1 1 1\n" ∷ "GATE g 1 O=ab;\nPIN a x 1 1 1 1 1 1\n" ∷
+    map (λ (s : String). refuses (text s) 22 0) ("GATE g 1 O=a;\nPIN ab x 1 1 1 1 1 1\n" ∷ "GATE g 1 O=ab;\nPIN a x 1 1 1 1 1 1\n" ∷
     "GATE g 1 O=b;\nPIN ab x 1 1 1 1 1 1\n" ∷ "GATE g 1 O=ab;\nPIN b x 1 1 1 1 1 1\n" ∷ "GATE g 1 O=a;\nPIN A x 1 1 1 1 1 1\n" ∷ [])
     ++ (writes (text "GATE g 1 O=a*ab;\nPIN ab x 1 1 2 1 2 1\nPIN a x 1 1 1 1 1 1\n") "g 2 0008 1000 1000 2000 0 0\n"
     ∷ writes (text "GATE g 1 O=ab*a;\nPIN a x 1 1 1 1 1 1\nPIN ab x 1 1 2 1 2 1\n") "g 2 0008 1000 2000 1000 0 0\n"
+    ∷ [])
+    ))
+unfolding all shows text gate tie
+whole-names-hold = tt
+
+unfoldable pub blanks : List Case
+unfolding text gate tie
+blanks =
     -- bytes 32 and 9 alone are blanks: 0, 11, 12, 13, 31, 33, 127, 160 and 255 are none, between words, at a line's ends or beside signs
-    ∷ writes (text "GATE" ++ (9 ∷ text "g 1 O=CONST1;\n")) "g 0 0001 1000 0 0 0 0\n"
+    writes (text "GATE" ++ (9 ∷ text "g 1 O=CONST1;\n")) "g 0 0001 1000 0 0 0 0\n"
     ∷ refuses (text "GATE" ++ (0 ∷ text "g 1 O=CONST1;\n")) 22 0
     ∷ refuses (text "GATE" ++ (11 ∷ text "g 1 O=CONST1;\n")) 22 0
     ∷ refuses (text "GATE" ++ (12 ∷ text "g 1 O=CONST1;\n")) 22 0
@@ -213,29 +229,77 @@ edges =
     ∷ refuses (text "GATE g 1 O=a;\nPIN * x 1 1" ++ (12 ∷ text " 1 1 1 1\n")) 22 0
     ∷ refuses (text "GATE g 1 O=a;\nPIN * x 1 1" ++ (12 ∷ text "1 1 1 1\n")) 22 0
     ∷ refuses (text "GATE g 1 O=CONST1;\n" ++ (12 ∷ text "GATE h 1 O=CONST1;\n")) 22 0
-    -- names are of letters, digits and underscores: no figure with a point is one, as gate, output, pin or phase
-    ∷ map (λ (s : String). refuses (text s) 22 0) ("GATE 1.5 1 O=CONST1;\n" ∷ "GATE g.h 1 O=CONST1;\n" ∷ "GATE g 1 1.5=CONST1;\n" ∷
-    "GATE g 1 O.p=CONST1;\n" ∷ "GATE * 1 O=CONST1;\n" ∷ "GATE g 1 *=CONST1;\n" ∷ [])
-    ++ (refuses (gate "1.5") 22 0
+    ∷ []
+
+pub blanks-hold : T (all shows blanks)
+unfolding all shows blanks
+blanks-hold = tt
+
+pub gate-names-hold : T (all shows (
+    -- names are of letters, digits and underscores: no figure with a point is one, as a gate
+    map (λ (s : String). refuses (text s) 22 0) ("GATE 1.5 1 O=CONST1;\n" ∷ "GATE g.h 1 O=CONST1;\n" ∷ "GATE * 1 O=CONST1;\n" ∷ [])
+    ))
+unfolding all shows text
+gate-names-hold = tt
+
+pub output-names-hold : T (all shows (
+    -- as an output
+    map (λ (s : String). refuses (text s) 22 0) ("GATE g 1 1.5=CONST1;\n" ∷ "GATE g 1 O.p=CONST1;\n" ∷ "GATE g 1 *=CONST1;\n" ∷ [])
+    ))
+unfolding all shows text
+output-names-hold = tt
+
+pub pin-names-hold : T (all shows (
+    -- as a pin
+    refuses (gate "1.5") 22 0
     ∷ refuses (text "GATE g 1 O=a;\nPIN * x 1 1 1 1 1 1\nPIN 1.5 x 1 1 1 1 1 1\n") 22 0
     ∷ writes (text "GATE 15 1 15=15;\nPIN 15 15 1 1 1 1 1 1\n") "15 1 0002 1000 1000 0 0 0\n"
+    ∷ []
+    ))
+unfolding all shows text gate
+pin-names-hold = tt
+
+pub phases-hold : T (all shows (
     -- "the phase (any name)": no sign, and not `*`
-    ∷ refuses (text "GATE g 1 O=a;\nPIN a * 1 1 1 1 1 1\n") 22 0
+    refuses (text "GATE g 1 O=a;\nPIN a * 1 1 1 1 1 1\n") 22 0
     ∷ refuses (text "GATE g 1 O=a;\nPIN * * 1 1 1 1 1 1\n") 22 0
     ∷ refuses (text "GATE g 1 O=a;\nPIN a + 1 1 1 1 1 1\n") 22 0
+    ∷ []
+    ))
+unfolding all shows text gate tie
+phases-hold = tt
+
+unfoldable pub loads : List Case
+unfolding text gate tie
+loads =
     -- loads, block and fanout delays are figures, used or not
-    ∷ map (λ (s : String). refuses (text s) 22 0) ("GATE g 1 O=a;\nPIN a x y 1 1 1 1 1\n" ∷ "GATE g 1 O=a;\nPIN a x * 1 1 1 1 1\n" ∷
+    map (λ (s : String). refuses (text s) 22 0) ("GATE g 1 O=a;\nPIN a x y 1 1 1 1 1\n" ∷ "GATE g 1 O=a;\nPIN a x * 1 1 1 1 1\n" ∷
     "GATE g 1 O=a;\nPIN a x 1 y 1 1 1 1\n" ∷ "GATE g 1 O=a;\nPIN a x 1 * 1 1 1 1\n" ∷ "GATE g 1 O=a;\nPIN a x 1 1 y 1 1 1\n" ∷
     "GATE g 1 O=a;\nPIN a x 1 1 1 y 1 1\n" ∷ "GATE g 1 O=a;\nPIN a x 1 1 1 1 y 1\n" ∷ "GATE g 1 O=a;\nPIN a x 1 1 1 1 1 y\n" ∷
     "GATE g 1 O=a;\nPIN * x 1 1 1 1 1 1\nPIN b x 1 1. 1 1 1 1\n" ∷ [])
+
+pub loads-hold : T (all shows loads)
+unfolding all shows loads
+loads-hold = tt
+
+unfoldable pub decimals : List Case
+unfolding text gate tie
+decimals =
     -- at most three decimals in a used figure: none of four, five, six, seven or ten
-    ++ (writes (tie "1.000") "t 0 0001 1000 0 0 0 0\n"
+    writes (tie "1.000") "t 0 0001 1000 0 0 0 0\n"
     ∷ map (λ (s : String). refuses (tie s) 24 0) ("1.0000" ∷ "1.00000" ∷ "1.000000" ∷ "1.0000000" ∷ "1.0000000000" ∷ [])
     ++ (refuses (text "GATE g 1 O=a;\nPIN a x 1 1 1.000000 1 1 1\n") 24 0
     ∷ refuses (text "GATE g 1 O=a;\nPIN a x 1 1 1 1 1.000000 1\n") 24 0
     ∷ writes (text "GATE g 1 O=a;\nPIN a x 1.000000 1.000000 1 1.000000 1 1.000000\n") "g 1 0002 1000 1000 0 0 0\n"
+    ∷ [])
+
+pub decimals-hold : T (all shows decimals)
+unfolding all shows decimals
+decimals-hold = tt
+
+pub gate-by-gate-hold : T (all shows (
     -- each digit of a figure counts where it stands
-    ∷ writes (tie "12.345") "t 0 0001 12345 0 0 0 0\n"
+    writes (tie "12.345") "t 0 0001 12345 0 0 0 0\n"
     ∷ writes (tie "60.789") "t 0 0001 60789 0 0 0 0\n"
     ∷ writes (tie "1.2") "t 0 0001 1200 0 0 0 0\n"
     ∷ writes (tie "0.001") "t 0 0001 1 0 0 0 0\n"
@@ -247,11 +311,10 @@ edges =
     ∷ refuses (text "GATE g 66 O=a+b+c+d+e;\nPIN a x 1 1 70 1 1 1\n") 22 0
     ∷ refuses (text "GATE g 66 O=a+b+c+d+e;\nPIN * x 1 1 70 1 1 1\n") 23 0
     ∷ refuses (text "GATE g 66 O=a;\nPIN a x 1 1 1 1 1 1\nPIN a x 1 1 1 1 1\n") 22 0
-    ∷ []))))
-
-pub edges-hold : T (all shows edges)
-unfolding all shows edges
-edges-hold = tt
+    ∷ []
+    ))
+unfolding all shows text gate tie
+gate-by-gate-hold = tt
 
 -- any number of gates: 33 are written, which 3 refuses when the text is read
 pub many-hold : T (isText (namesLine ++ each (λ (i : ℕ). text "t 0 0001 1000 0 0 0 0\n") (replicate 33 0)) (genlibText (each (λ (i : ℕ). tie "1") (replicate 33 0)) 65536))

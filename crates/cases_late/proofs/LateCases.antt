@@ -2,15 +2,13 @@
 use Prim.Native.String.{String}
 use Rattle.base.specs.{ℕ, List, [], _∷_, _++_, map, T, replicate}
 use Rattle.model.specs.{all, text}
-use Rattle.cases.proofs.{library, listing, with, graphB, graphC, Case, holds, headB, arrives, prints, gives, lacks, suffices, printsTimed}
+use Rattle.cases.proofs.{library, listing, with, graphB, graphC, holds, headB, arrives, prints, gives, lacks, suffices, printsTimed}
 use Rattle.cases.proofs.{givesTimed, refusesTimed, says, saysNothing, wires, unread}
 
 -- ---- outputs with names of their own
 
 -- "The list becomes `o0`, `o1` and so on, in file order. Before `.end`, each gets `.names` with its net and its own name, then `1 1`."
-unfoldable pub ownNames : List Case
-unfolding library with text
-ownNames =
+pub own-names-hold : T (all holds (
     -- two outputs on one net: two names, and one gate
     prints library "aag 3 2 0 2 1\n2\n4\n6\n6\n6 2 4\n"
     (text ".model top\n.inputs p1 p2\n.outputs o0 o1\n.gate inv A=m3 O=p3\n.gate nand2 A=p1 B=p2 O=m3\n.names p3 o0\n1 1\n.names p3 o1\n1 1\n.end\n# gates 2 area 3 arrival 30\n") 2 3 30
@@ -33,9 +31,8 @@ ownNames =
     ∷ suffices library "aag 1 1 0 1 0\n2\n2\n" 32768 83 0 0
     ∷ lacks library "aag 1 1 0 1 0\n2\n2\n" 32768 82 18 83
     ∷ []
-
-pub own-names-hold : T (all holds ownNames)
-unfolding all holds ownNames
+    ))
+unfolding all holds library with text
 own-names-hold = tt
 
 -- the lines before an output's own, and those behind them
@@ -44,9 +41,7 @@ unfolding text
 wired lines = text ".model top\n.inputs p1\n.outputs o0\n" ++ (text lines ++ text ".end\n# gates 0 area 0 arrival 0\n")
 
 -- how these lines are read: `.names` of two nets and the row `1 1`, behind the gates
-unfoldable pub wiresRead : List Case
-unfolding listing wired text
-wiresRead =
+pub wires-read-hold : T (all holds (
     wires listing (text "o0" ∷ []) (text "p3" ∷ text "o0" ∷ [])
     ∷ wires (wired ".names p1 o0\n1 1\n") (text "o0" ∷ []) (text "p1" ∷ text "o0" ∷ [])
     ∷ wires (wired ".gate inv A=p1 O=m1\n.names m1 o0\n1 1\n.names p1 o1\n1 1\n") (text "o0" ∷ []) (text "m1" ∷ text "o0" ∷ text "p1" ∷ text "o1" ∷ [])
@@ -61,16 +56,13 @@ wiresRead =
     ∷ unread (wired ".names p1 o0\n1 1\n.gate inv A=p1 O=m1\n")
     ∷ unread (text ".model top\n.inputs p1\n.outputs o0\n.names p1 o0\n1 1\n")
     ∷ [])
-
-pub wires-read-hold : T (all holds wiresRead)
-unfolding all holds wiresRead
+    ))
+unfolding all holds listing wired text
 wires-read-hold = tt
 
 -- ---- inputs that arrive late
 
-unfoldable pub lateInputs : List Case
-unfolding library listing with graphB graphC headB arrives text
-lateInputs =
+pub late-inputs-hold : T (all holds (
     -- B with its first input at 100, with its second, the last index, and with both
     printsTimed library (text graphB) (arrives "0 100\n")
     (text ".model top\n.inputs p1 p2\n.outputs o0\n.gate inv A=m3 O=p3\n.gate nand2 A=p1 B=p2 O=m3\n.names p3 o0\n1 1\n.end\n# gates 2 area 3 arrival 130\n") 2 3 130
@@ -107,15 +99,12 @@ lateInputs =
     -- the binary form
     ∷ givesTimed library (headB ++ (2 ∷ 2 ∷ [])) (arrives "0 100\n") 2 130
     ∷ []
-
-pub late-inputs-hold : T (all holds lateInputs)
-unfolding all holds lateInputs
+    ))
+unfolding all holds library listing with graphB graphC headB arrives text
 late-inputs-hold = tt
 
 -- "25 when a line breaks its form; 26 when an index is I or more, or is repeated, both line by line after 14, at the line's offset"
-unfoldable pub lateRefusals : List Case
-unfolding library graphB arrives text
-lateRefusals =
+pub late-refusals-hold : T (all holds (
     -- the first line: it is `input arrival` where there is one
     map (λ (s : String). refusesTimed library (text graphB) (text s) 32768 25 0) ("\n" ∷ "input arrival" ∷ "input arrival \n" ∷
     "input  arrival\n" ∷ "Input arrival\n" ∷ "0 100\n" ∷ [])
@@ -152,22 +141,18 @@ lateRefusals =
     ∷ refusesTimed [] (text graphB) (replicate 65537 10) 32768 1 0
     ∷ refusesTimed [] (text graphB) (replicate 65536 10) 32768 2 0
     ∷ []))
-
-pub late-refusals-hold : T (all holds lateRefusals)
-unfolding all holds lateRefusals
+    ))
+unfolding all holds library graphB arrives text
 late-refusals-hold = tt
 
 -- what a text's `# gates` line says: the line behind `.end` alone is read
-unfoldable pub said : List Case
-unfolding listing text
-said =
+pub said-hold : T (all holds (
     says listing 2 3 30
     ∷ says (listing ++ text "# timing o0 30\n") 2 3 30
     ∷ says (text ".end\n# gates 0 area 65536 arrival 1000\n") 0 65536 1000
     ∷ map (λ (s : String). saysNothing (text s)) (".end\n" ∷ "# gates 2 area 3 arrival 30\n.end\n" ∷
     ".end\n\n# gates 2 area 3 arrival 30\n" ∷ ".end\n# gates 2 area 3 arrival 030\n" ∷ ".end\n# gates 2 area 3 arrival \n" ∷
     ".end\n# gates 2 area 3 arrival 30 \n" ∷ ".end\n# gates 2 area 3 arrival 3a\n" ∷ ".end\n# area 3 gates 2 arrival 30\n" ∷ [])
-
-pub said-hold : T (all holds said)
-unfolding all holds said
+    ))
+unfolding all holds listing text
 said-hold = tt

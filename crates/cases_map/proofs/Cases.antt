@@ -8,35 +8,61 @@ use Rattle.model.specs.declared.Verdict.the-variants.{Accepted, Refused}
 use Rattle.cases.proofs.{library, listing, with, graphB, graphC, graphF, Case, given, mapText, holds, isReturned, prints, gives, refuses}
 use Rattle.cases.proofs.{lists, computes, takes}
 
-unfoldable pub marked : List Case
-unfolding library listing with graphB graphC graphF
-marked =
+pub marked-a-b-hold : T (all holds (
     -- A
     gives library "aag 0 0 0 0 0\n" 0 0
     -- B
     ∷ prints library graphB listing 2 3 30
+    ∷ []
+    ))
+unfolding all holds library listing with graphB graphC graphF
+marked-a-b-hold = tt
+
+pub marked-c-d-e-hold : T (all holds (
     -- C, D, E
-    ∷ gives (with "nor2 2 0001 2 35 35 0 0\n") graphC 1 35
+    gives (with "nor2 2 0001 2 35 35 0 0\n") graphC 1 35
     ∷ gives (with "nor2 2 0001 2 40 40 0 0\n") graphC 1 40
     ∷ gives (with "nor2 2 0001 2 41 41 0 0\n") graphC 4 40
+    ∷ []
+    ))
+unfolding all holds library listing with graphB graphC graphF
+marked-c-d-e-hold = tt
+
+pub marked-f-hold : T (all holds (
     -- F
-    ∷ lists graphF 6 ((6 ∷ []) ∷ (3 ∷ 4 ∷ []) ∷ (4 ∷ 5 ∷ []) ∷ (1 ∷ 2 ∷ 3 ∷ []) ∷ (1 ∷ 2 ∷ 5 ∷ []) ∷ (1 ∷ 2 ∷ 3 ∷ 4 ∷ []) ∷ [])
+    lists graphF 6 ((6 ∷ []) ∷ (3 ∷ 4 ∷ []) ∷ (4 ∷ 5 ∷ []) ∷ (1 ∷ 2 ∷ 3 ∷ []) ∷ (1 ∷ 2 ∷ 5 ∷ []) ∷ (1 ∷ 2 ∷ 3 ∷ 4 ∷ []) ∷ [])
     ∷ computes graphF (1 ∷ 2 ∷ 3 ∷ 4 ∷ []) 6 0xf000
+    ∷ []
+    ))
+unfolding all holds library listing with graphB graphC graphF
+marked-f-hold = tt
+
+pub marked-g-hold : T (all holds (
     -- G
-    ∷ takes 1 4 8
+    takes 1 4 8
+    ∷ []
+    ))
+unfolding all holds library listing with graphB graphC graphF
+marked-g-hold = tt
+
+pub marked-h-i-j-hold : T (all holds (
     -- H, I
-    ∷ gives (with "tie0 0 0000 1 0 0 0 0\n") "aag 0 0 0 1 0\n1\n" 2 10
+    gives (with "tie0 0 0000 1 0 0 0 0\n") "aag 0 0 0 1 0\n1\n" 2 10
     ∷ refuses library "aag 0 0 0 1 0\n1\n" 17 0
     -- J
     ∷ refuses library "aag 2 0 0 0 2\n2 4 4\n4 2 2\n" 15 1
-    -- K
-    ∷ gives library "aag 3 1 0 1 2\n2\n4\n4 6 6\n6 2 2\n" 2 20
     ∷ []
+    ))
+unfolding all holds library listing with graphB graphC graphF
+marked-h-i-j-hold = tt
 
--- the marked cases hold
-pub marked-hold : T (all holds marked)
-unfolding all holds marked
-marked-hold = tt
+pub marked-k-hold : T (all holds (
+    -- K
+    gives library "aag 3 1 0 1 2\n2\n4\n4 6 6\n6 2 2\n" 2 20
+    ∷ []
+    ))
+unfolding all holds library listing with graphB graphC graphF
+marked-k-hold = tt
 
 -- ---- matches of more than two pins, and ties
 
@@ -74,15 +100,12 @@ unfolding all holds four
 four-hold = tt
 
 -- the same cell with pin A the latest: the complemented leaf goes to pin B, which bears it
-unfoldable pub fourAgain : List Case
-unfolding cells text graphFour
-fourAgain =
+pub four-again-hold : T (all holds (
     prints (cells "inv 1 0001 1 10 0 0 0\naoai4 4 07ff 9 31 5 17 23\n") graphFour
     (text ".model top\n.inputs p1 p2 p3 p4\n.outputs o0 o1\n.gate inv A=p3 O=m3\n.gate inv A=m7 O=p7\n.gate aoai4 A=p1 B=m3 C=p4 D=p2 O=m7\n.names m7 o0\n1 1\n.names p7 o1\n1 1\n.end\n# gates 3 area 11 arrival 41\n") 3 11 41
     ∷ []
-
-pub four-again-hold : T (all holds fourAgain)
-unfolding all holds fourAgain
+    ))
+unfolding all holds cells text graphFour
 four-again-hold = tt
 
 -- "then cut, cell line, order number, mask, lowest first. Inverters: smallest delay, then first line": in each of these the arrivals are equal, and

@@ -64,22 +64,50 @@ many n =
     text "cell pins table area d0 d1 d2 d3\n" ++ (each (λ (k : ℕ). 97 ∷ decimal k ++ text " 2 0008 1 0 0 0 0\n") (below 11)
     ++ each (λ (k : ℕ). 98 ∷ decimal k ++ text " 0 0000 1 0 0 0 0\n") (below n))
 
-unfoldable pub pairCases : List PairCase
+unfoldable pub formed : List PairCase
 unfolding library with graphB graphC listingPaired uneven wide many text
-pairCases =
+formed =
     -- "for each root cell, pin and inner cell with at least one pin, in that order of lines": root and inner may be one cell
     forms library ((0 ∷ 0 ∷ 0 ∷ []) ∷ (0 ∷ 0 ∷ 1 ∷ []) ∷ (1 ∷ 0 ∷ 0 ∷ []) ∷ (1 ∷ 0 ∷ 1 ∷ []) ∷ (1 ∷ 1 ∷ 0 ∷ []) ∷ (1 ∷ 1 ∷ 1 ∷ []) ∷ [])
     -- "if the result has at most four pins": and4 with inv and inv with and4, not and4 with and4; a cell without pins is no inner and has no pin to feed
     ∷ forms uneven ((0 ∷ 0 ∷ 0 ∷ []) ∷ (0 ∷ 0 ∷ 1 ∷ []) ∷ (1 ∷ 0 ∷ 0 ∷ []) ∷ (1 ∷ 1 ∷ 0 ∷ []) ∷ (1 ∷ 2 ∷ 0 ∷ []) ∷ (1 ∷ 3 ∷ 0 ∷ []) ∷ [])
+    ∷ forms [] []
+    ∷ []
+
+pub formed-hold : T (all pairHolds formed)
+unfolding all pairHolds formed
+formed-hold = tt
+
+pub three-pins-hold : T (all pairHolds (
     -- a root of three pins: maj3 with xor2 and slow at each of its pins, not with itself, which would have five; xor2 with maj3 at each of its two
-    ∷ forms wide ((0 ∷ 0 ∷ 1 ∷ []) ∷ (0 ∷ 0 ∷ 2 ∷ []) ∷ (0 ∷ 1 ∷ 1 ∷ []) ∷ (0 ∷ 1 ∷ 2 ∷ []) ∷ (0 ∷ 2 ∷ 1 ∷ []) ∷ (0 ∷ 2 ∷ 2 ∷ [])
+    forms wide ((0 ∷ 0 ∷ 1 ∷ []) ∷ (0 ∷ 0 ∷ 2 ∷ []) ∷ (0 ∷ 1 ∷ 1 ∷ []) ∷ (0 ∷ 1 ∷ 2 ∷ []) ∷ (0 ∷ 2 ∷ 1 ∷ []) ∷ (0 ∷ 2 ∷ 2 ∷ [])
     ∷ (1 ∷ 0 ∷ 0 ∷ []) ∷ (1 ∷ 0 ∷ 1 ∷ []) ∷ (1 ∷ 0 ∷ 2 ∷ []) ∷ (1 ∷ 1 ∷ 0 ∷ []) ∷ (1 ∷ 1 ∷ 1 ∷ []) ∷ (1 ∷ 1 ∷ 2 ∷ [])
     ∷ (2 ∷ 0 ∷ 0 ∷ []) ∷ (2 ∷ 0 ∷ 1 ∷ []) ∷ (2 ∷ 0 ∷ 2 ∷ []) ∷ [])
-    ∷ forms [] []
+    ∷ []
+    ))
+unfolding all pairHolds library with graphB graphC listingPaired uneven wide many text
+three-pins-hold = tt
+
+pub three-root-hold : T (all pairHolds (
+    -- maj3 with xor2 at each of its pins, and no pair has a listed table
+    forms (text "cell pins table area d0 d1 d2 d3\nmaj3 3 00e8 7 1 2 3 0\nxor2 2 0006 3 10 20 0 0\n")
+    ((0 ∷ 0 ∷ 1 ∷ []) ∷ (0 ∷ 1 ∷ 1 ∷ []) ∷ (0 ∷ 2 ∷ 1 ∷ []) ∷ (1 ∷ 0 ∷ 0 ∷ []) ∷ (1 ∷ 0 ∷ 1 ∷ []) ∷ (1 ∷ 1 ∷ 0 ∷ []) ∷ (1 ∷ 1 ∷ 1 ∷ []) ∷ [])
+    ∷ []
+    ))
+unfolding all pairHolds text
+three-root-hold = tt
+
+pub all-kept-hold : T (all pairHolds (
     -- "all pairs are kept": two buffers in a row have the listed buffer's table
-    ∷ forms (text "cell pins table area d0 d1 d2 d3\nbuf 1 0002 1 5 0 0 0\n") ((0 ∷ 0 ∷ 0 ∷ []) ∷ [])
+    forms (text "cell pins table area d0 d1 d2 d3\nbuf 1 0002 1 5 0 0 0\n") ((0 ∷ 0 ∷ 0 ∷ []) ∷ [])
+    ∷ []
+    ))
+unfolding all pairHolds library with graphB graphC listingPaired uneven wide many text
+all-kept-hold = tt
+
+pub joined-hold : T (all pairHolds (
     -- not of a nand, which is an and; a nand with one pin complemented; !(a · !(b · c)) and !(!(a · b) · c)
-    ∷ joins library 0 0 1 2 0x8 3 (30 ∷ 30 ∷ 0 ∷ 0 ∷ [])
+    joins library 0 0 1 2 0x8 3 (30 ∷ 30 ∷ 0 ∷ 0 ∷ [])
     ∷ joins library 1 0 0 2 0xb 3 (30 ∷ 20 ∷ 0 ∷ 0 ∷ [])
     ∷ joins library 1 1 0 2 0xd 3 (20 ∷ 30 ∷ 0 ∷ 0 ∷ [])
     ∷ joins library 1 1 1 3 0xd5 4 (20 ∷ 40 ∷ 40 ∷ 0 ∷ [])
@@ -99,7 +127,6 @@ pairCases =
     ∷ refuses false (many 4) "aag 0 0 0 0 0\n" 0 10 0
     ∷ refuses true (many 4 ++ text "x\n") "" 0 4 334
     ∷ []
-
-pub pairs-hold : T (all pairHolds pairCases)
-unfolding all pairHolds pairCases
-pairs-hold = tt
+    ))
+unfolding all pairHolds library with graphB graphC listingPaired uneven wide many text
+joined-hold = tt

@@ -1,14 +1,12 @@
 -- Request N10, "Delays given as a range", by computing: the `# timing` lines, either names line, 6 and 27, and the lines read back.
 use Rattle.base.specs.{ℕ, Bool, true, false, _&&_, Option, none, some, List, [], _∷_, _++_, map, T, length}
 use Rattle.model.specs.{all, same, each, text, refused, workAfter, TimingLine, readTimings}
-use Rattle.cases.proofs.{Case, prints, printsTimed, gives, refuses, lacks, suffices, holds, sameCuts, library, listing, with, graphB}
+use Rattle.cases.proofs.{prints, printsTimed, gives, refuses, lacks, suffices, holds, sameCuts, library, listing, with, graphB}
 use Rattle.cases.proofs.{graphC, arrives, longer, ranged}
 
 -- ---- the lines
 
-unfoldable pub timed : List Case
-unfolding library listing with graphB graphC arrives longer ranged text
-timed =
+pub timed-hold : T (all holds (
     -- B: from 15 + 5 at the lowest to 20 + 10
     prints ranged graphB (listing ++ text "# timing o0 20 30\n") 2 3 30
     -- where no delay has room the ends meet
@@ -36,16 +34,13 @@ timed =
     ∷ prints (text "cell pins table area d0 d1 d2 d3 l0 l1 l2 l3" ++ (13 ∷ 10 ∷ text "inv 1 0001 1 10 0 0 0 5 0 0 0" ++ (13 ∷ 10 ∷ text "nand2 2 0007 2 20 20 0 0 10 15 0 0\n"))) graphB
     (listing ++ text "# timing o0 20 30\n") 2 3 30
     ∷ []
-
-pub timed-hold : T (all holds timed)
-unfolding all holds timed
+    ))
+unfolding all holds library listing with graphB graphC arrives longer ranged text
 timed-hold = tt
 
 -- ---- 2, 4, 6 and 27
 
-unfoldable pub refusals : List Case
-unfolding library with graphB longer ranged text
-refusals =
+pub refusals-hold : T (all holds (
     -- "2 takes either names line", and no other
     refuses (text "cell pins table area d0 d1 d2 d3 l0 l1 l2 l3") graphB 2 0
     ∷ refuses (text "cell pins table area d0 d1 d2 d3 l0 l1 l2\n") graphB 2 0
@@ -75,9 +70,8 @@ refusals =
     ∷ refuses (longer "inv 1 0001 1 10 0 0 0 11 0 0 0\n") "" 27 45
     ∷ lacks (longer "inv 1 0001 1 10 0 0 0 11 0 0 0\n") graphB 0 65536 27 45
     ∷ []
-
-pub refusals-hold : T (all holds refusals)
-unfolding all holds refusals
+    ))
+unfolding all holds library with graphB longer ranged text
 refusals-hold = tt
 
 -- "Work memory is unchanged by every refusal tried up to 10": 27 is one of them

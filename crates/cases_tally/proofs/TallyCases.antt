@@ -66,9 +66,9 @@ unfoldable pub once : Tally
 unfolding tallied
 once = tallied (1 ∷ 1 ∷ []) (1 ∷ 2 ∷ []) (1 ∷ 1 ∷ []) 1
 
-unfoldable pub netlists : List Case
+unfoldable pub counted : List Case
 unfolding library listing ranged linesB with once tallied emptyTally text
-netlists =
+counted =
     -- one inv of area 1, one nand2 of area 2, each in one netlist
     counts library emptyTally listing once
     ∷ counts library once listing (tallied (2 ∷ 2 ∷ []) (2 ∷ 4 ∷ []) (2 ∷ 2 ∷ []) 2)
@@ -83,15 +83,36 @@ netlists =
     ∷ counts library emptyTally (with 4 ".gate nand2 A=sp1 B=p2 O=sm3\n") once
     ∷ refuses library emptyTally (with 5 ".names sp3 o0\n") 29 84
     ∷ refuses library emptyTally (with 1 ".inputs p1 sp2\n") 29 11
+    ∷ []
+
+pub counted-hold : T (all holds counted)
+unfolding all holds counted
+counted-hold = tt
+
+pub timings-hold : T (all holds (
     -- under the longer names line a timing line for each output is due
-    ∷ counts ranged emptyTally (listing ++ text "# timing o7 0 00\n") once
+    counts ranged emptyTally (listing ++ text "# timing o7 0 00\n") once
     ∷ refuses ranged emptyTally listing 29 134
     ∷ refuses library emptyTally (listing ++ text "# timing o0 20 30\n") 29 134
     ∷ refuses ranged emptyTally (listing ++ text "# gates o0 20 30\n") 29 134
     ∷ refuses ranged emptyTally (listing ++ text ". timing o0 20 30\n") 29 134
     ∷ refuses ranged emptyTally (listing ++ text "# timing p0 20 30\n") 29 134
+    ∷ []
+    ))
+unfolding all holds library listing ranged linesB with once tallied emptyTally text
+timings-hold = tt
+
+pub timing-word-hold : T (all holds (
+    -- its second word, behind a gate of the first cell
+    refuses ranged emptyTally (text ".model top\n.inputs p1\n.outputs o0\n.gate inv A=p1 O=m1\n.names m1 o0\n1 1\n.end\n# gates 1 area 1 arrival 10\n# gates o0 10 10\n") 29 104
+    ∷ []
+    ))
+unfolding all holds ranged emptyTally text
+timing-word-hold = tt
+
+pub broken-lines-hold : T (all holds (
     -- each kind of line broken, at its own place
-    ∷ refuses library emptyTally (with 0 ".model Top\n") 29 0
+    refuses library emptyTally (with 0 ".model Top\n") 29 0
     ∷ refuses library emptyTally (with 1 ".inputs p1 m2\n") 29 11
     ∷ refuses library emptyTally (with 1 ".inputs p1 p\n") 29 11
     ∷ refuses library emptyTally (with 2 ".outputs p0\n") 29 25
@@ -120,14 +141,19 @@ netlists =
     ∷ refuses library emptyTally (listing ++ text "\n") 29 134
     ∷ refuses library emptyTally (with 6 "1 1\r\n") 29 97
     ∷ refuses library emptyTally [] 29 0
+    ∷ []
+    ))
+unfolding all holds library listing ranged linesB with once tallied emptyTally text
+broken-lines-hold = tt
+
+pub lengths-hold : T (all holds (
     -- 1, of either text
-    ∷ refuses library emptyTally (replicate 65537 10) 1 0
+    refuses library emptyTally (replicate 65537 10) 1 0
     ∷ refuses (replicate 65537 10) emptyTally listing 1 0
     ∷ []
-
-pub netlists-hold : T (all holds netlists)
-unfolding all holds netlists
-netlists-hold = tt
+    ))
+unfolding all holds library listing ranged linesB with once tallied emptyTally text
+lengths-hold = tt
 
 -- ---- 28, and the report
 
@@ -136,9 +162,7 @@ unfoldable pub five : List ℕ
 unfolding text
 five = text "cell pins table area d0 d1 d2 d3\na 0 0000 1 0 0 0 0\nb 0 0000 1 0 0 0 0\nc 0 0000 1 0 0 0 0\nd 0 0000 1 0 0 0 0\ne 0 0000 1 0 0 0 0\n"
 
-unfoldable pub figures : List Case
-unfolding library listing once tallied emptyTally five text
-figures =
+pub figures-hold : T (all holds (
     -- "28 when 64 netlists are counted already": whatever the netlist, and after the library's refusals
     counts library (tallied [] [] [] 63) listing (tallied (1 ∷ 1 ∷ []) (1 ∷ 2 ∷ []) (1 ∷ 1 ∷ []) 64)
     ∷ refuses library (tallied [] [] [] 64) listing 28 64
@@ -162,10 +186,25 @@ figures =
     -- the sums go over the listed cells
     ∷ reports library (tallied (0 ∷ 0 ∷ 7 ∷ []) [] [] 0) 100 "inv 0 0 0\nnand2 0 0 0\ntotal 0 0 0\n"
     ∷ []
-
-pub figures-hold : T (all holds figures)
-unfolding all holds figures
+    ))
+unfolding all holds library listing once tallied emptyTally five text
 figures-hold = tt
+
+pub turned-hold : T (all holds (
+    -- the gates stand before the area: each cell occurs in every netlist
+    reports five (tallied (3 ∷ 14 ∷ 15 ∷ 92 ∷ 65 ∷ []) (35 ∷ 89 ∷ 79 ∷ 32 ∷ 38 ∷ []) (9 ∷ 9 ∷ 9 ∷ 9 ∷ 9 ∷ []) 9) 100 "a 3 35 9\nb 14 89 9\nc 15 79 9\nd 92 32 9\ne 65 38 9\ntotal 189 273 9\n"
+    ∷ []
+    ))
+unfolding all holds tallied five
+turned-hold = tt
+
+pub everywhere-hold : T (all holds (
+    -- "in how many netlists it occurs": each gate has the area 1
+    reports five (tallied (3 ∷ 14 ∷ 15 ∷ 92 ∷ 65 ∷ []) (3 ∷ 14 ∷ 15 ∷ 92 ∷ 65 ∷ []) (4 ∷ 6 ∷ 2 ∷ 7 ∷ 8 ∷ []) 9) 100 "a 3 3 4\nb 14 14 6\nc 15 15 2\nd 92 92 7\ne 65 65 8\ntotal 189 189 9\n"
+    ∷ []
+    ))
+unfolding all holds tallied five
+everywhere-hold = tt
 
 -- "A refused netlist adds nothing", and takes nothing away
 pub refused-kept : T (sameTally (countedAnswer once (countText once library []) .tally) once)

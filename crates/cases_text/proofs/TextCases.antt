@@ -25,10 +25,9 @@ graphLater = "aag 7 1 0 0 6\n2\n4 2 2\n6 4 2\n8 6 2\n10 8 8\n14 10 10\n12 14 14\
 unfoldable pub graphEither : String
 graphEither = "aag 7 1 0 0 6\n2\n4 2 2\n6 4 2\n8 6 2\n10 8 8\n14 10 10\n12 10 10\n"
 
--- the edges of each refusal from 2 on
-unfoldable pub refusals : List Case
-unfolding library with graphB graph18 graph19 graphLater graphEither cellLines listing text
-refusals =
+-- The edges of each refusal from 2 on, in lists: a wrong reading is refused by its own.
+
+pub library-lines-hold : T (all holds (
     -- 2
     refuses [] graphB 2 0
     ∷ refuses (text "cell pins table area d0 d1 d2 d3") graphB 2 0
@@ -42,7 +41,7 @@ refusals =
     ∷ map (λ (s : String). refuses (with s) graphB 4 (length library)) ("x 0 0000 1 0 0 0\n" ∷ "x 0 0000 1 0 0 0 0 0\n" ∷
     "x  0 0000 1 0 0 0 0\n" ∷ "x 0 0000 1 0 0 0 00\n" ∷ "x 01 0000 1 0 0 0 0\n" ∷ "x 5 0000 1 0 0 0 0\n" ∷ "x 0 0000 65536 0 0 0 0\n" ∷
     "x 0 000F 1 0 0 0 0\n" ∷ "x 0 000g 1 0 0 0 0\n" ∷ "x 0 000` 1 0 0 0 0\n" ∷ "x 0 000: 1 0 0 0 0\n" ∷ "x 0 000/ 1 0 0 0 0\n" ∷
-    "x 0 00000 1 0 0 0 0\n" ∷ "abcdefghi 0 0000 1 0 0 0 0\n" ∷ "1x 0 0000 1 0 0 0 0\n" ∷ "_x 0 0000 1 0 0 0 0\n" ∷ [])
+    "x 0 00000 1 0 0 0 0\n" ∷ "abcdefghi 0 0000 1 0 0 0 0\n" ∷ [])
     ++ (gives (with "Zz_Aa9 0 0000 1 0 0 0 0\n") graphB 2 30
     ∷ refuses (with "x 0 0000 1 0 0 0 0") graphB 4 (length library)
     ∷ refuses (with "\n") graphB 4 (length library)
@@ -54,17 +53,52 @@ refusals =
     ∷ refuses (with "x 0 0002 1 0 0 0 0\n") graphB 6 (length library)
     ∷ refuses (with "x 1 0004 1 0 0 0 0\n") graphB 6 (length library)
     ∷ refuses (with "x 1 0002 1 0 5 0 0\n") graphB 6 (length library)
+    ∷ [])
+    ))
+unfolding all holds library with graphB graph18 graph19 graphLater graphEither cellLines listing text
+library-lines-hold = tt
+
+pub first-letters-hold : T (all holds (
+    -- "a letter first"
+    map (λ (s : String). refuses (with s) graphB 4 (length library)) ("1x 0 0000 1 0 0 0 0\n" ∷ "_x 0 0000 1 0 0 0 0\n" ∷ [])
+    ))
+unfolding all holds library with graphB text
+first-letters-hold = tt
+
+unfoldable pub letters : List Case
+unfolding library with graphB text
+letters =
+    -- letters of either case, digits and underscores
+    refuses (with "Zz_Aa9 0 0002 1 0 0 0 0\n") graphB 6 (length library)
+    ∷ []
+
+pub letters-hold : T (all holds letters)
+unfolding all holds letters
+letters-hold = tt
+
+pub headers-hold : T (all holds (
     -- 7, 8, 9
-    ∷ map (λ (s : String). refuses library s 7 0) ("" ∷ "aag 0 0 0 0 0" ∷ "aag 0 0 0 0\n" ∷ "aag 0 0 0 0 0 0\n" ∷ "aigx 0 0 0 0 0\n" ∷
+    map (λ (s : String). refuses library s 7 0) ("" ∷ "aag 0 0 0 0 0" ∷ "aag 0 0 0 0\n" ∷ "aag 0 0 0 0 0 0\n" ∷ "aigx 0 0 0 0 0\n" ∷
     "AIG 0 0 0 0 0\n" ∷ "aig\n" ∷ "aig 0 0 0 0 0" ∷ "aag 65536 0 0 0 0\n" ∷ [])
-    ++ (refuses library "aag 1 0 1 0 0\n2 2\n" 8 0
+    ))
+unfolding all holds library with graphB graph18 graph19 graphLater graphEither cellLines listing text
+headers-hold = tt
+
+pub limits-hold : T (all holds (
+    refuses library "aag 1 0 1 0 0\n2 2\n" 8 0
     ∷ refuses library "aag 4096 0 1 0 0\n" 8 0
     ∷ refuses library "aag 4096 0 0 0 0\n" 9 0
     ∷ refuses library "aag 0 0 0 4097 0\n" 9 0
     ∷ refuses library "aag 0 0 0 4096 0\n" 11 17
     ∷ refuses library "aag 1 1 0 0 1\n2\n2 0 0\n" 9 0
+    ∷ []
+    ))
+unfolding all holds library with graphB graph18 graph19 graphLater graphEither cellLines listing text
+limits-hold = tt
+
+pub due-lines-hold : T (all holds (
     -- 10
-    ∷ lacks library "aag 4095 0 0 0 0\n" 507903 0 10 0
+    lacks library "aag 4095 0 0 0 0\n" 507903 0 10 0
     ∷ lacks library graphB 496 65536 10 0
     -- 11
     ∷ refuses library "aag 3 2 0 1 1\n2\n4\n6\n" 11 20
@@ -72,8 +106,14 @@ refusals =
     ∷ refuses library "aag 3 2 0 1 1\n2\n04\n6\n6 2 4\n" 11 16
     ∷ refuses library "aag 3 2 0 1 1\n2\n4\n6\n6 2 4 \n" 11 20
     ∷ refuses library "aag 3 2 0 1 1\n2\n4\n65536\n6 2 4\n" 11 18
+    ∷ []
+    ))
+unfolding all holds library with graphB graph18 graph19 graphLater graphEither cellLines listing text
+due-lines-hold = tt
+
+pub literals-hold : T (all holds (
     -- 12, then 13, line by line
-    ∷ refuses library "aag 3 2 0 1 1\n2\n4\n8\n6 2 4\n" 12 18
+    refuses library "aag 3 2 0 1 1\n2\n4\n8\n6 2 4\n" 12 18
     ∷ refuses library "aag 3 2 0 1 1\n2\n0\n6\n6 2 4\n" 12 16
     ∷ refuses library "aag 3 2 0 1 1\n2\n5\n6\n6 2 4\n" 12 16
     ∷ refuses library "aag 3 2 0 1 1\n2\n4\n6\n7 2 4\n" 12 20
@@ -81,16 +121,34 @@ refusals =
     ∷ refuses library "aag 3 2 0 1 1\n2\n4\n6\n6 2 8\n" 12 20
     ∷ refuses library "aag 3 2 0 1 1\n2\n2\n6\n6 2 4\n" 13 16
     ∷ refuses library "aag 3 2 0 1 1\n2\n4\n6\n4 2 4\n" 13 20
+    ∷ []
+    ))
+unfolding all holds library with graphB graph18 graph19 graphLater graphEither cellLines listing text
+literals-hold = tt
+
+pub undefined-hold : T (all holds (
     -- 14: outputs stand before ANDs; a variable may be defined nowhere
-    ∷ refuses library "aag 4 2 0 1 1\n2\n4\n8\n6 2 8\n" 14 18
+    refuses library "aag 4 2 0 1 1\n2\n4\n8\n6 2 8\n" 14 18
     ∷ refuses library "aag 4 2 0 1 1\n2\n4\n6\n6 2 8\n" 14 20
     ∷ gives library "aag 4 2 0 1 1\n2\n4\n6\n6 2 4\n" 2 30
+    ∷ []
+    ))
+unfolding all holds library with graphB graph18 graph19 graphLater graphEither cellLines listing text
+undefined-hold = tt
+
+pub unplaced-hold : T (all holds (
     -- 15: also an AND that only waits behind a circle
-    ∷ refuses library "aag 3 0 0 0 3\n2 4 4\n4 6 6\n6 4 4\n" 15 1
+    refuses library "aag 3 0 0 0 3\n2 4 4\n4 6 6\n6 4 4\n" 15 1
     ∷ refuses library "aag 2 1 0 0 1\n2\n4 4 2\n" 15 2
     ∷ refuses library "aag 2 0 0 0 2\n4 2 2\n2 4 4\n" 15 1
+    ∷ []
+    ))
+unfolding all holds library with graphB graph18 graph19 graphLater graphEither cellLines listing text
+unplaced-hold = tt
+
+pub cuts-and-covers-hold : T (all holds (
     -- 16
-    ∷ gives library graph18 0 0
+    gives library graph18 0 0
     ∷ refuses library graph19 16 6
     ∷ refuses library graphLater 16 7
     ∷ refuses library graphEither 16 6
@@ -100,12 +158,10 @@ refusals =
     -- 18, and the words that are enough
     ∷ suffices library graphB 497 134 2 30
     ∷ lacks library graphB 497 133 18 134
-    ∷ []))
-
--- each refusal is given where it is due
-pub refusals-hold : T (all holds refusals)
-unfolding all holds refusals
-refusals-hold = tt
+    ∷ []
+    ))
+unfolding all holds library with graphB graph18 graph19 graphLater graphEither cellLines listing text
+cuts-and-covers-hold = tt
 
 -- ---- the binary form
 
@@ -121,9 +177,7 @@ binaryF = text "aig 6 3 0 0 3\n" ++ (4 ∷ 2 ∷ 2 ∷ 2 ∷ 2 ∷ 2 ∷ [])
 
 -- "Each AND is two differences, left minus first operand and first minus second. A difference is in groups of seven bits, lowest first, the top bit
 -- set on all but the last byte."
-unfoldable pub binaries : List Case
-unfolding library listing text headB head64 binaryF
-binaries =
+pub binaries-hold : T (all holds (
     -- the binary forms of B and of F
     printsBytes library (headB ++ (2 ∷ 2 ∷ [])) listing 2 3 30
     ∷ means (headB ++ (2 ∷ 2 ∷ [])) "aag 3 2 0 1 1\n2\n4\n6\n6 4 2\n"
@@ -146,15 +200,12 @@ binaries =
     ∷ hasAnd (head64 ++ (128 ∷ 1 ∷ 0 ∷ [])) 64 0 0
     ∷ hasAnd (head64 ++ (1 ∷ 255 ∷ 0 ∷ [])) 64 127 0
     ∷ []
-
-pub binaries-hold : T (all holds binaries)
-unfolding all holds binaries
+    ))
+unfolding all holds library listing text headB head64 binaryF
 binaries-hold = tt
 
 -- 19 to 21 in their places, and 11 and 12 of output lines
-unfoldable pub binaryRefusals : List Case
-unfolding text headB head64
-binaryRefusals =
+pub binary-refusals-hold : T (all holds (
     -- 19: after 8 and 9, before 10
     refusesBytes (text "aig 4 2 0 1 1\n6\n" ++ (2 ∷ 2 ∷ [])) 32768 19 0
     ∷ refusesBytes (text "aig 4 2 0 1 1\n6\n" ++ (2 ∷ 2 ∷ [])) 0 19 0
@@ -193,9 +244,8 @@ binaryRefusals =
     ∷ refusesBytes (headB ++ (0 ∷ 128 ∷ 128 ∷ [])) 32768 21 16
     ∷ refusesBytes (headB ++ (7 ∷ [])) 32768 21 16
     ∷ []
-
-pub binary-refusals-hold : T (all holds binaryRefusals)
-unfolding all holds binaryRefusals
+    ))
+unfolding all holds text headB head64
 binary-refusals-hold = tt
 
 -- ---- either line end
@@ -220,9 +270,7 @@ unfolding text each below decimal
 longLines = text "cell pins table area d0 d1 d2 d3\r\n" ++ each (λ (k : ℕ). 99 ∷ decimal k ++ text " 0 0000 1 0 0 0 0\r\n") (below 32)
 
 -- "Accept either ending, line by line": the marked texts again; "Offsets still count every byte. A lone 13 is still a fault of form."
-unfoldable pub ends : List Case
-unfolding library with listing longLibrary mixedLibrary longWith longLines graphB graphC headB text
-ends =
+pub long-ends-hold : T (all holds (
     -- A to K, all lines long, or some
     gives longLibrary "aag 0 0 0 0 0\r\n" 0 0
     ∷ prints longLibrary "aag 3 2 0 1 1\r\n2\r\n4\r\n6\r\n6 2 4\r\n" listing 2 3 30
@@ -241,23 +289,42 @@ ends =
     ∷ refuses longLibrary "aag 6 1 0 0 5\r\n2\r\n4 2 2\r\n6 4 2\r\n8 6 2\r\n10 8 8\r\n12 10 10\r\n" 16 6
     ∷ lacks longLibrary "aag 3 2 0 1 1\r\n2\r\n4\r\n6\r\n6 2 4\r\n" 496 65536 10 0
     ∷ lacks longLibrary "aag 3 2 0 1 1\r\n2\r\n4\r\n6\r\n6 2 4\r\n" 497 133 18 134
+    ∷ []
+    ))
+unfolding all holds library with listing longLibrary mixedLibrary longWith longLines graphB graphC headB text
+long-ends-hold = tt
+
+pub lone-thirteen-hold : T (all holds (
     -- a lone 13: in the names line, in a cell line's first, inner and last field, in the header and the due lines
-    ∷ refuses (text "cell pins table area d0 d1 d2 d3\r") graphB 2 0
+    refuses (text "cell pins table area d0 d1 d2 d3\r") graphB 2 0
     ∷ refuses (text "cell\r pins table area d0 d1 d2 d3\n") graphB 2 0
-    ∷ refuses (text "cell pins table area d0 d1 d2 d3\r\r\n") graphB 2 0
     ∷ refuses (text "\r\n") graphB 2 0
     ∷ map (λ (s : String). refuses (longWith s) graphB 4 83) ("x\r 0 0000 1 0 0 0 0\n" ∷ "x 0 0000\r 1 0 0 0 0\n" ∷ "x 0 0000 1 0 0 0 0\r" ∷
     "x 0 0000 1 0 0 0 0\r\r\n" ∷ "x 0 0000 1 0 0 0 0\rx 0 0000 1 0 0 0 0\n" ∷ "\r\n" ∷ [])
     ++ (refuses library "aag 3 2 0 1 1\r2\n" 7 0
     ∷ refuses library "aag 0 0 0 0 0\r" 7 0
-    ∷ refuses library "aag 0 0 0 0 0\r\r\n" 7 0
     ∷ refuses library "aag\r 0 0 0 0 0\n" 7 0
     ∷ refuses library "aag 3 2 0 1 1\r\n2\r4\n6\n6 2 4\n" 11 15
     ∷ refuses library "aag 3 2 0 1 1\r\n2\r\n4\r\r\n6\n6 2 4\n" 11 18
     ∷ refuses library "aag 3 2 0 1 1\r\n2\r\n4\r\n6\r\n6 2 4\r" 11 24
     ∷ refuses library "aag 3 2 0 1 1\r\n2\r\n4\r\n6\r\n" 11 24
+    ∷ [])
+    ))
+unfolding all holds library with listing longLibrary mixedLibrary longWith longLines graphB graphC headB text
+lone-thirteen-hold = tt
+
+pub two-thirteens-hold : T (all holds (
+    -- one 13 alone belongs to a line's end
+    refuses (text "cell pins table area d0 d1 d2 d3\r\r\n") graphB 2 0
+    ∷ refuses library "aag 0 0 0 0 0\r\r\n" 7 0
+    ∷ []
+    ))
+unfolding all holds library graphB text
+two-thirteens-hold = tt
+
+pub places-behind-hold : T (all holds (
     -- what stands behind the last AND line isn't read, a lone 13 neither
-    ∷ gives library "aag 0 0 0 0 0\r\n\r" 0 0
+    gives library "aag 0 0 0 0 0\r\n\r" 0 0
     -- places behind long ends: 3, 5, 6, 12, 13, 14
     ∷ gives longLines "aag 0 0 0 0 0\n" 0 0
     ∷ refuses (longLines ++ text "\r\n") graphB 3 728
@@ -271,12 +338,10 @@ ends =
     ∷ refusesBytes (text "aig 3 2 0 1 1\r\n6\n" ++ (2 ∷ 2 ∷ [])) 32768 7 0
     ∷ refusesBytes (text "aig 3 2 0 2 1\n6\n6\r\n" ++ (2 ∷ 2 ∷ [])) 32768 11 16
     ∷ hasAnd (text "aig 13 12 0 0 1\n" ++ (13 ∷ 10 ∷ [])) 13 13 3
-    ∷ [])
-
--- both ends are read, and nothing else is one
-pub ends-hold : T (all holds ends)
-unfolding all holds ends
-ends-hold = tt
+    ∷ []
+    ))
+unfolding all holds library with listing longLibrary mixedLibrary longWith longLines graphB graphC headB text
+places-behind-hold = tt
 
 -- where lines begin, and behind the last where the text ends; and which graphs are in the `aig` form by their first word
 pub starts-are : T (

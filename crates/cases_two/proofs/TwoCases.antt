@@ -44,9 +44,7 @@ unfoldable pub case : List ℕ → ℕ → Channel → Channel → Due → Due �
 case l words a b x y = record { call = record { paired = false; library = l; words = words; first = a; second = b }; first = x; second = y }
 
 -- B and C need 497 words each, and the graph of I 125
-unfoldable pub twoCases : List TwoCase
-unfolding library with graphB graphC headB arrives text on timedOn onBytes case
-twoCases =
+pub two-cases-hold : T (all twoHolds (
     -- both mapped, with words for both and no more; one word less is 10 for both, also where one need alone is met
     case (with "nor2 2 0001 2 35 35 0 0\n") 994 (on graphB 65536) (on graphC 65536) (gives 2 30) (gives 1 35)
     ∷ case (with "nor2 2 0001 2 35 35 0 0\n") 993 (on graphB 65536) (on graphC 65536) (refuses 10 0) (refuses 10 0)
@@ -88,9 +86,8 @@ twoCases =
     ∷ case library 994 (on graphB 65536) (timedOn graphB (arrives "0 100\n")) (gives 2 30) (gives 2 130)
     ∷ case library 994 (on graphB 65536) (onBytes (headB ++ (2 ∷ 2 ∷ []))) (gives 2 30) (gives 2 30)
     ∷ []
-
-pub two-cases-hold : T (all twoHolds twoCases)
-unfolding all twoHolds twoCases
+    ))
+unfolding all twoHolds library with graphB graphC headB arrives text on timedOn onBytes case
 two-cases-hold = tt
 
 -- B in both channels, with so many bytes lent to each

@@ -7,7 +7,7 @@ ghost use Rattle.base.specs.{_≡_, List, ℕ, _+_, _*_, _≤_, _<_, min, lengt
 ghost use Rattle.model.specs.{each, below, cellsOf, cellAt, joins, pairDelays};
 ghost use Rattle.base_text.specs.{Wrote};
 ghost use Rattle.cells_pairs.specs.{Joinable, Coded, codeFor, innerCodes, pinCodes, pairCodes, cellsBy, nameFrom, cellBytes};
-ghost use Rattle.cells_pairs.specs.{cellFrom, codeBytes, listedBytes, bookOf, countIn, lineCell, codePlace, codeIn};
+ghost use Rattle.cells_pairs.specs.{cellFrom, codeBytes, bookOf, countIn, lineCell, codePlace, codeIn};
 
 // The listed cells, and the numbers of the pairs, as bytes: made once for each call and lent to what runs for each gate, so that no library is
 // copied there.
@@ -53,24 +53,7 @@ fn put_cells(book: &mut [u8], at: usize, lib: Library) -> usize
     next
 }
 
-// How many cells there are, and each.
-fn put_listed(book: &mut [u8], lib: Library) -> usize
-    requires { ⌜ Joinable lib × (385 ≤ length (now book)) ⌝ }
-    ensures { λ r. ⌜ Wrote (now (book .entry)) (now (book .exit)) 0 r (listedBytes (cellsOf lib)) ⌝ }
-{
-    let at = base_text::put_byte(book, 0, lib.n as u8);
-    put_cells(book, at, lib)
-}
-
-// A pair's number, the low byte first.
-fn put_pair(book: &mut [u8], at: usize, k: u16) -> usize
-    requires { ⌜ at + 2 ≤ length (now book) ⌝ }
-    ensures { λ r. ⌜ Wrote (now (book .entry)) (now (book .exit)) at r (codeBytes k) ⌝ }
-{
-    let bytes = [(k % 256) as u8, (k / 256) as u8];
-    base_text::put_bytes(book, at, &bytes)
-}
-
+// The pairs' numbers, the low byte of each first.
 fn put_codes(book: &mut [u8], at: usize, codes: &[u16]) -> usize
     requires { ⌜ at + length (each codeBytes (now codes)) ≤ length (now book) ⌝ }
     ensures { λ r. ⌜ Wrote (now (book .entry)) (now (book .exit)) at r (each codeBytes (now (codes .entry))) ⌝ }
@@ -79,18 +62,20 @@ fn put_codes(book: &mut [u8], at: usize, codes: &[u16]) -> usize
     let mut i: usize = 0;
     while i < codes.len() {
         let k = codes[i];
-        next = put_pair(book, next, k);
+        let bytes = [(k % 256) as u8, (k / 256) as u8];
+        next = base_text::put_bytes(book, next, &bytes);
         i += 1;
     }
     next
 }
 
-// The listed cells, and behind them the numbers of the pairs: "Pairs follow the listed cells".
+// How many cells are listed, each of them, and behind them the numbers of the pairs: "Pairs follow the listed cells".
 pub fn put_book(book: &mut [u8], lib: Library, codes: &[u16]) -> usize
     requires { ⌜ Coded lib (now codes) × (833 ≤ length (now book)) ⌝ }
     ensures { λ r. ⌜ Wrote (now (book .entry)) (now (book .exit)) 0 r (bookOf (cellsOf lib) (now (codes .entry))) ⌝ }
 {
-    let at = put_listed(book, lib);
+    let first = base_text::put_byte(book, 0, lib.n as u8);
+    let at = put_cells(book, first, lib);
     put_codes(book, at, codes)
 }
 
@@ -126,20 +111,11 @@ pub fn code_at(book: &[u8], k: usize) -> usize
     byte(book[at]) + 256 * byte(book[at + 1])
 }
 
-fn name_from(bytes: &[u8]) -> [u8; 8]
-    requires { ⌜ 8 ≤ length (now bytes) ⌝ }
-    ensures { λ r. ⌜ r ≡ nameFrom (now (bytes .entry)) ⌝ }
+fn name_from(w: &[u8]) -> [u8; 8]
+    requires { ⌜ 8 ≤ length (now w) ⌝ }
+    ensures { λ r. ⌜ r ≡ nameFrom (now (w .entry)) ⌝ }
 {
-    [
-        bytes[0],
-        bytes[1],
-        bytes[2],
-        bytes[3],
-        bytes[4],
-        bytes[5],
-        bytes[6],
-        bytes[7],
-    ]
+    [w[0], w[1], w[2], w[3], w[4], w[5], w[6], w[7]]
 }
 
 // The cell of twelve bytes. Its table and delays are not in the book: no line and no figure has them.
@@ -173,10 +149,7 @@ fn joins(root: Cell, inner: Cell) -> bool
     requires { ⌜ (root .pins ≤ 4) × (inner .pins ≤ 4) ⌝ }
     ensures { λ r. ⌜ r ≡ joins root inner ⌝ }
 {
-    if inner.pins < 1 {
-        return false;
-    }
-    root.pins + inner.pins <= 5
+    inner.pins >= 1 && root.pins + inner.pins <= 5
 }
 
 // A pair's number, written if there is such a pair.
@@ -329,11 +302,7 @@ fn join(pin: usize, n: usize, ds: [u16; 4], es: [u16; 4]) -> [u32; 4]
 pub fn widened(ds: [u16; 4]) -> [u32; 4]
     ensures { λ r. ⌜ r ≡ ds ⌝ }
 {
-    let a = long(ds[0]);
-    let b = long(ds[1]);
-    let c = long(ds[2]);
-    let d = long(ds[3]);
-    [a, b, c, d]
+    [long(ds[0]), long(ds[1]), long(ds[2]), long(ds[3])]
 }
 
 pub fn delays_of(lib: Library, codes: &[u16], k: usize) -> [u32; 4]

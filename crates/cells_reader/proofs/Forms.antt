@@ -10,24 +10,28 @@ use Rattle.base_text.specs.{wordAt, endAt, isByte, onNumber, onStep, numberOf, 
 use Rattle.base_text.specs.{lineAt, wordsAt, sepsAt, afterAt, numbersAt}
 use Rattle.base_text.proofs.{past, pastEnd, nth, thenO, found, foundEnd, number-is, number-end-is, table-is, lineFields, ofLength}
 use Rattle.base_text.proofs.{fields-at, numbers-at}
-use Rattle.cells_reader.specs.declared.Figures.{Figures}
 use Rattle.cells_reader.specs.declared.Delays.{Delays}
-use Rattle.cells_reader.specs.declared.Delays.the-variants.{Four, Broken as NoDelays}
+use Rattle.cells_reader.specs.declared.Figures.{Figures}
+use Rattle.cells_reader.specs.declared.Four.{Four}
+use Rattle.cells_reader.specs.declared.Four.the-variants.{Read as FourRead, Broken as NoFour}
 use Rattle.cells_reader.specs.declared.Ranges.{Ranges}
 use Rattle.cells_reader.specs.declared.Ranges.the-variants.{Both, Broken as NoRanges}
-use Rattle.cells_reader.specs.declared.Head.{Head}
-use Rattle.cells_reader.specs.declared.Head.the-variants.{Three, Broken as NoHead}
-use Rattle.cells_reader.specs.declared.FiguresRead.the-variants.{Got, Broken as NoFigures}
 use Rattle.cells_reader.specs.declared.Form.{Form}
 use Rattle.cells_reader.specs.declared.Form.the-variants.{Cell as ACell, Broken as NoForm}
-use Rattle.cells_reader.specs.{delaysAt, highAt, bothAt, oneAt, rangesAt, headAt, figuresAt, formAt, lineCell, onHead, onDelays}
-use Rattle.cells_reader.specs.{onRanges, onFigures, pickFigures}
+use Rattle.cells_reader.specs.{fourOf, delaysAt, onFour, lowsAt, rangesAt, onRanges, pickForm, figuresOf, figuresAt, formAt, lineCell}
 
 -- ---- the readers, by what is found at places that do not hang on it
 
-abbrev delaysOf : Option (List ℕ) → ℕ → Delays
-delaysOf none q = NoDelays
-delaysOf (some ns) q = Four (getD ns 0 0) (getD ns 1 0) (getD ns 2 0) (getD ns 3 0) (record { at = q })
+-- the first four of some numbers, and the next four
+abbrev firstOf : List ℕ → Delays
+firstOf ns = fourOf (getD ns 0 0) (getD ns 1 0) (getD ns 2 0) (getD ns 3 0)
+
+abbrev nextOf : List ℕ → Delays
+nextOf ns = fourOf (getD ns 4 0) (getD ns 5 0) (getD ns 6 0) (getD ns 7 0)
+
+abbrev delaysOf : Option (List ℕ) → ℕ → Four
+delaysOf none q = NoFour
+delaysOf (some ns) q = FourRead (firstOf ns) (record { at = q })
 
 -- how many fields stand behind `d0`
 abbrev pub lastOf : Bool → ℕ
@@ -40,86 +44,80 @@ wholeOf r = suc (suc (suc (suc (lastOf r))))
 
 abbrev rangesOf : Bool → Option (List ℕ) → ℕ → Ranges
 rangesOf r none q = NoRanges
-rangesOf true (some ns) q = Both (getD ns 0 0) (getD ns 1 0) (getD ns 2 0) (getD ns 3 0) (getD ns 4 0) (getD ns 5 0) (getD ns 6 0) (getD ns 7 0) (record { at = q })
-rangesOf false (some ns) q = Both (getD ns 0 0) (getD ns 1 0) (getD ns 2 0) (getD ns 3 0) (getD ns 0 0) (getD ns 1 0) (getD ns 2 0) (getD ns 3 0) (record { at = q })
-
-abbrev headOf : Option ℕ → Option ℕ → Option ℕ → ℕ → Head
-headOf none o2 o3 q = NoHead
-headOf (some p) none o3 q = NoHead
-headOf (some p) (some t) none q = NoHead
-headOf (some p) (some t) (some a) q = Three p t a (record { at = q })
+rangesOf true (some ns) q = Both (firstOf ns) (nextOf ns) (record { at = q })
+rangesOf false (some ns) q = Both (firstOf ns) (firstOf ns) (record { at = q })
 
 module _ (s : List ℕ) where
-  delays-is : (q : ℕ) → delaysAt s q ≡ delaysOf (numbersAt 3 s q) (afterAt 3 s q)
+  delays-is : (q : ℕ) → delaysAt true s q ≡ delaysOf (numbersAt 3 s q) (afterAt 3 s q)
   unfolding delaysAt numbersAt afterAt andThen
   delays-is q = rw (number-is s q 32) (go (found number s q 32))
     where
       last : (a b d r : ℕ) (o : Option ℕ)
-          → onNumber (numberOf o r) (λ d3 c3. Four a b d d3 c3) NoDelays
+          → onNumber (numberOf o r) (λ d3 c3. FourRead (fourOf a b d d3) c3) NoFour
           ≡ delaysOf (andThen (andThen (andThen (onNumber (numberOf o r) (λ n c. some (n ∷ [])) none) (λ ns. some (d ∷ ns))) (λ ns. some (b ∷ ns))) (λ ns. some (a ∷ ns))) r
       last a b d r none = refl
       last a b d r (some x) = refl
 
       third : (a b r : ℕ) (o : Option ℕ)
-          → onNumber (numberOf o r) (λ d2 c2. onNumber (numberEnd s (c2 .at)) (λ d3 c3. Four a b d2 d3 c3) NoDelays) NoDelays
+          → onNumber (numberOf o r) (λ d2 c2. onNumber (numberEnd s (c2 .at)) (λ d3 c3. FourRead (fourOf a b d2 d3) c3) NoFour) NoFour
           ≡ delaysOf (andThen (andThen (onNumber (numberOf o r) (λ n c. andThen (numbersAt 0 s (c .at)) (λ ns. some (n ∷ ns))) none) (λ ns. some (b ∷ ns))) (λ ns. some (a ∷ ns))) (pastEnd s r)
       third a b r none = refl
       third a b r (some d) = rw (number-end-is s r) (last a b d (pastEnd s r) (foundEnd s r))
 
       second : (a r : ℕ) (o : Option ℕ)
-          → onNumber (numberOf o r) (λ d1 c1. onNumber (numberThen s (c1 .at) 32) (λ d2 c2. onNumber (numberEnd s (c2 .at)) (λ d3 c3. Four a d1 d2 d3 c3) NoDelays) NoDelays) NoDelays
+          → onNumber (numberOf o r) (λ d1 c1. onNumber (numberThen s (c1 .at) 32) (λ d2 c2. onNumber (numberEnd s (c2 .at)) (λ d3 c3. FourRead (fourOf a d1 d2 d3) c3) NoFour) NoFour) NoFour
           ≡ delaysOf (andThen (onNumber (numberOf o r) (λ n c. andThen (numbersAt 1 s (c .at)) (λ ns. some (n ∷ ns))) none) (λ ns. some (a ∷ ns))) (pastEnd s (past s r))
       second a r none = refl
       second a r (some b) = rw (number-is s r 32) (third a b (past s r) (found number s r 32))
 
       go : (o : Option ℕ)
-          → onNumber (numberOf o (past s q)) (λ d0 c0. onNumber (numberThen s (c0 .at) 32) (λ d1 c1. onNumber (numberThen s (c1 .at) 32) (λ d2 c2. onNumber (numberEnd s (c2 .at)) (λ d3 c3. Four d0 d1 d2 d3 c3) NoDelays) NoDelays) NoDelays) NoDelays
+          → onNumber (numberOf o (past s q)) (λ d0 c0. onNumber (numberThen s (c0 .at) 32) (λ d1 c1. onNumber (numberThen s (c1 .at) 32) (λ d2 c2. onNumber (numberEnd s (c2 .at)) (λ d3 c3. FourRead (fourOf d0 d1 d2 d3) c3) NoFour) NoFour) NoFour) NoFour
           ≡ delaysOf (onNumber (numberOf o (past s q)) (λ n c. andThen (numbersAt 2 s (c .at)) (λ ns. some (n ∷ ns))) none) (pastEnd s (nth s q 3))
       go none = refl
       go (some a) = rw (number-is s (past s q) 32) (second a (nth s q 2) (found number s (past s q) 32))
 
-  one-is : (q : ℕ) → oneAt s q ≡ rangesOf false (numbersAt 3 s q) (afterAt 3 s q)
-  unfolding oneAt
+  one-is : (q : ℕ) → rangesAt false s q ≡ rangesOf false (numbersAt 3 s q) (afterAt 3 s q)
+  unfolding rangesAt
   one-is q = rw (delays-is q) (go (numbersAt 3 s q))
     where
-      go : (o : Option (List ℕ)) → onDelays (delaysOf o (afterAt 3 s q)) (λ d0 d1 d2 d3 c. Both d0 d1 d2 d3 d0 d1 d2 d3 c) NoRanges ≡ rangesOf false o (afterAt 3 s q)
+      go : (o : Option (List ℕ)) → onFour (delaysOf o (afterAt 3 s q)) (lowsAt false s) NoRanges ≡ rangesOf false o (afterAt 3 s q)
       go none = refl
       go (some ns) = refl
 
   -- the lowest delays behind four delays that were read
-  abbrev behindHigh : Delays → Ranges
-  behindHigh x = onDelays x (λ d0 d1 d2 d3 c. onDelays (delaysAt s (c .at)) (λ l0 l1 l2 l3 e. Both d0 d1 d2 d3 l0 l1 l2 l3 e) NoRanges) NoRanges
+  abbrev behindHigh : Four → Ranges
+  behindHigh x = onFour x (lowsAt true s) NoRanges
 
-  both-is : (q : ℕ) → bothAt s q ≡ rangesOf true (numbersAt 7 s q) (afterAt 7 s q)
-  unfolding bothAt highAt numbersAt afterAt andThen
+  both-is : (q : ℕ) → rangesAt true s q ≡ rangesOf true (numbersAt 7 s q) (afterAt 7 s q)
+  unfolding rangesAt delaysAt numbersAt afterAt andThen
   both-is q = rw (number-is s q 32) (first (past s q) (found number s q 32))
     where
       lows : (a b d e r : ℕ) (o : Option (List ℕ))
-          → onDelays (delaysOf o (afterAt 3 s r)) (λ l0 l1 l2 l3 c. Both a b d e l0 l1 l2 l3 c) NoRanges
+          → onFour (delaysOf o (afterAt 3 s r)) (λ l c. Both (fourOf a b d e) l c) NoRanges
           ≡ rangesOf true (andThen (andThen (andThen (andThen o (λ ns. some (e ∷ ns))) (λ ns. some (d ∷ ns))) (λ ns. some (b ∷ ns))) (λ ns. some (a ∷ ns))) (afterAt 3 s r)
       lows a b d e r none = refl
       lows a b d e r (some ns) = refl
 
       fourth : (a b d r : ℕ) (o : Option ℕ)
-          → behindHigh (onNumber (numberOf o r) (λ d3 c3. Four a b d d3 c3) NoDelays)
+          → behindHigh (onNumber (numberOf o r) (λ d3 c3. FourRead (fourOf a b d d3) c3) NoFour)
           ≡ rangesOf true (andThen (andThen (andThen (onNumber (numberOf o r) (λ n c. andThen (numbersAt 3 s (c .at)) (λ ns. some (n ∷ ns))) none) (λ ns. some (d ∷ ns))) (λ ns. some (b ∷ ns))) (λ ns. some (a ∷ ns))) (afterAt 3 s r)
       fourth a b d r none = refl
       fourth a b d r (some e) = rw (delays-is r) (lows a b d e r (numbersAt 3 s r))
 
       third : (a b r : ℕ) (o : Option ℕ)
-          → behindHigh (onNumber (numberOf o r) (λ d2 c2. onNumber (numberThen s (c2 .at) 32) (λ d3 c3. Four a b d2 d3 c3) NoDelays) NoDelays)
+          → behindHigh (onNumber (numberOf o r) (λ d2 c2. onNumber (numberThen s (c2 .at) 32) (λ d3 c3. FourRead (fourOf a b d2 d3) c3) NoFour) NoFour)
           ≡ rangesOf true (andThen (andThen (onNumber (numberOf o r) (λ n c. andThen (numbersAt 4 s (c .at)) (λ ns. some (n ∷ ns))) none) (λ ns. some (b ∷ ns))) (λ ns. some (a ∷ ns))) (afterAt 4 s r)
       third a b r none = refl
       third a b r (some d) = rw (number-is s r 32) (fourth a b d (past s r) (found number s r 32))
 
       second : (a r : ℕ) (o : Option ℕ)
-          → behindHigh (onNumber (numberOf o r) (λ d1 c1. onNumber (numberThen s (c1 .at) 32) (λ d2 c2. onNumber (numberThen s (c2 .at) 32) (λ d3 c3. Four a d1 d2 d3 c3) NoDelays) NoDelays) NoDelays)
+          → behindHigh (onNumber (numberOf o r) (λ d1 c1. onNumber (numberThen s (c1 .at) 32) (λ d2 c2. onNumber (numberThen s (c2 .at) 32) (λ d3 c3. FourRead (fourOf a d1 d2 d3) c3) NoFour) NoFour) NoFour)
           ≡ rangesOf true (andThen (onNumber (numberOf o r) (λ n c. andThen (numbersAt 5 s (c .at)) (λ ns. some (n ∷ ns))) none) (λ ns. some (a ∷ ns))) (afterAt 5 s r)
       second a r none = refl
       second a r (some b) = rw (number-is s r 32) (third a b (past s r) (found number s r 32))
 
       first : (r : ℕ) (o : Option ℕ)
-          → behindHigh (onNumber (numberOf o r) (λ d0 c0. onNumber (numberThen s (c0 .at) 32) (λ d1 c1. onNumber (numberThen s (c1 .at) 32) (λ d2 c2. onNumber (numberThen s (c2 .at) 32) (λ d3 c3. Four d0 d1 d2 d3 c3) NoDelays) NoDelays) NoDelays) NoDelays)
+          → behindHigh (onNumber (numberOf o r) (λ d0 c0. onNumber (numberThen s (c0 .at) 32) (λ d1 c1. onNumber (numberThen s (c1 .at) 32) (λ d2 c2. onNumber (numberThen s (c2 .at) 32) (λ d3 c3. FourRead (fourOf d0 d1 d2 d3) c3) NoFour) NoFour) NoFour) NoFour)
           ≡ rangesOf true (onNumber (numberOf o r) (λ n c. andThen (numbersAt 6 s (c .at)) (λ ns. some (n ∷ ns))) none) (afterAt 6 s r)
       first r none = refl
       first r (some a) = rw (number-is s r 32) (second a (past s r) (found number s r 32))
@@ -128,35 +126,10 @@ module _ (s : List ℕ) where
   ranges-is true q = both-is q
   ranges-is false q = one-is q
 
-  head-is : (q : ℕ) → headAt s q ≡ headOf (found number s q 32) (found hexTable s (past s q) 32) (found number s (nth s q 2) 32) (nth s q 3)
-  unfolding headAt
-  head-is q = rw (number-is s q 32) (go (found number s q 32))
-    where
-      last : (p t r : ℕ) (o : Option ℕ) → onNumber (numberOf o r) (λ a c2. Three p t a c2) NoHead ≡ headOf (some p) (some t) o r
-      last p t r none = refl
-      last p t r (some a) = refl
-
-      second : (p r : ℕ) (o : Option ℕ) → onNumber (numberOf o r) (λ t c1. onNumber (numberThen s (c1 .at) 32) (λ a c2. Three p t a c2) NoHead) NoHead
-          ≡ headOf (some p) o (found number s r 32) (past s r)
-      second p r none = refl
-      second p r (some t) = rw (number-is s r 32) (last p t (past s r) (found number s r 32))
-
-      go : (o : Option ℕ) → onNumber (numberOf o (past s q)) (λ p c0. onNumber (tableThen s (c0 .at) 32) (λ t c1. onNumber (numberThen s (c1 .at) 32) (λ a c2. Three p t a c2) NoHead) NoHead) NoHead
-          ≡ headOf o (found hexTable s (past s q) 32) (found number s (nth s q 2) 32) (nth s q 3)
-      go none = refl
-      go (some p) = rw (table-is s (past s q) 32) (second p (nth s q 2) (found hexTable s (past s q) 32))
-
-abbrev pickForm : Bool → Form → Form → Form
-pickForm true a b = a
-pickForm false a b = b
-
-abbrev figuresFrom : ℕ → ℕ → ℕ → ℕ → ℕ → ℕ → ℕ → ℕ → ℕ → ℕ → ℕ → Figures
-figuresFrom p t a d0 d1 d2 d3 l0 l1 l2 l3 = record { pins = p; table = t; area = a; d0 = d0; d1 = d1; d2 = d2; d3 = d3; l0 = l0; l1 = l1; l2 = l2; l3 = l3 }
-
 -- the figures of a line, by its delays
-abbrev figuresOf : Bool → ℕ → ℕ → ℕ → List ℕ → Figures
-figuresOf true p t a ns = figuresFrom p t a (getD ns 0 0) (getD ns 1 0) (getD ns 2 0) (getD ns 3 0) (getD ns 4 0) (getD ns 5 0) (getD ns 6 0) (getD ns 7 0)
-figuresOf false p t a ns = figuresFrom p t a (getD ns 0 0) (getD ns 1 0) (getD ns 2 0) (getD ns 3 0) (getD ns 0 0) (getD ns 1 0) (getD ns 2 0) (getD ns 3 0)
+abbrev figuresBy : Bool → ℕ → ℕ → ℕ → List ℕ → Figures
+figuresBy true p t a ns = figuresOf p t a (firstOf ns) (nextOf ns)
+figuresBy false p t a ns = figuresOf p t a (firstOf ns) (firstOf ns)
 
 -- the whole form: the name, its space, three figures, and the delays
 abbrev formOf : Bool → Bool → Bool → Option ℕ → Option ℕ → Option ℕ → Option (List ℕ) → ℕ → ℕ → Form
@@ -166,57 +139,51 @@ formOf k true true none o2 o3 o4 e q = NoForm
 formOf k true true (some p) none o3 o4 e q = NoForm
 formOf k true true (some p) (some t) none o4 e q = NoForm
 formOf k true true (some p) (some t) (some a) none e q = NoForm
-formOf k true true (some p) (some t) (some a) (some ns) e q = pickForm (leb p 4) (ACell e (figuresOf k p t a ns) (record { at = q })) NoForm
+formOf k true true (some p) (some t) (some a) (some ns) e q = pickForm (leb p 4) (ACell e (figuresBy k p t a ns) (record { at = q })) NoForm
 
--- the figures and what is done with them, by the head and the delays
-afterHead : Bool → List ℕ → ℕ → Head → Form
-afterHead k s e h =
-    onFigures
-    (onHead h (λ p t a c. onRanges (rangesAt k s (c .at)) (λ d0 d1 d2 d3 l0 l1 l2 l3 d. pickFigures (leb p 4) (Got (figuresFrom p t a d0 d1 d2 d3 l0 l1 l2 l3) d) NoFigures) NoFigures) NoFigures)
-    (λ f d. ACell e f d) NoForm
-
+-- what is made of the delays behind three figures
 abbrev afterRanges : ℕ → ℕ → ℕ → ℕ → Ranges → Form
-afterRanges p t a e (Both d0 d1 d2 d3 l0 l1 l2 l3 d) = pickForm (leb p 4) (ACell e (figuresFrom p t a d0 d1 d2 d3 l0 l1 l2 l3) d) NoForm
-afterRanges p t a e NoRanges = NoForm
+afterRanges e p t a x = onRanges x (λ d l c. pickForm (leb p 4) (ACell e (figuresOf p t a d l) c) NoForm) NoForm
 
-figures-form : (p t a e : ℕ) (x : Ranges)
-    → onFigures (onRanges x (λ d0 d1 d2 d3 l0 l1 l2 l3 d. pickFigures (leb p 4) (Got (figuresFrom p t a d0 d1 d2 d3 l0 l1 l2 l3) d) NoFigures) NoFigures) (λ f d. ACell e f d) NoForm
-    ≡ afterRanges p t a e x
-figures-form p t a e (Both d0 d1 d2 d3 l0 l1 l2 l3 d) = go (leb p 4)
-  where
-    go : (b : Bool) → onFigures (pickFigures b (Got (figuresFrom p t a d0 d1 d2 d3 l0 l1 l2 l3) d) NoFigures) (λ f c. ACell e f c) NoForm
-        ≡ pickForm b (ACell e (figuresFrom p t a d0 d1 d2 d3 l0 l1 l2 l3) d) NoForm
-    go true = refl
-    go false = refl
-figures-form p t a e NoRanges = refl
-
-ranges-form : (k : Bool) (p t a e q : ℕ) (o : Option (List ℕ)) → afterRanges p t a e (rangesOf k o q) ≡ formOf k true true (some p) (some t) (some a) o e q
+ranges-form : (k : Bool) (p t a e q : ℕ) (o : Option (List ℕ)) → afterRanges e p t a (rangesOf k o q) ≡ formOf k true true (some p) (some t) (some a) o e q
 ranges-form k p t a e q none = refl
 ranges-form true p t a e q (some ns) = refl
 ranges-form false p t a e q (some ns) = refl
 
-head-form : (k : Bool) (s : List ℕ) (e r : ℕ) (o1 o2 o3 : Option ℕ) → afterHead k s e (headOf o1 o2 o3 r) ≡ formOf k true true o1 o2 o3 (numbersAt (lastOf k) s r) e (afterAt (lastOf k) s r)
-unfolding afterHead
-head-form k s e r none o2 o3 = refl
-head-form k s e r (some p) none o3 = refl
-head-form k s e r (some p) (some t) none = refl
-head-form k s e r (some p) (some t) (some a) =
-    figures-form p t a e (rangesAt k s r) ∙ ap (afterRanges p t a e) (ranges-is s k r) ∙ ranges-form k p t a e (afterAt (lastOf k) s r) (numbersAt (lastOf k) s r)
+figures-is : (k : Bool) (e : ℕ) (s : List ℕ) (q : ℕ) → figuresAt k e s q
+    ≡ formOf k true true (found number s q 32) (found hexTable s (past s q) 32) (found number s (nth s q 2) 32) (numbersAt (lastOf k) s (nth s q 3)) e (afterAt (lastOf k) s (nth s q 3))
+unfolding figuresAt
+figures-is k e s q = rw (number-is s q 32) (go (found number s q 32))
+  where
+    last : (p t r : ℕ) (o : Option ℕ)
+        → onNumber (numberOf o r) (λ a c2. afterRanges e p t a (rangesAt k s (c2 .at))) NoForm
+        ≡ formOf k true true (some p) (some t) o (numbersAt (lastOf k) s r) e (afterAt (lastOf k) s r)
+    last p t r none = refl
+    last p t r (some a) = ap (afterRanges e p t a) (ranges-is s k r) ∙ ranges-form k p t a e (afterAt (lastOf k) s r) (numbersAt (lastOf k) s r)
+
+    second : (p r : ℕ) (o : Option ℕ)
+        → onNumber (numberOf o r) (λ t c1. onNumber (numberThen s (c1 .at) 32) (λ a c2. afterRanges e p t a (rangesAt k s (c2 .at))) NoForm) NoForm
+        ≡ formOf k true true (some p) o (found number s r 32) (numbersAt (lastOf k) s (past s r)) e (afterAt (lastOf k) s (past s r))
+    second p r none = refl
+    second p r (some t) = rw (number-is s r 32) (last p t (past s r) (found number s r 32))
+
+    go : (o : Option ℕ)
+        → onNumber (numberOf o (past s q)) (λ p c0. onNumber (tableThen s (c0 .at) 32) (λ t c1. onNumber (numberThen s (c1 .at) 32) (λ a c2. afterRanges e p t a (rangesAt k s (c2 .at))) NoForm) NoForm) NoForm
+        ≡ formOf k true true o (found hexTable s (past s q) 32) (found number s (nth s q 2) 32) (numbersAt (lastOf k) s (nth s q 3)) e (afterAt (lastOf k) s (nth s q 3))
+    go none = refl
+    go (some p) = rw (table-is s (past s q) 32) (second p (nth s q 2) (found hexTable s (past s q) 32))
 
 form-is : (k : Bool) (s : List ℕ) (q : ℕ) → formAt k s q
     ≡ formOf k (isName (wordAt s q)) (isByte s (endAt s q) 32) (found number s (past s q) 32) (found hexTable s (nth s q 2) 32) (found number s (nth s q 3) 32) (numbersAt (lastOf k) s (nth s q 4)) (endAt s q) (afterAt (lastOf k) s (nth s q 4))
-unfolding formAt nameAt byteAt figuresAt afterHead
+unfolding formAt nameAt byteAt
 form-is k s q = go (isName (wordAt s q)) (isByte s (endAt s q) 32) refl
   where
     go : (t u : Bool) → isByte s (endAt s q) 32 ≡ u
-        → onStep (stepOf t (endAt s q)) (λ n. onStep (stepOf (isByte s (n .at) 32) (n .at + 1)) (λ c. onFigures (figuresAt k s (c .at)) (λ f d. ACell (n .at) f d) NoForm) NoForm) NoForm
+        → onStep (stepOf t (endAt s q)) (λ n. onStep (stepOf (isByte s (n .at) 32) (n .at + 1)) (λ c. figuresAt k (n .at) s (c .at)) NoForm) NoForm
         ≡ formOf k t u (found number s (past s q) 32) (found hexTable s (nth s q 2) 32) (found number s (nth s q 3) 32) (numbersAt (lastOf k) s (nth s q 4)) (endAt s q) (afterAt (lastOf k) s (nth s q 4))
     go false u h = refl
     go true false h = rw h
-    go true true h =
-        rw h
-        (ap (afterHead k s (endAt s q)) (head-is s (past s q))
-        ∙ head-form k s (endAt s q) (nth s q 4) (found number s (past s q) 32) (found hexTable s (nth s q 2) 32) (found number s (nth s q 3) 32))
+    go true true h = rw h (figures-is k (endAt s q) s (past s q))
 
 -- ---- the crate model's cell, by the same values
 
@@ -264,17 +231,17 @@ onlyO true o = o
 onlyO false o = none
 
 -- four of some numbers
-abbrev fourOf : List ℕ → List ℕ
-fourOf ns = getD ns 0 0 ∷ getD ns 1 0 ∷ getD ns 2 0 ∷ getD ns 3 0 ∷ []
+abbrev fourList : List ℕ → List ℕ
+fourList ns = getD ns 0 0 ∷ getD ns 1 0 ∷ getD ns 2 0 ∷ getD ns 3 0 ∷ []
 
 -- the lowest delays among them
 abbrev lowsOf : Bool → List ℕ → List ℕ
 lowsOf true ns = getD ns 4 0 ∷ getD ns 5 0 ∷ getD ns 6 0 ∷ getD ns 7 0 ∷ []
-lowsOf false ns = fourOf ns
+lowsOf false ns = fourList ns
 
 -- they are four delays and the lowest ones
 abbrev Fours : Bool → Option (List ℕ) → Type 0
-Fours k o = (ns : List ℕ) → o ≡ some ns → (take 4 ns ≡ fourOf ns) × ((p a : ℕ) → drop (cond k 6 2) (p ∷ a ∷ ns) ≡ lowsOf k ns)
+Fours k o = (ns : List ℕ) → o ≡ some ns → (take 4 ns ≡ fourList ns) × ((p a : ℕ) → drop (cond k 6 2) (p ∷ a ∷ ns) ≡ lowsOf k ns)
 
 -- both sides fail at the first field or byte that is wrong, and else both are the cell
 module _ (k : Bool) (W : List (List ℕ)) (w : List ℕ) (e q : ℕ) where
@@ -293,11 +260,11 @@ module _ (k : Bool) (W : List (List ℕ)) (w : List ℕ) (e q : ℕ) where
   flat true true (some p) true (some t) true (some a) true true none l = refl
   flat true true (some p) true (some t) true (some a) true true (some ns) l = go (leb p 4)
     where
-      by-kind : (i : Bool) → some (lineCell w (figuresOf i p t a ns)) ≡ some (cellWith w p t a (fourOf ns) (lowsOf i ns))
+      by-kind : (i : Bool) → some (lineCell w (figuresBy i p t a ns)) ≡ some (cellWith w p t a (fourList ns) (lowsOf i ns))
       by-kind true = refl
       by-kind false = refl
 
-      go : (b : Bool) → formMeans w (pickForm b (ACell e (figuresOf k p t a ns) (record { at = q })) NoForm) ≡ only b (cellWith w p t a (take 4 ns) (drop (cond k 6 2) (p ∷ a ∷ ns)))
+      go : (b : Bool) → formMeans w (pickForm b (ACell e (figuresBy k p t a ns) (record { at = q })) NoForm) ≡ only b (cellWith w p t a (take 4 ns) (drop (cond k 6 2) (p ∷ a ∷ ns)))
       go true = by-kind k ∙ ap₂ (λ (ds ls : List ℕ). some (cellWith w p t a ds ls)) (sym (l ns refl .0)) (sym (l ns refl .1 p a))
       go false = refl
 
@@ -317,15 +284,15 @@ module _ (k : Bool) (W : List (List ℕ)) (w : List ℕ) (e q : ℕ) where
   flat-cell true true (some p) true (some t) true (some a) true true none e₁ f c h = absurd (no-form h)
   flat-cell true true (some p) true (some t) true (some a) true true (some ns) e₁ f c h = go (leb p 4) refl h
     where
-      kind-pins : (i : Bool) → figuresOf i p t a ns .pins ≡ p
+      kind-pins : (i : Bool) → figuresBy i p t a ns .pins ≡ p
       kind-pins true = refl
       kind-pins false = refl
 
-      go : (b : Bool) → leb p 4 ≡ b → pickForm b (ACell e (figuresOf k p t a ns) (record { at = q })) NoForm ≡ ACell e₁ f c
+      go : (b : Bool) → leb p 4 ≡ b → pickForm b (ACell e (figuresBy k p t a ns) (record { at = q })) NoForm ≡ ACell e₁ f c
           → (true ≡ true) × (true ≡ true) × (e₁ ≡ e) × (c .at ≡ q) × (f .pins ≤ 4)
       go true i r =
           let x : e ≡ e₁ = cc in
-          let y : _≡_ {A = Figures} (figuresOf k p t a ns) f = cc in
+          let y : _≡_ {A = Figures} (figuresBy k p t a ns) f = cc in
           let z : _≡_ {A = Cursor} (record { at = q }) c = cc in
           (refl, refl, sym x, sym (ap (λ (d : Cursor). d .at) z), omega (arith, leb-true p 4 i, kind-pins k, ap (λ (g : Figures). g .pins) y))
       go false i r = absurd (no-form r)
@@ -376,14 +343,14 @@ then-numbers true ws = refl
 then-numbers false ws = refl
 
 -- the first four of at least so many numbers
-four-first : (ns : List ℕ) → 4 ≤ length ns → take 4 ns ≡ fourOf ns
+four-first : (ns : List ℕ) → 4 ≤ length ns → take 4 ns ≡ fourList ns
 four-first [] e = absurd (omega arith)
 four-first (a ∷ []) e = absurd (omega arith)
 four-first (a ∷ b ∷ []) e = absurd (omega arith)
 four-first (a ∷ b ∷ c ∷ []) e = absurd (omega arith)
 four-first (a ∷ b ∷ c ∷ d ∷ ns) e = refl
 
-four-list : (ns : List ℕ) → length ns ≡ 4 → ns ≡ fourOf ns
+four-list : (ns : List ℕ) → length ns ≡ 4 → ns ≡ fourList ns
 four-list [] e = absurd (omega arith)
 four-list (a ∷ []) e = absurd (omega arith)
 four-list (a ∷ b ∷ []) e = absurd (omega arith)
@@ -399,7 +366,7 @@ eight-list (a ∷ b ∷ []) e = absurd (omega arith)
 eight-list (a ∷ b ∷ c ∷ []) e = absurd (omega arith)
 eight-list (a ∷ b ∷ c ∷ d ∷ ns) e = four-list ns (let q : suc (suc (suc (suc (length ns)))) ≡ 8 = e in omega arith)
 
-fours : (k : Bool) (ns : List ℕ) → length ns ≡ suc (lastOf k) → (take 4 ns ≡ fourOf ns) × ((p a : ℕ) → drop (cond k 6 2) (p ∷ a ∷ ns) ≡ lowsOf k ns)
+fours : (k : Bool) (ns : List ℕ) → length ns ≡ suc (lastOf k) → (take 4 ns ≡ fourList ns) × ((p a : ℕ) → drop (cond k 6 2) (p ∷ a ∷ ns) ≡ lowsOf k ns)
 fours true ns e = (four-first ns (omega arith), λ p a. eight-list ns e)
 fours false ns e = (four-first ns (omega arith), λ p a. four-list ns e)
 

@@ -1,12 +1,13 @@
 -- Laws of what a cell line must not say: a table bit or a delay too many, a name that is there already.
 use Rattle.base.specs.{ℕ, zero, suc, _+_, _*_, _%_, _^_, _≤_, _<_, one-mul, mod-eq-of-lt, pow-le-pow-right, add-one, arith, _≡_, refl, sym}
-use Rattle.base.specs.{ap, _∙_, subst, Bool, true, false, _&&_, _||_, List, [], _∷_, eqb, ltb, leb, eqb·zero-suc, eqb·suc-zero, lit<}
-use Rattle.base.specs.{length, take, drop, getD, drop-nil, take-all, lt-ltb, le-ltb, ltb-true, ltb-false, eqb-true, eqb-false}
+use Rattle.base.specs.{ap, _∙_, subst, Bool, true, false, _&&_, _||_, List, [], eqb, leb, eqb·zero-suc, eqb·suc-zero, lit<}
+use Rattle.base.specs.{drop, getD, drop-nil, lt-ltb, le-ltb, eqb-true, eqb-false}
 use Rattle.model.specs.{all, any, same, nameOf, noCell, isClean, noLower}
 use Rattle.model.specs.declared.Cell.{Cell}
 use Rattle.base_text.proofs.{or-true, and-true}
+use Rattle.cells_reader.specs.declared.Delays.{Delays}
 use Rattle.cells_reader.specs.declared.Figures.{Figures}
-use Rattle.cells_reader.specs.{delayOk, delaysOk, lineCell, clamped, pickN, before, isRepeated}
+use Rattle.cells_reader.specs.{delaysOk, listed, lineCell, before, isRepeated}
 
 -- ---- the limit of a table of p pins
 
@@ -33,14 +34,13 @@ eqb-swap zero = refl
 eqb-swap (suc d) = eqb·zero-suc d ∙ sym (eqb·suc-zero d)
 
 -- the delays of absent pins, one by one
-delays-all : (p d0 d1 d2 d3 : ℕ)
-    → all (eqb 0) (drop p (d0 ∷ d1 ∷ d2 ∷ d3 ∷ [])) ≡ (delayOk p 0 d0 && (delayOk p 1 d1 && (delayOk p 2 d2 && delayOk p 3 d3)))
-unfolding all
-delays-all zero d0 d1 d2 d3 = rw (eqb-swap d0, eqb-swap d1, eqb-swap d2, eqb-swap d3, and-true (eqb d3 0))
-delays-all (suc zero) d0 d1 d2 d3 = rw (eqb-swap d1, eqb-swap d2, eqb-swap d3, and-true (eqb d3 0))
-delays-all (suc (suc zero)) d0 d1 d2 d3 = rw (eqb-swap d2, eqb-swap d3, and-true (eqb d3 0))
-delays-all (suc (suc (suc zero))) d0 d1 d2 d3 = rw (eqb-swap d3, and-true (eqb d3 0))
-delays-all (suc (suc (suc (suc p)))) d0 d1 d2 d3 =
+delays-all : (p : ℕ) (d : Delays) → all (eqb 0) (drop p (listed d)) ≡ delaysOk p d
+unfolding all delaysOk
+delays-all zero d = rw (eqb-swap (d .d0), eqb-swap (d .d1), eqb-swap (d .d2), eqb-swap (d .d3), and-true (eqb (d .d3) 0))
+delays-all (suc zero) d = rw (eqb-swap (d .d1), eqb-swap (d .d2), eqb-swap (d .d3), and-true (eqb (d .d3) 0))
+delays-all (suc (suc zero)) d = rw (eqb-swap (d .d2), eqb-swap (d .d3), and-true (eqb (d .d3) 0))
+delays-all (suc (suc (suc zero))) d = rw (eqb-swap (d .d3), and-true (eqb (d .d3) 0))
+delays-all (suc (suc (suc (suc p)))) d =
     rw (lt-ltb 0 (suc (suc (suc (suc p)))) (omega arith), lt-ltb 1 (suc (suc (suc (suc p)))) (omega arith), lt-ltb 2 (suc (suc (suc (suc p)))) (omega arith), lt-ltb 3 (suc (suc (suc (suc p)))) (omega arith), drop-nil p)
 
 module _ (f : Figures) where
@@ -48,31 +48,18 @@ module _ (f : Figures) where
   unfolding isClean lineCell
   clean-table h = rw (le-ltb (f .table) (2 ^ 2 ^ f .pins) h)
 
-  pub clean-delays : f .table < 2 ^ 2 ^ f .pins → isClean (lineCell [] f) ≡ (delaysOk (f .pins) (f .d0) (f .d1) (f .d2) (f .d3) && delaysOk (f .pins) (f .l0) (f .l1) (f .l2) (f .l3))
-  unfolding isClean lineCell delaysOk
+  pub clean-delays : f .table < 2 ^ 2 ^ f .pins → isClean (lineCell [] f) ≡ (delaysOk (f .pins) (f .delays) && delaysOk (f .pins) (f .lows))
+  unfolding isClean lineCell
   clean-delays h =
-      rw (lt-ltb (f .table) (2 ^ 2 ^ f .pins) h, delays-all (f .pins) (f .d0) (f .d1) (f .d2) (f .d3), delays-all (f .pins) (f .l0) (f .l1) (f .l2) (f .l3))
+      rw (lt-ltb (f .table) (2 ^ 2 ^ f .pins) h, delays-all (f .pins) (f .delays), delays-all (f .pins) (f .lows))
 
   -- the lowest delays, one by one
-  pub range-is : noLower (lineCell [] f .lows) (lineCell [] f .delays) ≡ (leb (f .l0) (f .d0) && (leb (f .l1) (f .d1) && (leb (f .l2) (f .d2) && leb (f .l3) (f .d3))))
+  pub range-is : noLower (lineCell [] f .lows) (lineCell [] f .delays)
+      ≡ (leb (f .lows .d0) (f .delays .d0) && (leb (f .lows .d1) (f .delays .d1) && (leb (f .lows .d2) (f .delays .d2) && leb (f .lows .d3) (f .delays .d3))))
   unfolding noLower lineCell
-  range-is = rw (and-true (leb (f .l3) (f .d3)))
+  range-is = rw (and-true (leb (f .lows .d3) (f .delays .d3)))
 
 -- ---- names
-
-pub clamped-le : (n : ℕ) → clamped n ≤ 8
-clamped-le n = go (ltb n 8) (ltb-true n 8)
-  where
-    go : (t : Bool) → (t ≡ true → n < 8) → pickN t n 8 ≤ 8
-    go true h = let l : n < 8 = h refl in omega arith
-    go false h = omega arith
-
-pub clamped-take : (n : ℕ) (l : List ℕ) → length l ≡ 8 → take (clamped n) l ≡ take n l
-clamped-take n l e = go (ltb n 8) (ltb-false n 8)
-  where
-    go : (t : Bool) → (t ≡ false → 8 ≤ n) → take (pickN t n 8) l ≡ take n l
-    go true h = refl
-    go false h = let m : 8 ≤ n = h refl in take-all 8 l (omega arith) ∙ sym (take-all n l (omega arith))
 
 module _ (w : List ℕ) (cells : List Cell) where
   pub repeated-none : isRepeated w cells 0 ≡ false

@@ -1,20 +1,17 @@
 -- What each function of the library's reader answers, composed of what the readers of the crate text find.
-use Rattle.base.specs.{ℕ, zero, suc, _+_, _-_, Bool, true, false, _&&_, _||_, List, [], _∷_, eqb, ltb, leb, length, take, drop, getD, set}
+use Rattle.base.specs.{ℕ, zero, suc, _+_, _-_, Bool, true, false, not, _&&_, _||_, List, [], _∷_, eqb, ltb, leb, length, take, drop, getD, set}
 use Rattle.model.specs.{same, any, text, nameOf, noCell, nameBytes, isClean, noLower}
 use Rattle.model.specs.declared.Cell.{Cell}
 use Rattle.model.specs.declared.Library.{Library}
 use Rattle.base_text.specs.{onNumber, onStep, numberThen, numberEnd, tableThen, nameAt, byteAt}
 use Rattle.base_text.specs.declared.Cursor.{Cursor}
-use Rattle.base_text.specs.declared.Span.{Span}
+use Rattle.base_text.specs.declared.Number.{Number}
 use Rattle.cells_reader.specs.declared.Figures.{Figures}
 use Rattle.cells_reader.specs.declared.Delays.{Delays}
-use Rattle.cells_reader.specs.declared.Delays.the-variants.{Four, Broken as NoDelays}
+use Rattle.cells_reader.specs.declared.Four.{Four}
+use Rattle.cells_reader.specs.declared.Four.the-variants.{Read as FourRead, Broken as NoFour}
 use Rattle.cells_reader.specs.declared.Ranges.{Ranges}
 use Rattle.cells_reader.specs.declared.Ranges.the-variants.{Both, Broken as NoRanges}
-use Rattle.cells_reader.specs.declared.Head.{Head}
-use Rattle.cells_reader.specs.declared.Head.the-variants.{Three, Broken as NoHead}
-use Rattle.cells_reader.specs.declared.FiguresRead.{FiguresRead}
-use Rattle.cells_reader.specs.declared.FiguresRead.the-variants.{Got, Broken as NoFigures}
 use Rattle.cells_reader.specs.declared.Form.{Form}
 use Rattle.cells_reader.specs.declared.Form.the-variants.{Cell as ACell, Broken as NoForm}
 use Rattle.cells_reader.specs.declared.Judged.{Judged}
@@ -22,86 +19,69 @@ use Rattle.cells_reader.specs.declared.Judged.the-variants.{Cell as Good
 
 -- ---- the form of a cell line
 
-unfoldable pub delaysAt : List ℕ → ℕ → Delays
-delaysAt s at =
+-- a delay and what stands behind it: the line's end behind the last of a line, else a space
+abbrev pub delayAt : Bool → List ℕ → ℕ → Number
+delayAt true s at = numberEnd s at
+delayAt false s at = numberThen s at 32
+
+abbrev pub fourOf : ℕ → ℕ → ℕ → ℕ → Delays
+fourOf d0 d1 d2 d3 = record { d0 = d0; d1 = d1; d2 = d2; d3 = d3 }
+
+unfoldable pub delaysAt : Bool → List ℕ → ℕ → Four
+delaysAt last s at =
     onNumber (numberThen s at 32) (λ d0 c0.
     onNumber (numberThen s (c0 .at) 32) (λ d1 c1.
     onNumber (numberThen s (c1 .at) 32) (λ d2 c2.
-    onNumber (numberEnd s (c2 .at)) (λ d3 c3. Four d0 d1 d2 d3 c3) NoDelays) NoDelays) NoDelays) NoDelays
+    onNumber (delayAt last s (c2 .at)) (λ d3 c3. FourRead (fourOf d0 d1 d2 d3) c3) NoFour) NoFour) NoFour) NoFour
 
-unfoldable pub highAt : List ℕ → ℕ → Delays
-highAt s at =
-    onNumber (numberThen s at 32) (λ d0 c0.
-    onNumber (numberThen s (c0 .at) 32) (λ d1 c1.
-    onNumber (numberThen s (c1 .at) 32) (λ d2 c2.
-    onNumber (numberThen s (c2 .at) 32) (λ d3 c3. Four d0 d1 d2 d3 c3) NoDelays) NoDelays) NoDelays) NoDelays
+abbrev pub onFour : {A : Type 0} → Four → (Delays → Cursor → A) → A → A
+onFour (FourRead d c) f e = f d c
+onFour NoFour f e = e
 
-abbrev pub onDelays : {A : Type 0} → Delays → (ℕ → ℕ → ℕ → ℕ → Cursor → A) → A → A
-onDelays (Four d0 d1 d2 d3 c) f e = f d0 d1 d2 d3 c
-onDelays NoDelays f e = e
+-- the lowest delays behind the delays d
+abbrev pub lowsAt : Bool → List ℕ → Delays → Cursor → Ranges
+lowsAt true s d c = onFour (delaysAt true s (c .at)) (λ l e. Both d l e) NoRanges
+lowsAt false s d c = Both d d c
 
-unfoldable pub bothAt : List ℕ → ℕ → Ranges
-bothAt s at =
-    onDelays (highAt s at) (λ d0 d1 d2 d3 c.
-    onDelays (delaysAt s (c .at)) (λ l0 l1 l2 l3 e. Both d0 d1 d2 d3 l0 l1 l2 l3 e) NoRanges) NoRanges
+unfoldable pub rangesAt : Bool → List ℕ → ℕ → Ranges
+rangesAt ranged s at = onFour (delaysAt (not ranged) s at) (lowsAt ranged s) NoRanges
 
-unfoldable pub oneAt : List ℕ → ℕ → Ranges
-oneAt s at = onDelays (delaysAt s at) (λ d0 d1 d2 d3 c. Both d0 d1 d2 d3 d0 d1 d2 d3 c) NoRanges
-
-abbrev pub rangesAt : Bool → List ℕ → ℕ → Ranges
-rangesAt true s at = bothAt s at
-rangesAt false s at = oneAt s at
-
-abbrev pub onRanges : {A : Type 0} → Ranges → (ℕ → ℕ → ℕ → ℕ → ℕ → ℕ → ℕ → ℕ → Cursor → A) → A → A
-onRanges (Both d0 d1 d2 d3 l0 l1 l2 l3 c) f e = f d0 d1 d2 d3 l0 l1 l2 l3 c
+abbrev pub onRanges : {A : Type 0} → Ranges → (Delays → Delays → Cursor → A) → A → A
+onRanges (Both d l c) f e = f d l c
 onRanges NoRanges f e = e
 
-unfoldable pub headAt : List ℕ → ℕ → Head
-headAt s at =
+abbrev pub pickForm : Bool → Form → Form → Form
+pickForm true a b = a
+pickForm false a b = b
+
+abbrev pub figuresOf : ℕ → ℕ → ℕ → Delays → Delays → Figures
+figuresOf p t a d l = record { pins = p; table = t; area = a; delays = d; lows = l }
+
+-- a line's figures, behind a name that ends at e
+unfoldable pub figuresAt : Bool → ℕ → List ℕ → ℕ → Form
+figuresAt ranged e s at =
     onNumber (numberThen s at 32) (λ p c0.
     onNumber (tableThen s (c0 .at) 32) (λ t c1.
-    onNumber (numberThen s (c1 .at) 32) (λ a c2. Three p t a c2) NoHead) NoHead) NoHead
-
-abbrev pub onHead : {A : Type 0} → Head → (ℕ → ℕ → ℕ → Cursor → A) → A → A
-onHead (Three p t a c) f e = f p t a c
-onHead NoHead f e = e
-
-abbrev pub pickFigures : Bool → FiguresRead → FiguresRead → FiguresRead
-pickFigures true a b = a
-pickFigures false a b = b
-
-unfoldable pub figuresAt : Bool → List ℕ → ℕ → FiguresRead
-figuresAt ranged s at =
-    onHead (headAt s at) (λ p t a c.
-    onRanges (rangesAt ranged s (c .at)) (λ d0 d1 d2 d3 l0 l1 l2 l3 e.
-    pickFigures (leb p 4) (Got (record { pins = p; table = t; area = a; d0 = d0; d1 = d1; d2 = d2; d3 = d3; l0 = l0; l1 = l1; l2 = l2; l3 = l3 }) e) NoFigures) NoFigures) NoFigures
-
-abbrev pub onFigures : {A : Type 0} → FiguresRead → (Figures → Cursor → A) → A → A
-onFigures (Got f c) g e = g f c
-onFigures NoFigures g e = e
+    onNumber (numberThen s (c1 .at) 32) (λ a c2.
+    onRanges (rangesAt ranged s (c2 .at)) (λ d l c3. pickForm (leb p 4) (ACell e (figuresOf p t a d l) c3) NoForm) NoForm) NoForm) NoForm) NoForm
 
 unfoldable pub formAt : Bool → List ℕ → ℕ → Form
 formAt ranged s at =
     onStep (nameAt s at) (λ n.
-    onStep (byteAt s (n .at) 32) (λ c.
-    onFigures (figuresAt ranged s (c .at)) (λ f d. ACell (n .at) f d) NoForm) NoForm) NoForm
+    onStep (byteAt s (n .at) 32) (λ c. figuresAt ranged (n .at) s (c .at)) NoForm) NoForm
 
 -- ---- what a cell line must not say
 
 abbrev pub delayOk : ℕ → ℕ → ℕ → Bool
 delayOk p j d = ltb j p || eqb d 0
 
-unfoldable pub delaysOk : ℕ → ℕ → ℕ → ℕ → ℕ → Bool
-delaysOk p d0 d1 d2 d3 = delayOk p 0 d0 && (delayOk p 1 d1 && (delayOk p 2 d2 && delayOk p 3 d3))
-
-abbrev pub pickN : Bool → ℕ → ℕ → ℕ
-pickN true a b = a
-pickN false a b = b
-
-abbrev pub clamped : ℕ → ℕ
-clamped n = pickN (ltb n 8) n 8
+unfoldable pub delaysOk : ℕ → Delays → Bool
+delaysOk p d = delayOk p 0 (d .d0) && (delayOk p 1 (d .d1) && (delayOk p 2 (d .d2) && delayOk p 3 (d .d3)))
 
 -- ---- cells
+
+abbrev pub listed : Delays → List ℕ
+listed d = d .d0 ∷ d .d1 ∷ d .d2 ∷ d .d3 ∷ []
 
 -- the cell of a line's name and figures
 unfoldable pub lineCell : List ℕ → Figures → Cell
@@ -111,8 +91,8 @@ lineCell w f = record {
   pins = f .pins;
   table = f .table;
   area = f .area;
-  delays = f .d0 ∷ f .d1 ∷ f .d2 ∷ f .d3 ∷ [];
-  lows = f .l0 ∷ f .l1 ∷ f .l2 ∷ f .l3 ∷ [];
+  delays = listed (f .delays);
+  lows = listed (f .lows);
 }
 
 -- the first n cells, the last first
@@ -157,7 +137,3 @@ shorterLine = text "cell pins table area d0 d1 d2 d3"
 unfoldable pub longerLine : List ℕ
 unfolding text
 longerLine = text "cell pins table area d0 d1 d2 d3 l0 l1 l2 l3"
-
--- a line of a text has its end, and its contents are those named
-unfoldable pub isLine : List ℕ → Span → List ℕ → Bool
-isLine s l names = ltb (l .stop) (l .next) && same (take (l .stop) s) names

@@ -4,50 +4,41 @@
 ghost use Rattle.base.specs.{_≡_, [], _+_, _^_, _≤_, _<_, length, take, drop, getD};
 ghost use Rattle.model.specs.{same, linesFrom, fault, rulingOf, verdictRuling, noCell, libraryOf, libraryAnswer, isClean, noLower};
 ghost use Rattle.model.specs.{readCells, readLibrary, isRanged};
-ghost use Rattle.cells_reader.specs.{delaysAt, highAt, bothAt, oneAt, rangesAt, headAt, figuresAt, formAt, figuresJudged, judgedAt};
-ghost use Rattle.cells_reader.specs.{lineCell, added, isRepeated, delayOk, delaysOk, clamped, isLine};
+ghost use Rattle.cells_reader.specs.{delayAt, delaysAt, rangesAt, figuresAt, formAt, figuresJudged, judgedAt, lineCell};
+ghost use Rattle.cells_reader.specs.{added, isRepeated, delayOk, delaysOk};
 use base_text::Cursor;
 use base_text::Number;
-use base_text::Span;
 use base_text::Step;
 use model::Cell;
 use model::Library;
 use model::LibraryAnswer;
 use model::Verdict;
 
+// The delays of pins 0 to 3.
+pub struct Delays {
+    pub d0: u16,
+    pub d1: u16,
+    pub d2: u16,
+    pub d3: u16,
+}
+
 // What stands behind a cell's name.
 pub struct Figures {
     pub pins: u16,
     pub table: u16,
     pub area: u16,
-    pub d0: u16,
-    pub d1: u16,
-    pub d2: u16,
-    pub d3: u16,
-    pub l0: u16,
-    pub l1: u16,
-    pub l2: u16,
-    pub l3: u16,
+    pub delays: Delays,
+    pub lows: Delays,
 }
 
-pub enum Delays {
-    Four(u16, u16, u16, u16, Cursor),
+pub enum Four {
+    Read(Delays, Cursor),
     Broken,
 }
 
 // The delays, then the lowest delays.
 pub enum Ranges {
-    Both(u16, u16, u16, u16, u16, u16, u16, u16, Cursor),
-    Broken,
-}
-
-pub enum Head {
-    Three(u16, u16, u16, Cursor),
-    Broken,
-}
-
-pub enum FiguresRead {
-    Got(Figures, Cursor),
+    Both(Delays, Delays, Cursor),
     Broken,
 }
 
@@ -65,124 +56,81 @@ pub enum Judged {
 
 // ---- the form of a cell line
 
-// Four delays and the end of the line.
-fn read_delays(c: Cursor, s: &[u8]) -> Delays
-    ensures { λ r. ⌜ r ≡ delaysAt (now (s .entry)) (c .at) ⌝ }
+// A delay and what must stand behind it: the line's end behind the last of a line, a space behind any other.
+fn read_delay(c: Cursor, s: &[u8], last: bool) -> Number
+    ensures { λ r. ⌜ r ≡ delayAt last (now (s .entry)) (c .at) ⌝ }
+{
+    if last {
+        return c.number_end(s);
+    }
+    c.number_then(s, 32)
+}
+
+// Four delays, the last of their line or not.
+fn read_delays(c: Cursor, s: &[u8], last: bool) -> Four
+    ensures { λ r. ⌜ r ≡ delaysAt last (now (s .entry)) (c .at) ⌝ }
 {
     match c.number_then(s, 32) {
         Number::Value(d0, c0) => match c0.number_then(s, 32) {
             Number::Value(d1, c1) => match c1.number_then(s, 32) {
-                Number::Value(d2, c2) => match c2.number_end(s) {
-                    Number::Value(d3, c3) => Delays::Four(d0, d1, d2, d3, c3),
-                    Number::Broken => Delays::Broken,
+                Number::Value(d2, c2) => match read_delay(c2, s, last) {
+                    Number::Value(d3, c3) => Four::Read(Delays { d0, d1, d2, d3 }, c3),
+                    Number::Broken => Four::Broken,
                 },
-                Number::Broken => Delays::Broken,
+                Number::Broken => Four::Broken,
             },
-            Number::Broken => Delays::Broken,
+            Number::Broken => Four::Broken,
         },
-        Number::Broken => Delays::Broken,
+        Number::Broken => Four::Broken,
     }
 }
 
-// Four delays and the spaces behind them.
-fn read_high(c: Cursor, s: &[u8]) -> Delays
-    ensures { λ r. ⌜ r ≡ highAt (now (s .entry)) (c .at) ⌝ }
-{
-    match c.number_then(s, 32) {
-        Number::Value(d0, c0) => match c0.number_then(s, 32) {
-            Number::Value(d1, c1) => match c1.number_then(s, 32) {
-                Number::Value(d2, c2) => match c2.number_then(s, 32) {
-                    Number::Value(d3, c3) => Delays::Four(d0, d1, d2, d3, c3),
-                    Number::Broken => Delays::Broken,
-                },
-                Number::Broken => Delays::Broken,
-            },
-            Number::Broken => Delays::Broken,
-        },
-        Number::Broken => Delays::Broken,
-    }
-}
-
-// `d0 d1 d2 d3 l0 l1 l2 l3` and the end of the line.
-fn read_both(c: Cursor, s: &[u8]) -> Ranges
-    ensures { λ r. ⌜ r ≡ bothAt (now (s .entry)) (c .at) ⌝ }
-{
-    match read_high(c, s) {
-        Delays::Four(d0, d1, d2, d3, c0) => match read_delays(c0, s) {
-            Delays::Four(l0, l1, l2, l3, c1) => Ranges::Both(d0, d1, d2, d3, l0, l1, l2, l3, c1),
-            Delays::Broken => Ranges::Broken,
-        },
-        Delays::Broken => Ranges::Broken,
-    }
-}
-
-// `d0 d1 d2 d3` and the end of the line: a pin's lowest delay is its delay.
-fn read_one(c: Cursor, s: &[u8]) -> Ranges
-    ensures { λ r. ⌜ r ≡ oneAt (now (s .entry)) (c .at) ⌝ }
-{
-    match read_delays(c, s) {
-        Delays::Four(d0, d1, d2, d3, c0) => Ranges::Both(d0, d1, d2, d3, d0, d1, d2, d3, c0),
-        Delays::Broken => Ranges::Broken,
-    }
-}
-
+// `d0 d1 d2 d3 l0 l1 l2 l3` and the end of the line; without ranges `d0 d1 d2 d3`, and a pin's lowest delay is its delay.
 fn read_ranges(c: Cursor, s: &[u8], ranged: bool) -> Ranges
     ensures { λ r. ⌜ r ≡ rangesAt ranged (now (s .entry)) (c .at) ⌝ }
 {
-    if ranged {
-        read_both(c, s)
-    } else {
-        read_one(c, s)
+    match read_delays(c, s, !ranged) {
+        Four::Read(delays, c0) => {
+            if !ranged {
+                return Ranges::Both(delays, delays, c0);
+            }
+            match read_delays(c0, s, true) {
+                Four::Read(lows, c1) => Ranges::Both(delays, lows, c1),
+                Four::Broken => Ranges::Broken,
+            }
+        }
+        Four::Broken => Ranges::Broken,
     }
 }
 
-// `pins table area` and the spaces behind them.
-fn read_head(c: Cursor, s: &[u8]) -> Head
-    ensures { λ r. ⌜ r ≡ headAt (now (s .entry)) (c .at) ⌝ }
+// `pins table area` and the delays behind a name that ends at `end`. "Pins: 0 to 4."
+fn read_figures(end: usize, c: Cursor, s: &[u8], ranged: bool) -> Form
+    ensures { λ r. ⌜ r ≡ figuresAt ranged end (now (s .entry)) (c .at) ⌝ }
 {
     match c.number_then(s, 32) {
         Number::Value(pins, c0) => match c0.table_then(s, 32) {
             Number::Value(table, c1) => match c1.number_then(s, 32) {
-                Number::Value(area, c2) => Head::Three(pins, table, area, c2),
-                Number::Broken => Head::Broken,
-            },
-            Number::Broken => Head::Broken,
-        },
-        Number::Broken => Head::Broken,
-    }
-}
-
-// "Pins: 0 to 4."
-fn read_figures(c: Cursor, s: &[u8], ranged: bool) -> FiguresRead
-    ensures { λ r. ⌜ r ≡ figuresAt ranged (now (s .entry)) (c .at) ⌝ }
-{
-    match read_head(c, s) {
-        Head::Three(pins, table, area, c0) => match read_ranges(c0, s, ranged) {
-            Ranges::Both(d0, d1, d2, d3, l0, l1, l2, l3, c1) => {
-                if pins <= 4 {
-                    FiguresRead::Got(
-                        Figures {
+                Number::Value(area, c2) => match read_ranges(c2, s, ranged) {
+                    Ranges::Both(delays, lows, c3) => {
+                        if pins > 4 {
+                            return Form::Broken;
+                        }
+                        let f = Figures {
                             pins,
                             table,
                             area,
-                            d0,
-                            d1,
-                            d2,
-                            d3,
-                            l0,
-                            l1,
-                            l2,
-                            l3,
-                        },
-                        c1,
-                    )
-                } else {
-                    FiguresRead::Broken
-                }
-            }
-            Ranges::Broken => FiguresRead::Broken,
+                            delays,
+                            lows,
+                        };
+                        Form::Cell(end, f, c3)
+                    }
+                    Ranges::Broken => Form::Broken,
+                },
+                Number::Broken => Form::Broken,
+            },
+            Number::Broken => Form::Broken,
         },
-        Head::Broken => FiguresRead::Broken,
+        Number::Broken => Form::Broken,
     }
 }
 
@@ -192,10 +140,7 @@ fn read_form(c: Cursor, s: &[u8], ranged: bool) -> Form
 {
     match c.name(s) {
         Step::To(n) => match n.byte(s, 32) {
-            Step::To(c0) => match read_figures(c0, s, ranged) {
-                FiguresRead::Got(f, c1) => Form::Cell(n.at, f, c1),
-                FiguresRead::Broken => Form::Broken,
-            },
+            Step::To(c0) => read_figures(n.at, c0, s, ranged),
             Step::Broken => Form::Broken,
         },
         Step::Broken => Form::Broken,
@@ -216,25 +161,14 @@ fn limit(pins: u16) -> u32
 fn delay_ok(pins: u16, j: u16, d: u16) -> bool
     ensures { λ r. ⌜ r ≡ delayOk pins j d ⌝ }
 {
-    if j < pins {
-        return true;
-    }
-    if d == 0 { true } else { false }
+    j < pins || d == 0
 }
 
-fn delays_ok(pins: u16, d0: u16, d1: u16, d2: u16, d3: u16) -> bool
-    ensures { λ r. ⌜ r ≡ delaysOk pins d0 d1 d2 d3 ⌝ }
+fn delays_ok(pins: u16, d: Delays) -> bool
+    ensures { λ r. ⌜ r ≡ delaysOk pins d ⌝ }
 {
-    if !delay_ok(pins, 0, d0) {
-        return false;
-    }
-    if !delay_ok(pins, 1, d1) {
-        return false;
-    }
-    if !delay_ok(pins, 2, d2) {
-        return false;
-    }
-    delay_ok(pins, 3, d3)
+    delay_ok(pins, 0, d.d0)
+        && (delay_ok(pins, 1, d.d1) && (delay_ok(pins, 2, d.d2) && delay_ok(pins, 3, d.d3)))
 }
 
 // No "table bit at or above row 2^pins", and no "delay of an absent pin" that "isn't 0": "An absent pin has lowest delay 0, else 6 applies."
@@ -242,29 +176,18 @@ fn is_clean(f: Figures) -> bool
     requires { ⌜ f .pins ≤ 4 ⌝ }
     ensures { λ r. ⌜ r ≡ isClean (lineCell [] f) ⌝ }
 {
-    if f.table as u32 >= limit(f.pins) {
-        return false;
-    }
-    if !delays_ok(f.pins, f.d0, f.d1, f.d2, f.d3) {
-        return false;
-    }
-    delays_ok(f.pins, f.l0, f.l1, f.l2, f.l3)
+    let delays = f.delays;
+    let lows = f.lows;
+    limit(f.pins) > f.table as u32 && (delays_ok(f.pins, delays) && delays_ok(f.pins, lows))
 }
 
 // No "lowest delay exceeds its `d`".
 fn in_range(f: Figures) -> bool
     ensures { λ r. ⌜ r ≡ noLower (lineCell [] f .lows) (lineCell [] f .delays) ⌝ }
 {
-    if f.l0 > f.d0 {
-        return false;
-    }
-    if f.l1 > f.d1 {
-        return false;
-    }
-    if f.l2 > f.d2 {
-        return false;
-    }
-    f.l3 <= f.d3
+    let high = f.delays;
+    let low = f.lows;
+    low.d0 <= high.d0 && (low.d1 <= high.d1 && (low.d2 <= high.d2 && low.d3 <= high.d3))
 }
 
 // A cell line that has its form and a name of its own: 6, and 27 "after 6 on its line".
@@ -283,17 +206,11 @@ fn judge_figures(end: usize, f: Figures, next: Cursor) -> Judged
 
 // ---- names
 
-fn clamp(len: usize) -> usize
-    ensures { λ r. ⌜ r ≡ clamped len ⌝ }
-{
-    if len < 8 { len } else { 8 }
-}
-
 // A cell's name has the same bytes.
 pub fn name_is(name: [u8; 8], len: usize, w: &[u8]) -> bool
     ensures { λ r. ⌜ r ≡ same (now (w .entry)) (take len name) ⌝ }
 {
-    let n = clamp(len);
+    let n = if len < 8 { len } else { 8 };
     base_text::same_bytes(w, &name[..n])
 }
 
@@ -344,8 +261,8 @@ fn cell_of(w: &[u8], f: Figures) -> Cell
         pins: f.pins,
         table: f.table,
         area: f.area,
-        delays: [f.d0, f.d1, f.d2, f.d3],
-        lows: [f.l0, f.l1, f.l2, f.l3],
+        delays: [f.delays.d0, f.delays.d1, f.delays.d2, f.delays.d3],
+        lows: [f.lows.d0, f.lows.d1, f.lows.d2, f.lows.d3],
     }
 }
 
@@ -363,10 +280,8 @@ fn refused(number: usize, place: usize) -> LibraryAnswer
     ensures { λ r. ⌜ r ≡ libraryAnswer (fault number place) ⌝ }
 {
     let library = empty();
-    LibraryAnswer {
-        verdict: Verdict::Refused(number, place),
-        library,
-    }
+    let verdict = Verdict::Refused(number, place);
+    LibraryAnswer { verdict, library }
 }
 
 // ---- the lines
@@ -394,36 +309,20 @@ fn judge(lib: Library, s: &[u8], at: usize, ranged: bool) -> Judged
 fn cells(s: &[u8], from: usize, ranged: bool) -> LibraryAnswer
     ensures { λ r. ⌜ r ≡ libraryAnswer (readCells ranged 0 [] (linesFrom from [] (drop from (now (s .entry))))) ⌝ }
 {
-    let mut lib = empty();
+    let mut library = empty();
     let mut at = from;
     while at < s.len() {
-        match judge(lib, s, at, ranged) {
+        match judge(library, s, at, ranged) {
             Judged::Cell(end, f, next) => {
                 let c = cell_of(&s[at..end], f);
-                lib = add(lib, c);
+                library = add(library, c);
                 at = next.at;
             }
-            Judged::Refused(number) => {
-                return refused(number, at);
-            }
+            Judged::Refused(number) => return refused(number, at),
         }
     }
-    LibraryAnswer {
-        verdict: Verdict::Accepted,
-        library: lib,
-    }
-}
-
-// The first line has its end, and these contents.
-fn line_is(s: &[u8], first: Span, names: &[u8]) -> bool
-    requires { ⌜ first .stop ≤ length (now s) ⌝ }
-    ensures { λ r. ⌜ r ≡ isLine (now (s .entry)) first (now (names .entry)) ⌝ }
-{
-    let stop = first.stop;
-    if first.next <= stop {
-        return false;
-    }
-    base_text::same_bytes(&s[..stop], names)
+    let verdict = Verdict::Accepted;
+    LibraryAnswer { verdict, library }
 }
 
 // The cells of a library's text, or the first refusal of 2 to 6 and 27: "2 takes either names line".
@@ -432,10 +331,10 @@ pub fn read(s: &[u8]) -> LibraryAnswer
     ensures ruling { λ r. ⌜ verdictRuling (r .verdict) ≡ rulingOf (readLibrary (now (s .entry))) ⌝ }
 {
     let first = base_text::line(s, 0);
-    if line_is(s, first, b"cell pins table area d0 d1 d2 d3") {
+    if base_text::first_is(s, first, b"cell pins table area d0 d1 d2 d3") {
         return cells(s, first.next, false);
     }
-    if line_is(s, first, b"cell pins table area d0 d1 d2 d3 l0 l1 l2 l3") {
+    if base_text::first_is(s, first, b"cell pins table area d0 d1 d2 d3 l0 l1 l2 l3") {
         return cells(s, first.next, true);
     }
     refused(2, 0)

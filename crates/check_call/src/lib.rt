@@ -5,13 +5,13 @@ use model::Header;
 use model::HeaderAnswer;
 use model::Library;
 use model::Verdict;
-ghost use Rattle.base.specs.{_≡_, List, map, _+_, _*_, _≤_, length, replicate};
+ghost use Rattle.base.specs.{_≡_, List, map, _+_, _*_, _≤_, length};
 ghost use Rattle.model.specs.{from, need, holds, readHeader, Driver, lineEnds, checkRead, CheckMemory, CheckPromised};
 ghost use Rattle.model.specs.Graph.{Graph};
 ghost use Rattle.theory_check.specs.CheckRefusals.{CheckRefusals};
 ghost use Rattle.base_words.specs.{putAt, zeros, Room};
 ghost use Rattle.check_reader.specs.{Fitting};
-ghost use Rattle.check_call.specs.{inputCode, Loaded, Placed, Wireable, judgedRead, netlistRead, placedRead, graphRead, headerRead};
+ghost use Rattle.check_call.specs.{inputCode, Placed, Wireable, judgedRead, netlistRead, graphRead, headerRead};
 ghost use Rattle.check_call.specs.{Left};
 
 // "10 wants 8 more words for each byte 10" in the netlist: how many it has.
@@ -71,45 +71,26 @@ fn check_netlist(netlist: &[u8], work: &[u16], lib: Library, h: Header) -> Check
     check_nets(work, h, &nets, p.count)
 }
 
-// The placing order and 15, then 31: "31 when I exceeds 12".
-fn place_graph(netlist: &[u8], work: &mut [u16], lib: Library, h: Header) -> Checked
-    requires { ⌜ ((g : Graph) × Loaded (now work) h g) × Fitting lib × (length (now netlist) ≤ 65536) ⌝ }
-    ensures { λ r. ⌜ ((g : Graph) → Loaded (now (work .entry)) h g → r ≡ checkRead (placedRead lib g (now (netlist .entry)))) ⌝ }
-{
-    match graph_placing::place(work, h) {
-        Verdict::Accepted => {
-            if h.inputs > 12 {
-                return Checked::Refused(31, 0);
-            }
-            check_netlist(netlist, work, lib, h)
-        }
-        Verdict::Refused(number, place) => Checked::Refused(number, place),
-    }
-}
-
-// The graph behind its header before it: 11 to 14, 20 and 21.
+// The graph behind its header, 11 to 14, 20 and 21; the placing order and 15; then 31: "31 when I exceeds 12".
 fn load_graph(graph: &[u8], netlist: &[u8], h: Header, lib: Library, work: &mut [u16]) -> Checked
     requires { ⌜ (readHeader (now graph) ≡ holds h) × (need (h .size) (h .outputs) ≤ length (now work)) × Fitting lib × (length (now netlist) ≤ 65536) ⌝ }
     ensures { λ r. ⌜ r ≡ checkRead (graphRead lib (now (graph .entry)) h (now (netlist .entry))) ⌝ }
 {
     match graph_reader::load(graph, h, work) {
-        Verdict::Accepted => place_graph(netlist, work, lib, h),
+        Verdict::Accepted => match graph_placing::place(work, h) {
+            Verdict::Accepted => {
+                if h.inputs > 12 {
+                    return Checked::Refused(31, 0);
+                }
+                check_netlist(netlist, work, lib, h)
+            }
+            Verdict::Refused(number, place) => Checked::Refused(number, place),
+        },
         Verdict::Refused(number, place) => Checked::Refused(number, place),
     }
 }
 
-// The same, and the clearing: work memory is "all zero after a later one and after success".
-fn check_graph(graph: &[u8], netlist: &[u8], h: Header, lib: Library, work: &mut [u16]) -> Checked
-    requires { ⌜ (readHeader (now graph) ≡ holds h) × (need (h .size) (h .outputs) ≤ length (now work)) × Fitting lib × (length (now netlist) ≤ 65536) ⌝ }
-    ensures { λ r. ⌜ (r ≡ checkRead (graphRead lib (now (graph .entry)) h (now (netlist .entry)))) ×
-        (now (work .exit) ≡ replicate (length (now (work .entry))) 0) ⌝ }
-{
-    let r = load_graph(graph, netlist, h, lib, work);
-    base_words::clear_all(work);
-    r
-}
-
-// The header, 7 to 9 and 19, then 10: "Work memory is unchanged by every refusal tried up to 10".
+// The header, 7 to 9 and 19, then 10: "Work memory is unchanged by every refusal tried up to 10, and all zero after a later one and after success."
 fn check_header(graph: &[u8], netlist: &[u8], lib: Library, work: &mut [u16]) -> Checked
     requires { ⌜ Fitting lib × (length (now netlist) ≤ 65536) ⌝ }
     ensures { λ r. ⌜ Left (headerRead lib (now (graph .entry)) (now (netlist .entry)) (length (now (work .entry)))) (now (work .entry)) r (now (work .exit)) ⌝ }
@@ -119,7 +100,9 @@ fn check_header(graph: &[u8], netlist: &[u8], lib: Library, work: &mut [u16]) ->
             if work.len() < base_words::need_words(h.size, h.outputs) + 8 * line_ends(netlist) {
                 return Checked::Refused(10, 0);
             }
-            check_graph(graph, netlist, h, lib, work)
+            let r = load_graph(graph, netlist, h, lib, work);
+            base_words::clear_all(work);
+            r
         }
         HeaderAnswer::Refused(number, place) => Checked::Refused(number, place),
     }
@@ -134,13 +117,7 @@ pub fn check_texts(cells: &[u8], graph: &[u8], netlist: &[u8], work: &mut [u16])
     ensures promised { λ _. ⌜ CheckPromised (now (cells .entry)) (now (graph .entry)) (now (netlist .entry)) (length (now (work .entry))) ⌝ }
     ensures refusals { λ _. ⌜ CheckRefusals (now (cells .entry)) (now (graph .entry)) (now (netlist .entry)) (length (now (work .entry))) ⌝ }
 {
-    if cells.len() > 65536 {
-        return Checked::Refused(1, 0);
-    }
-    if graph.len() > 65536 {
-        return Checked::Refused(1, 0);
-    }
-    if netlist.len() > 65536 {
+    if cells.len() > 65536 || graph.len() > 65536 || netlist.len() > 65536 {
         return Checked::Refused(1, 0);
     }
     let l = cells_reader::read(cells);

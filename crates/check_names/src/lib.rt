@@ -1,10 +1,10 @@
 // A line of an edited netlist: the words of a gate's line and of a `.names` line, each net as a number.
 use base_text::Value;
 use model::Library;
-ghost use Rattle.base.specs.{_≡_, [], _∷_, none, ℕ, _+_, _≤_, _<_, length, getD};
+ghost use Rattle.base.specs.{_≡_, [], none, ℕ, _+_, _≤_, _<_, length, getD};
 ghost use Rattle.model.specs.{all, same, text, fields, outName, noCell, cellsOf, isNet, pinNet, boundNets, gateOfFields, nameDriver};
-ghost use Rattle.check_names.specs.{isNetByte, code, netCode, spaceFrom, fieldsFrom, optCode, pinAt, letters, netsOf, ownNets};
-ghost use Rattle.check_names.specs.{cellIndex, gateWith, gateOf, twoWords, nameCode};
+ghost use Rattle.check_names.specs.{isNetByte, code, netCode, spaceFrom, fieldsFrom, optCode, pinAt, letters, netsOf};
+ghost use Rattle.check_names.specs.{cellIndex, gateOf, twoWords, nameCode};
 
 // A word `A=net` of a line: its net, 0 where it breaks its form, and where the next word begins.
 pub struct Pin {
@@ -130,10 +130,9 @@ fn pin_at(l: &[u8], at: usize, b: u8) -> Pin
         return Pin { code: 0, next: 0 };
     }
     let end = space_from(l, at);
-    Pin {
-        code: pin_code(&l[at..end], b),
-        next: end + 1,
-    }
+    let code = pin_code(&l[at..end], b);
+    let next = end + 1;
+    Pin { code, next }
 }
 
 // "pins A to D"
@@ -147,24 +146,8 @@ fn letter(j: usize) -> u8
 fn no_nets() -> Nets
     ensures { λ r. ⌜ r ≡ netsOf 0 none ⌝ }
 {
-    Nets {
-        codes: [0; 4],
-        net: 0,
-    }
-}
-
-// The gate's own net, in the last word.
-fn own_net(l: &[u8], at: usize, codes: [u64; 4]) -> Nets
-    ensures { λ r. ⌜ r ≡ ownNets codes (boundNets (79 ∷ []) (fieldsFrom (now (l .entry)) at)) ⌝ }
-{
-    let p = pin_at(l, at, 79);
-    if p.code == 0 {
-        return no_nets();
-    }
-    if p.next <= l.len() {
-        return no_nets();
-    }
-    Nets { codes, net: p.code }
+    let codes = [0; 4];
+    Nets { codes, net: 0 }
 }
 
 // "each pin in order with `=` and its net, then the output likewise": the words from a place on.
@@ -185,7 +168,14 @@ fn bound(l: &[u8], from: usize, n: usize) -> Nets
         at = p.next;
         j += 1;
     }
-    own_net(l, at, codes)
+    let p = pin_at(l, at, 79);
+    if p.code == 0 {
+        return no_nets();
+    }
+    if p.next <= l.len() {
+        return no_nets();
+    }
+    Nets { codes, net: p.code }
 }
 
 // The line of the listed cell of a name, from 0; the number of cells where none has it.
@@ -218,26 +208,6 @@ pub fn no_gate() -> Gate
     }
 }
 
-// A gate of a cell of this table and so many pins, its words from a place on.
-fn gate_of(table: u16, pins: u16, l: &[u8], at: usize) -> Gate
-    requires { ⌜ pins ≤ 4 ⌝ }
-    ensures { λ r. ⌜ r ≡ gateWith table pins (boundNets (letters 0 pins) (fieldsFrom (now (l .entry)) at)) ⌝ }
-{
-    let count = pins as usize;
-    let b = bound(l, at, count);
-    let net = b.net;
-    if net == 0 {
-        return no_gate();
-    }
-    let codes = b.codes;
-    Gate {
-        table,
-        count,
-        codes,
-        net,
-    }
-}
-
 // What a gate's line says, its first word apart: "listed cells", "each pin in order with `=` and its net, then the output likewise".
 pub fn gate_line(lib: Library, l: &[u8]) -> Gate
     requires { ⌜ (lib .n ≤ 32) × (length (lib .cells) ≡ 32) × ((i : ℕ) → i < lib .n → getD (lib .cells) i noCell .pins ≤ 4) ⌝ }
@@ -254,7 +224,20 @@ pub fn gate_line(lib: Library, l: &[u8]) -> Gate
         return no_gate();
     }
     let c = lib.cells[i];
-    gate_of(c.table, c.pins, l, end + 1)
+    let table = c.table;
+    let count = c.pins as usize;
+    let b = bound(l, end + 1, count);
+    let net = b.net;
+    if net == 0 {
+        return no_gate();
+    }
+    let codes = b.codes;
+    Gate {
+        table,
+        count,
+        codes,
+        net,
+    }
 }
 
 // A line `.gate`.

@@ -1,6 +1,9 @@
 // The nets of an edited netlist judged, 33: its pins get numbers, and its drivers an order, or the first on a circle is found where there is none.
 use check_reader::DRIVERS;
+use check_wires::Marks;
 use check_wires::PINS;
+use check_wires::Refs;
+use check_wires::Words;
 use model::Verdict;
 ghost use Rattle.base.specs.{_≡_, true, List, ℕ, _≤_, _<_, length, getD, replicate};
 ghost use Rattle.model.specs.{Driver};
@@ -11,11 +14,11 @@ ghost use Rattle.check_nets.specs.Judged.{Judged};
 
 // What feeds pin j of driver k listed, if it is not yet; 0 where it is driver i.
 fn reach_pin(
-    refs: &[u16; PINS],
+    refs: &Refs,
     n: usize,
     i: usize,
-    seen: &mut [u8; DRIVERS],
-    queue: &mut [u16; DRIVERS],
+    seen: &mut Marks,
+    queue: &mut Words,
     m: usize,
     k: usize,
     j: usize,
@@ -40,11 +43,11 @@ fn reach_pin(
 
 // The four pins of driver k.
 fn reach(
-    refs: &[u16; PINS],
+    refs: &Refs,
     n: usize,
     i: usize,
-    seen: &mut [u8; DRIVERS],
-    queue: &mut [u16; DRIVERS],
+    seen: &mut Marks,
+    queue: &mut Words,
     m: usize,
     k: usize,
 ) -> usize
@@ -63,22 +66,19 @@ fn reach(
     r
 }
 
-// The walk back from driver i, which stands first in the queue.
-fn walk_back(
-    refs: &[u16; PINS],
-    n: usize,
-    i: usize,
-    seen: &mut [u8; DRIVERS],
-    queue: &mut [u16; DRIVERS],
-) -> bool
-    requires { ⌜ Pinned (now refs) n × (i < n) × Reached (now refs) n i (now seen) (now queue) 1 × (getD (now seen) i 0 ≡ 1) ⌝ }
+// "a net on a circle": driver i feeds itself. The walk back goes from it, first in the queue.
+fn turns(refs: &Refs, n: usize, i: usize) -> bool
+    requires { ⌜ Pinned (now refs) n × (i < n) ⌝ }
     ensures { λ r. ⌜ Turns (now (refs .entry)) i r ⌝ }
 {
+    let mut seen = [0u8; DRIVERS];
+    let mut queue = [0u16; DRIVERS];
+    check_order::append(&mut seen, &mut queue, 0, i);
     let mut m = 1;
     let mut p = 0;
     while p < m {
-        let k = check_order::listed(queue, p);
-        m = reach(refs, n, i, seen, queue, m, k);
+        let k = check_order::listed(&queue, p);
+        m = reach(refs, n, i, &mut seen, &mut queue, m, k);
         if m == 0 {
             return true;
         }
@@ -87,108 +87,13 @@ fn walk_back(
     false
 }
 
-// "a net on a circle": driver i feeds itself.
-fn turns(refs: &[u16; PINS], n: usize, i: usize) -> bool
-    requires { ⌜ Pinned (now refs) n × (i < n) ⌝ }
-    ensures { λ r. ⌜ Turns (now (refs .entry)) i r ⌝ }
-{
-    let mut seen = [0u8; DRIVERS];
-    let mut queue = [0u16; DRIVERS];
-    check_order::append(&mut seen, &mut queue, 0, i);
-    walk_back(refs, n, i, &mut seen, &mut queue)
-}
-
 // ---- ranks, so that few drivers are walked back from
 // A rank for each driver: of what feeds a driver none is lower, and all are higher where it is on no circle. They are found by a search for the parts of
 // drivers that feed one another, each part with a rank of its own, those that the search leaves first the highest. Nothing is to be known of the search:
 // `rises` tests what it found, and where the test fails the driver is walked back from.
 
-// How deep the search is, how many wait for the rank of their part, the last number given, the next rank, and the next driver to start from.
-struct Search {
-    depth: usize,
-    waiting: usize,
-    last: u16,
-    rank: u16,
-    start: usize,
-}
-
-// Driver i comes on the path, with the next number in place of its rank.
-fn open(
-    ranks: &mut [u16; DRIVERS],
-    own: &mut [u16; DRIVERS],
-    path: &mut [u16; DRIVERS],
-    s: Search,
-    i: usize,
-) -> Search
-    requires { ⌜ i < 10923 ⌝ }
-{
-    let depth = s.depth;
-    let last = s.last;
-    if depth < DRIVERS {
-        if last < 30000 {
-            ranks[i] = last + 1;
-            own[i] = last + 1;
-            path[depth] = i as u16;
-            return Search {
-                depth: depth + 1,
-                waiting: s.waiting,
-                last: last + 1,
-                rank: s.rank,
-                start: s.start,
-            };
-        }
-    }
-    s
-}
-
-// The number of a driver no higher than that of one that feeds it.
-fn lower(ranks: &mut [u16; DRIVERS], top: usize, y: usize)
-    requires { ⌜ (top < 10923) × (y < 10923) ⌝ }
-{
-    let r = ranks[y];
-    if r < ranks[top] {
-        ranks[top] = r;
-    }
-}
-
-// Pin j of the driver on top: what feeds it comes on the path, or, once it was there, lowers the number.
-fn pass(
-    refs: &[u16; PINS],
-    ranks: &mut [u16; DRIVERS],
-    own: &mut [u16; DRIVERS],
-    path: &mut [u16; DRIVERS],
-    passed: &mut [u8; DRIVERS],
-    s: Search,
-    top: usize,
-    j: u8,
-) -> Search
-    requires { ⌜ (top < 10923) × (j < 4) ⌝ }
-{
-    let x = check_order::pin(refs, 4 * top + j as usize);
-    if x < 12 {
-        passed[top] = j + 1;
-        return s;
-    }
-    let y = x - 12;
-    if y >= DRIVERS {
-        return s;
-    }
-    if ranks[y] == 0 {
-        return open(ranks, own, path, s, y);
-    }
-    lower(ranks, top, y);
-    passed[top] = j + 1;
-    s
-}
-
 // Those that wait with a number from `own` on get the rank.
-fn gather(
-    ranks: &mut [u16; DRIVERS],
-    wait: &[u16; DRIVERS],
-    waiting: usize,
-    own: u16,
-    rank: u16,
-) -> usize
+fn gather(ranks: &mut Words, wait: &Words, waiting: usize, own: u16, rank: u16) -> usize
     requires { ⌜ waiting ≤ 10923 ⌝ }
     ensures { λ r. ⌜ r ≤ 10923 ⌝ }
 {
@@ -207,153 +112,94 @@ fn gather(
     m
 }
 
-// The driver on top has all its pins passed: it waits, or, where no pin led below it, its part is complete.
-fn finish(
-    ranks: &mut [u16; DRIVERS],
-    own: &[u16; DRIVERS],
-    wait: &mut [u16; DRIVERS],
-    s: Search,
-    top: usize,
-) -> Search
-    requires { ⌜ (top < 10923) × (0 < s .depth) ⌝ }
-{
-    let depth = s.depth - 1;
-    let last = s.last;
-    let rank = s.rank;
-    let start = s.start;
-    let waiting = s.waiting;
-    if waiting >= DRIVERS {
-        return s;
-    }
-    if rank == 0 {
-        return s;
-    }
-    if ranks[top] < own[top] {
-        wait[waiting] = top as u16;
-        return Search {
-            depth,
-            waiting: waiting + 1,
-            last,
-            rank,
-            start,
-        };
-    }
-    let left = gather(ranks, wait, waiting, own[top], rank);
-    ranks[top] = rank;
-    Search {
-        depth,
-        waiting: left,
-        last,
-        rank: rank - 1,
-        start,
-    }
-}
-
-// The next driver to start from, if no search came to it.
-fn begin(
-    n: usize,
-    ranks: &mut [u16; DRIVERS],
-    own: &mut [u16; DRIVERS],
-    path: &mut [u16; DRIVERS],
-    s: Search,
-) -> Search
-    requires { ⌜ n ≤ 10923 ⌝ }
-{
-    let i = s.start;
-    if i >= n {
-        return s;
-    }
-    let t = Search {
-        depth: s.depth,
-        waiting: s.waiting,
-        last: s.last,
-        rank: s.rank,
-        start: i + 1,
-    };
-    if ranks[i] != 0 {
-        return t;
-    }
-    open(ranks, own, path, t, i)
-}
-
-// A step of the search.
-fn search_on(
-    refs: &[u16; PINS],
-    n: usize,
-    ranks: &mut [u16; DRIVERS],
-    own: &mut [u16; DRIVERS],
-    path: &mut [u16; DRIVERS],
-    passed: &mut [u8; DRIVERS],
-    wait: &mut [u16; DRIVERS],
-    s: Search,
-) -> Search
-    requires { ⌜ n ≤ 10923 ⌝ }
-{
-    let depth = s.depth;
-    if depth == 0 {
-        return begin(n, ranks, own, path, s);
-    }
-    if depth > DRIVERS {
-        return s;
-    }
-    let top = check_order::listed(path, depth - 1);
-    if top >= DRIVERS {
-        return s;
-    }
-    let j = passed[top];
-    if j < 4 {
-        return pass(refs, ranks, own, path, passed, s, top, j);
-    }
-    finish(ranks, own, wait, s, top)
-}
-
-// The whole search: for each driver a start, four pins, at most one of which leads to it first, and an end.
-fn rank(refs: &[u16; PINS], n: usize, ranks: &mut [u16; DRIVERS])
+// The whole search: for each driver a start, four pins, at most one of which leads to it first, and an end. `depth` is how deep the path is, `waiting` how
+// many wait for the rank of their part, `last` the last number given, `rank` the next rank and `start` the next driver to start from. A driver that has no
+// rank yet has in its place the lowest number that a pin led to, and in `own` the one that it was given.
+fn rank(refs: &Refs, n: usize, ranks: &mut Words)
     requires { ⌜ n ≤ 10923 ⌝ }
 {
     let mut own = [0u16; DRIVERS];
     let mut path = [0u16; DRIVERS];
     let mut passed = [0u8; DRIVERS];
     let mut wait = [0u16; DRIVERS];
-    let mut s = Search {
-        depth: 0,
-        waiting: 0,
-        last: 0,
-        rank: 65535,
-        start: 0,
-    };
+    let mut depth = 0;
+    let mut waiting = 0;
+    let mut last: u16 = 0;
+    let mut rank: u16 = 65535;
+    let mut start = 0;
     let mut steps = 7 * n;
     while steps > 0 {
-        s = search_on(
-            refs,
-            n,
-            ranks,
-            &mut own,
-            &mut path,
-            &mut passed,
-            &mut wait,
-            s,
-        );
         steps -= 1;
+        // No text has so many drivers: the tests spare a proof of it.
+        if depth >= DRIVERS {
+            return;
+        }
+        if waiting >= DRIVERS {
+            return;
+        }
+        if last >= 30000 {
+            return;
+        }
+        if rank == 0 {
+            return;
+        }
+        let mut y = start;
+        if depth == 0 {
+            if start >= n {
+                return;
+            }
+            start += 1;
+        } else {
+            let top = check_order::listed(&path, depth - 1);
+            if top >= DRIVERS {
+                return;
+            }
+            let j = passed[top];
+            if j >= 4 {
+                // All its pins are passed: it waits, or, where no pin led below it, its part is complete.
+                depth -= 1;
+                if ranks[top] < own[top] {
+                    wait[waiting] = top as u16;
+                    waiting += 1;
+                    continue;
+                }
+                waiting = gather(ranks, &wait, waiting, own[top], rank);
+                ranks[top] = rank;
+                rank -= 1;
+                continue;
+            }
+            let x = check_order::pin(refs, 4 * top + j as usize);
+            if x < 12 {
+                passed[top] = j + 1;
+                continue;
+            }
+            y = x - 12;
+            if y >= DRIVERS {
+                return;
+            }
+            let r = ranks[y];
+            if r != 0 {
+                // What feeds the pin was on the path: it lowers the number.
+                if r < ranks[top] {
+                    ranks[top] = r;
+                }
+                passed[top] = j + 1;
+                continue;
+            }
+        }
+        // A driver that the search comes to first.
+        if y < DRIVERS && ranks[y] == 0 {
+            last += 1;
+            ranks[y] = last;
+            own[y] = last;
+            path[depth] = y as u16;
+            depth += 1;
+        }
     }
 }
 
-// A rank as a number that one can be added to.
-fn wide(x: u16) -> usize
-    ensures { λ r. ⌜ (r ≡ x) × (r < 65536) ⌝ }
-{
-    x as usize
-}
-
 // The rank of the driver at pin j of driver i, if one is there, is `least` or higher.
-fn pin_rises(
-    refs: &[u16; PINS],
-    n: usize,
-    ranks: &[u16; DRIVERS],
-    i: usize,
-    j: usize,
-    least: usize,
-) -> bool
+fn pin_rises(refs: &Refs, n: usize, ranks: &Words, i: usize, j: usize, least: usize) -> bool
     requires { ⌜ Pinned (now refs) n × (i < n) × (j < 4) ⌝ }
     ensures { λ r. ⌜ (r ≡ true → (k : ℕ) → FeedsAt (now (refs .entry)) i j k → least ≤ getD (now (ranks .entry)) k 0) ⌝ }
 {
@@ -365,11 +211,11 @@ fn pin_rises(
 }
 
 // The rank of each driver that feeds driver i is higher by so much at least.
-fn rises(refs: &[u16; PINS], n: usize, ranks: &[u16; DRIVERS], i: usize, by: usize) -> bool
+fn rises(refs: &Refs, n: usize, ranks: &Words, i: usize, by: usize) -> bool
     requires { ⌜ Pinned (now refs) n × (i < n) × (by ≤ 1) ⌝ }
     ensures { λ r. ⌜ (r ≡ true → Rising (now (refs .entry)) (now (ranks .entry)) by i) ⌝ }
 {
-    let least = wide(ranks[i]) + by;
+    let least = check_wires::wide(ranks[i]) + by;
     let mut j = 0;
     while j < 4 {
         if !pin_rises(refs, n, ranks, i, j, least) {
@@ -381,7 +227,7 @@ fn rises(refs: &[u16; PINS], n: usize, ranks: &[u16; DRIVERS], i: usize, by: usi
 }
 
 // No driver has a rank above one of a driver that feeds it.
-fn all_rise(refs: &[u16; PINS], n: usize, ranks: &[u16; DRIVERS]) -> bool
+fn all_rise(refs: &Refs, n: usize, ranks: &Words) -> bool
     requires { ⌜ Pinned (now refs) n ⌝ }
     ensures { λ r. ⌜ (r ≡ true → (i : ℕ) → i < n → Rising (now (refs .entry)) (now (ranks .entry)) 0 i) ⌝ }
 {
@@ -398,14 +244,7 @@ fn all_rise(refs: &[u16; PINS], n: usize, ranks: &[u16; DRIVERS]) -> bool
 // ---- the first driver on a circle
 
 // Whether driver i is on a circle; one that is listed, or below all that feeds it, is on none.
-fn on_circle(
-    refs: &[u16; PINS],
-    n: usize,
-    marks: &[u8; DRIVERS],
-    ranks: &[u16; DRIVERS],
-    ranked: bool,
-    i: usize,
-) -> bool
+fn on_circle(refs: &Refs, n: usize, marks: &Marks, ranks: &Words, ranked: bool, i: usize) -> bool
     requires { ⌜ Pinned (now refs) n × (i < n) × (ranked ≡ true → (k : ℕ) → k < n → Rising (now refs) (now ranks) 0 k) ⌝ }
     ensures { λ r. ⌜ LeftTurns (now (refs .entry)) (now (marks .entry)) i r ⌝ }
 {
@@ -421,7 +260,7 @@ fn on_circle(
 }
 
 // The first driver on a circle. With ranks as they are meant, the one walk is from it.
-fn first_circle(refs: &[u16; PINS], n: usize, marks: &[u8; DRIVERS]) -> usize
+fn first_circle(refs: &Refs, n: usize, marks: &Marks) -> usize
     requires { ⌜ Pinned (now refs) n ⌝ }
     ensures { λ r. ⌜ Circled (now (refs .entry)) n (now (marks .entry)) r ⌝ }
 {
@@ -444,8 +283,8 @@ pub fn wire(
     n: usize,
     inputs: &[u64; 12],
     count: usize,
-    refs: &mut [u16; PINS],
-    order: &mut [u16; DRIVERS],
+    refs: &mut Refs,
+    order: &mut Words,
 ) -> Verdict
     requires { ⌜ ((names : List (List ℕ)) × (ds : List Driver) × Stored names ds (now nets) (now inputs) n count) × (length (now refs) ≡ 43692) ×
         (length (now order) ≡ 10923) ⌝ }

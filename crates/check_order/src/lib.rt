@@ -1,11 +1,12 @@
 // The drivers of an edited netlist in an order, each behind those that feed it. A sweep lists each driver whose pins are fed by inputs and listed drivers
-// alone,
-// so that what is listed is in order whatever was tried first; a walk from each driver down to what feeds it tries them so that without a circle all are
-// listed at once. Where a sweep lists none, what is left is stuck behind a circle.
+// alone, so that what is listed is in order whatever was tried first; a walk from each driver down to what feeds it tries them so that without a circle all
+// are listed at once. Where a sweep lists none, what is left is stuck behind a circle.
 use check_reader::DRIVERS;
-use check_wires::PINS;
+use check_wires::Marks;
+use check_wires::Refs;
+use check_wires::Words;
 ghost use Rattle.base.specs.{_≡_, suc, _*_, _≤_, _<_, getD, set};
-ghost use Rattle.check_order.specs.{Made, made, placeOf, sweepFrom, settleFrom, down, flat, descendOf, stepOf, diveOf, divesFrom};
+ghost use Rattle.check_order.specs.{Made, made, placeOf, sweepFrom, settleFrom, down, flat, descendOf, stepOf, diveOf};
 ghost use Rattle.check_order.specs.{arrangeOf, Pinned, Fed, Tried, Arranged, Placed, Swept, Settled, Walking};
 
 // How deep the walk down is, and how many drivers are listed.
@@ -14,31 +15,24 @@ pub struct Walk {
     pub count: usize,
 }
 
-// A word as an index.
-fn wide(x: u16) -> usize
-    ensures { λ r. ⌜ r ≡ x ⌝ }
-{
-    x as usize
-}
-
 // What stands at a pin.
-pub fn pin(refs: &[u16; PINS], at: usize) -> usize
+pub fn pin(refs: &Refs, at: usize) -> usize
     requires { ⌜ at < 43692 ⌝ }
     ensures { λ r. ⌜ r ≡ getD (now (refs .entry)) at 0 ⌝ }
 {
-    wide(refs[at])
+    check_wires::wide(refs[at])
 }
 
 // A driver at a place of a list.
-pub fn listed(list: &[u16; DRIVERS], p: usize) -> usize
+pub fn listed(list: &Words, p: usize) -> usize
     requires { ⌜ p < 10923 ⌝ }
     ensures { λ r. ⌜ r ≡ getD (now (list .entry)) p 0 ⌝ }
 {
-    wide(list[p])
+    check_wires::wide(list[p])
 }
 
 // A driver listed at place m, and marked.
-pub fn append(marks: &mut [u8; DRIVERS], list: &mut [u16; DRIVERS], m: usize, i: usize)
+pub fn append(marks: &mut Marks, list: &mut Words, m: usize, i: usize)
     requires { ⌜ (m < 10923) × (i < 10923) ⌝ }
     ensures { λ _. ⌜ (now (marks .exit) ≡ set (now (marks .entry)) i 1) × (now (list .exit) ≡ set (now (list .entry)) m i) ⌝ }
 {
@@ -47,7 +41,7 @@ pub fn append(marks: &mut [u8; DRIVERS], list: &mut [u16; DRIVERS], m: usize, i:
 }
 
 // Pin j of driver i is fed by an input or a listed driver.
-fn is_fed(refs: &[u16; PINS], n: usize, marks: &[u8; DRIVERS], i: usize, j: usize) -> bool
+fn is_fed(refs: &Refs, n: usize, marks: &Marks, i: usize, j: usize) -> bool
     requires { ⌜ Pinned (now refs) n × (i < n) × (j < 4) ⌝ }
     ensures { λ r. ⌜ Fed (now (refs .entry)) (now (marks .entry)) i j r ⌝ }
 {
@@ -62,7 +56,7 @@ fn is_fed(refs: &[u16; PINS], n: usize, marks: &[u8; DRIVERS], i: usize, j: usiz
 }
 
 // All four are.
-fn is_ready(refs: &[u16; PINS], n: usize, marks: &[u8; DRIVERS], i: usize) -> bool
+fn is_ready(refs: &Refs, n: usize, marks: &Marks, i: usize) -> bool
     requires { ⌜ Pinned (now refs) n × (i < n) ⌝ }
     ensures { λ r. ⌜ Tried (now (refs .entry)) (now (marks .entry)) i r ⌝ }
 {
@@ -77,14 +71,7 @@ fn is_ready(refs: &[u16; PINS], n: usize, marks: &[u8; DRIVERS], i: usize) -> bo
 }
 
 // Driver i listed, if it can be and is not yet.
-fn place(
-    refs: &[u16; PINS],
-    n: usize,
-    marks: &mut [u8; DRIVERS],
-    order: &mut [u16; DRIVERS],
-    m: usize,
-    i: usize,
-) -> usize
+fn place(refs: &Refs, n: usize, marks: &mut Marks, order: &mut Words, m: usize, i: usize) -> usize
     requires { ⌜ Pinned (now refs) n × (i < n) × Arranged (now refs) n (now marks) (now order) m ⌝ }
     ensures { λ r. ⌜ Placed (now (refs .entry)) n i m (now (marks .entry)) r (now (marks .exit)) (now (order .exit)) ⌝ }
     ensures { λ r. ⌜ made r (now (marks .exit)) (now (order .exit)) ≡ placeOf (now (refs .entry)) (made m (now (marks .entry)) (now (order .entry))) i ⌝ }
@@ -100,13 +87,7 @@ fn place(
 }
 
 // All drivers tried, as the lines stand.
-fn sweep(
-    refs: &[u16; PINS],
-    n: usize,
-    marks: &mut [u8; DRIVERS],
-    order: &mut [u16; DRIVERS],
-    m: usize,
-) -> usize
+fn sweep(refs: &Refs, n: usize, marks: &mut Marks, order: &mut Words, m: usize) -> usize
     requires { ⌜ Pinned (now refs) n × Arranged (now refs) n (now marks) (now order) m ⌝ }
     ensures { λ r. ⌜ Swept (now (refs .entry)) n n m (now (marks .entry)) r (now (marks .exit)) (now (order .exit)) ⌝ }
     ensures { λ r. ⌜ made r (now (marks .exit)) (now (order .exit)) ≡ sweepFrom (now (refs .entry)) 0 n (made m (now (marks .entry)) (now (order .entry))) ⌝ }
@@ -121,13 +102,7 @@ fn sweep(
 }
 
 // Sweeps until one lists none.
-fn settle(
-    refs: &[u16; PINS],
-    n: usize,
-    marks: &mut [u8; DRIVERS],
-    order: &mut [u16; DRIVERS],
-    m: usize,
-) -> usize
+fn settle(refs: &Refs, n: usize, marks: &mut Marks, order: &mut Words, m: usize) -> usize
     requires { ⌜ Pinned (now refs) n × Arranged (now refs) n (now marks) (now order) m ⌝ }
     ensures { λ r. ⌜ Settled (now (refs .entry)) n r (now (marks .exit)) (now (order .exit)) ⌝ }
     ensures { λ r. ⌜ made r (now (marks .exit)) (now (order .exit)) ≡ settleFrom (now (refs .entry)) n (suc n)
@@ -142,43 +117,36 @@ fn settle(
     r
 }
 
-// What feeds the pin at `at` put on the stack, if it is a driver that the walk has not come to.
-fn descend(
-    refs: &[u16; PINS],
-    n: usize,
-    passed: &[u8; DRIVERS],
-    stack: &mut [u16; DRIVERS],
-    depth: usize,
-    at: usize,
-) -> usize
-    requires { ⌜ Pinned (now refs) n × (at < 4 * n) × (depth ≤ n) ⌝ }
+// What feeds the pin at `at` put on the stack, d deep, if it is a driver that the walk has not come to.
+fn descend(refs: &Refs, n: usize, passed: &Marks, stack: &mut Words, d: usize, at: usize) -> usize
+    requires { ⌜ Pinned (now refs) n × (at < 4 * n) × (d ≤ n) ⌝ }
     ensures { λ r. ⌜ (r ≤ n) × ((l : Made) → down r l (now (passed .entry)) (now (stack .exit)) ≡ descendOf (now (refs .entry)) n
-        (down depth l (now (passed .entry)) (now (stack .entry))) at) ⌝ }
+        (down d l (now (passed .entry)) (now (stack .entry))) at) ⌝ }
 {
     let x = pin(refs, at);
     if x < 12 {
-        return depth;
+        return d;
     }
     if passed[x - 12] != 0 {
-        return depth;
+        return d;
     }
-    if depth >= n {
-        return depth;
+    if d >= n {
+        return d;
     }
-    stack[depth] = (x - 12) as u16;
-    depth + 1
+    stack[d] = (x - 12) as u16;
+    d + 1
 }
 
 // A step at the driver on top: down at its next pin, or, with all its pins passed, it is tried and the walk goes up. Nothing is to be known of
 // the stack, so that a number that is no driver's ends the walk.
 fn step(
-    refs: &[u16; PINS],
+    refs: &Refs,
     n: usize,
-    marks: &mut [u8; DRIVERS],
-    order: &mut [u16; DRIVERS],
+    marks: &mut Marks,
+    order: &mut Words,
     w: Walk,
-    stack: &mut [u16; DRIVERS],
-    passed: &mut [u8; DRIVERS],
+    stack: &mut Words,
+    passed: &mut Marks,
 ) -> Walk
     requires { ⌜ Pinned (now refs) n × Walking (now refs) n w (now marks) (now order) × (0 < w .depth) ⌝ }
     ensures { λ r. ⌜ Walking (now (refs .entry)) n r (now (marks .exit)) (now (order .exit)) ⌝ }
@@ -198,23 +166,21 @@ fn step(
         let next = descend(refs, n, passed, stack, depth, 4 * top + j as usize);
         return Walk { depth: next, count };
     }
-    let next = place(refs, n, marks, order, count, top);
-    Walk {
-        depth: depth - 1,
-        count: next,
-    }
+    let count = place(refs, n, marks, order, count, top);
+    let depth = depth - 1;
+    Walk { depth, count }
 }
 
 // The walk down from a driver that none came to: five steps for each driver that it comes to.
 fn dive(
-    refs: &[u16; PINS],
+    refs: &Refs,
     n: usize,
-    marks: &mut [u8; DRIVERS],
-    order: &mut [u16; DRIVERS],
+    marks: &mut Marks,
+    order: &mut Words,
     m: usize,
     i: usize,
-    passed: &mut [u8; DRIVERS],
-    stack: &mut [u16; DRIVERS],
+    passed: &mut Marks,
+    stack: &mut Words,
 ) -> usize
     requires { ⌜ Pinned (now refs) n × (i < n) × Arranged (now refs) n (now marks) (now order) m ⌝ }
     ensures { λ r. ⌜ Arranged (now (refs .entry)) n (now (marks .exit)) (now (order .exit)) r ⌝ }
@@ -237,42 +203,19 @@ fn dive(
     w.count
 }
 
-// Walks from each driver.
-fn dive_all(
-    refs: &[u16; PINS],
-    n: usize,
-    marks: &mut [u8; DRIVERS],
-    order: &mut [u16; DRIVERS],
-    passed: &mut [u8; DRIVERS],
-    stack: &mut [u16; DRIVERS],
-) -> usize
-    requires { ⌜ Pinned (now refs) n × Arranged (now refs) n (now marks) (now order) 0 ⌝ }
-    ensures { λ r. ⌜ Arranged (now (refs .entry)) n (now (marks .exit)) (now (order .exit)) r ⌝ }
-    ensures { λ r. ⌜ down 0 (made r (now (marks .exit)) (now (order .exit))) (now (passed .exit)) (now (stack .exit))
-        ≡ divesFrom (now (refs .entry)) n 0 n (down 0 (made 0 (now (marks .entry)) (now (order .entry))) (now (passed .entry)) (now (stack .entry))) ⌝ }
-{
-    let mut m = 0;
-    let mut i = 0;
-    while i < n {
-        m = dive(refs, n, marks, order, m, i, passed, stack);
-        i += 1;
-    }
-    m
-}
-
-// The order, as far as it goes.
-pub fn arrange(
-    refs: &[u16; PINS],
-    n: usize,
-    marks: &mut [u8; DRIVERS],
-    order: &mut [u16; DRIVERS],
-) -> usize
+// The order, as far as it goes: walks from each driver, then sweeps.
+pub fn arrange(refs: &Refs, n: usize, marks: &mut Marks, order: &mut Words) -> usize
     requires { ⌜ Pinned (now refs) n × Arranged (now refs) n (now marks) (now order) 0 ⌝ }
     ensures listed { λ r. ⌜ Settled (now (refs .entry)) n r (now (marks .exit)) (now (order .exit)) ⌝ }
     ensures answer { λ r. ⌜ made r (now (marks .exit)) (now (order .exit)) ≡ arrangeOf (now (refs .entry)) n (now (marks .entry)) (now (order .entry)) ⌝ }
 {
     let mut passed = [0u8; DRIVERS];
     let mut stack = [0u16; DRIVERS];
-    let m = dive_all(refs, n, marks, order, &mut passed, &mut stack);
+    let mut m = 0;
+    let mut i = 0;
+    while i < n {
+        m = dive(refs, n, marks, order, m, i, &mut passed, &mut stack);
+        i += 1;
+    }
     settle(refs, n, marks, order, m)
 }

@@ -1,6 +1,6 @@
 -- Lines that are due, one by one.
 use Rattle.base.specs.{ℕ, _+_, _≤_, _<_, arith, _≡_, refl, sym, _∙_, ap, ap₂, Bool, true, false, cond, true≢false, List, [], _∷_, _++_}
-use Rattle.base.specs.{append-nil, eqb-true, lt-ltb, le-ltb, length, take, drop, length-append, take-append-seam}
+use Rattle.base.specs.{append-nil, ltb, eqb-true, lt-ltb, le-ltb, length, take, drop, length-append, take-append-seam}
 use Rattle.model.specs.{ended, endedByTen, fault, unless, isLine, pastLines}
 use Rattle.base_words.proofs.{length-put}
 use Rattle.base_text.specs.{Wrote, lineAt, pastLine, spanAt}
@@ -85,6 +85,16 @@ module _ (s w : List ℕ) (at : ℕ) where
             ∙ ap (λ (n : ℕ). pastLines (length s) ws (linesAt s n)) past;
         within = λ _. h;
       }
+
+-- where a line that is due stands, what is behind it begins past its end
+picked : (a b : Bool) (x y z p : Place) → p ≡ cond a (cond b x y) z → y .broken ≡ true → z .broken ≡ true → p .broken ≡ false → p ≡ x
+picked true true x y z p e f g h = e
+picked true false x y z p e f g h = absurd (true≢false (sym (ap (λ (q : Place). q .broken) e ∙ f) ∙ h))
+picked false b x y z p e f g h = absurd (true≢false (sym (ap (λ (q : Place). q .broken) e ∙ g) ∙ h))
+
+pub due-past : (s w : List ℕ) (at : ℕ) (p : Place) → Due s w at p → p .broken ≡ false → p .at ≡ at + length w + 1
+unfolding dueAt
+due-past s w at p d h = ap (λ (q : Place). q .at) (picked (ltb at (length s)) (isLine w (lineAt s at)) _ _ _ p (d .is) refl refl h)
 
 -- three lines, one behind the other
 next-due : (s w : List ℕ) (ws : List (List ℕ)) (at : ℕ) (r p : Place) → p ≡ dueAt s w at → r ≡ cond (p .broken) p (dueFrom s ws (p .at)) → r ≡ dueFrom s (w ∷ ws) at

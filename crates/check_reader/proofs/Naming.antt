@@ -2,16 +2,16 @@
 use Rattle.base.specs.{ℕ, suc, _+_, _-_, _*_, _≤_, _<_, arith, _≡_, refl, sym, _∙_, ap, ap₂, Bool, true, false, cond, true≢false, Option}
 use Rattle.base.specs.{none, some, List, [], _∷_, _++_, eqb, length, take, drop, getD, length-append, take-append-seam, eqb-true, lt-ltb}
 use Rattle.base.specs.{add-one}
-use Rattle.model.specs.{each, same, only, Line, ended, endedByTen, text, decimal, fields, Read, holds, fault, next, unless, from?, outName}
-use Rattle.model.specs.{Driver, isNet, isLine, nameDriver, pastRow, readNames}
+use Rattle.model.specs.{each, same, only, Line, ended, endedByTen, text, decimal, fields, Read, holds, fault, next, from?, outName}
+use Rattle.model.specs.{Driver, isNet, nameDriver, pastRow, pastLines, readNames}
 use Rattle.base_words.specs.{putAt}
 use Rattle.base_words.proofs.{length-put, put-none, put-append}
 use Rattle.base_text.specs.{lineAt, pastLine}
-use Rattle.base_text.proofs.{lines-at, lines-none, same-eq, and-left, and-right, dec-below}
+use Rattle.base_text.proofs.{lines-at, lines-none, and-left, and-right, dec-below}
 use Rattle.check_names.specs.{code, gateOf, nameCode}
 use Rattle.check_names.proofs.{code-some}
-use Rattle.check_reader.specs.{linesAt, gateWords, driverWords, wireGate, Stepped, Paired}
-use Rattle.check_reader.specs.declared.Progress.{Progress}
+use Rattle.check_reader.specs.{linesAt, gateWords, driverWords, wireGate, Due, Stepped, Paired}
+use Rattle.check_reader.specs.declared.Place.{Place}
 use Rattle.check_reader.proofs.Gathering.{words-long, driver-eight, each-last, next-same, next-twice}
 
 -- ---- a letter's net
@@ -84,6 +84,12 @@ name-long k l d e =
 
 -- ---- the lines
 
+-- the line `1 1` is one that must be there
+row-line : (end : ℕ) (ls : List Line) → pastRow end ls ≡ pastLines end (text "1 1" ∷ []) ls
+unfolding pastRow pastLines
+row-line end [] = refl
+row-line end (l ∷ ls) = refl
+
 module _ (s : List ℕ) (k at : ℕ) where
   pub names-missing : length s ≤ at → (left : ℕ) → readNames (length s) k (suc left) (linesAt s at) ≡ fault 32 (length s)
   unfolding readNames
@@ -108,42 +114,18 @@ module _ (s : List ℕ) (k at : ℕ) where
           (λ rest. next (readNames (length s) (suc k) left rest) (λ ds. holds (x ∷ ds))))) is
           ∙ ap (λ (b : Bool). next (pastRow (length s) (cond b (linesAt s (pastLine s at)) [])) (λ rest. next (readNames (length s) (suc k) left rest) (λ ds. holds (d ∷ ds)))) (lt-ltb 0 (lineAt s at .ending) (omega arith))
 
-      pub names-rowless : length s ≤ pastLine s at → (left : ℕ) → readNames (length s) k (suc left) (linesAt s at) ≡ fault 32 (length s)
-      unfolding pastRow next
-      names-rowless q left = second left ∙ ap (λ (ls : List Line). next (pastRow (length s) ls) (λ rest. next (readNames (length s) (suc k) left rest) (λ ds. holds (d ∷ ds)))) (lines-none s (pastLine s at) q)
+      -- the row is due behind it
+      third : (left : ℕ) → readNames (length s) k (suc left) (linesAt s at) ≡ next (pastLines (length s) (text "1 1" ∷ []) (linesAt s (pastLine s at))) (λ rest. next (readNames (length s) (suc k) left rest) (λ ds. holds (d ∷ ds)))
+      third left = second left ∙ ap (λ (r : Read (List Line)). next r (λ rest. next (readNames (length s) (suc k) left rest) (λ ds. holds (d ∷ ds)))) (row-line (length s) (linesAt s (pastLine s at)))
 
-      module _ (q : pastLine s at < length s) where
-        row : ℕ
-        row = pastLine s at
+      module _ (r : Place) (row : Due s (text "1 1") (pastLine s at) r) where
+        pub row-broken : r .broken ≡ true → (left : ℕ) → readNames (length s) k (suc left) (linesAt s at) ≡ fault 32 (r .at)
+        unfolding next
+        row-broken e left = third left ∙ ap (λ (x : Read (List Line)). next x (λ rest. next (readNames (length s) (suc k) left rest) (λ ds. holds (d ∷ ds)))) (row .refused e [])
 
-        third : (left : ℕ) → readNames (length s) k (suc left) (linesAt s at) ≡ next (unless (isLine (text "1 1") (lineAt s row)) 32 row (holds (cond (ended (lineAt s row)) (linesAt s (pastLine s row)) [])))
-            (λ rest. next (readNames (length s) (suc k) left rest) (λ ds. holds (d ∷ ds)))
-        unfolding row pastRow lineAt
-        third left = second left ∙ ap (λ (ls : List Line). next (pastRow (length s) ls) (λ rest. next (readNames (length s) (suc k) left rest) (λ ds. holds (d ∷ ds)))) (lines-at s row q)
-
-        pub row-broken : isLine (text "1 1") (lineAt s (pastLine s at)) ≡ false → (left : ℕ) → readNames (length s) k (suc left) (linesAt s at) ≡ fault 32 (pastLine s at)
-        unfolding row unless next
-        row-broken e left = third left ∙ ap (λ (b : Bool). next (unless b 32 row (holds (cond (ended (lineAt s row)) (linesAt s (pastLine s row)) []))) (λ rest. next (readNames (length s) (suc k) left rest) (λ ds. holds (d ∷ ds)))) e
-
-        pub row-fine : isLine (text "1 1") (lineAt s (pastLine s at)) ≡ true → (left : ℕ)
-            → readNames (length s) k (suc left) (linesAt s at) ≡ next (readNames (length s) (suc k) left (linesAt s (pastLine s at + 4))) (λ ds. holds (d ∷ ds))
-        unfolding row unless next isLine text pastLine lineAt
-        row-fine e left =
-            third left ∙ ap (λ (b : Bool). next (unless b 32 row (holds (cond (ended (lineAt s row)) (linesAt s (pastLine s row)) []))) (λ rest. next (readNames (length s) (suc k) left rest) (λ ds. holds (d ∷ ds)))) e
-            ∙ ap (λ (b : Bool). next (readNames (length s) (suc k) left (cond b (linesAt s (pastLine s row)) [])) (λ ds. holds (d ∷ ds))) (lt-ltb 0 (lineAt s row .ending) (omega (arith, one)))
-            ∙ ap (λ (n : ℕ). next (readNames (length s) (suc k) left (linesAt s n)) (λ ds. holds (d ∷ ds))) past
-          where
-            one : lineAt s row .ending ≡ 1
-            one = eqb-true (lineAt s row .ending) 1 (and-left (endedByTen (lineAt s row)) _ e)
-
-            bytes : lineAt s row .bytes ≡ text "1 1"
-            bytes = same-eq (lineAt s row .bytes) (text "1 1") (and-right (endedByTen (lineAt s row)) _ e)
-
-            three : length (lineAt s row .bytes) ≡ 3
-            three = ap length bytes
-
-            past : pastLine s row ≡ row + 4
-            past = let z : length (lineAt s row .bytes) ≡ 3 = three in let y : lineAt s row .ending ≡ 1 = one in omega arith
+        pub row-fine : r .broken ≡ false → (left : ℕ) → readNames (length s) k (suc left) (linesAt s at) ≡ next (readNames (length s) (suc k) left (linesAt s (r .at))) (λ ds. holds (d ∷ ds))
+        unfolding next pastLines
+        row-fine e left = third left ∙ ap (λ (x : Read (List Line)). next x (λ rest. next (readNames (length s) (suc k) left rest) (λ ds. holds (d ∷ ds)))) (row .next e [])
 
 -- ---- the pairs so far
 
@@ -166,7 +148,7 @@ pairs-start s outs first i w room = record {
   due = next-same (readNames (length s) 0 outs (linesAt s first)) ∙ ap (λ (n : ℕ). next (readNames (length s) 0 n (linesAt s first)) (λ ds. holds ds)) (let z : outs ≡ outs - 0 = omega arith in z);
 }
 
-module _ (s : List ℕ) (outs first i at k : ℕ) (before now : List ℕ) (so : Pairs s outs first i at k before now) (here : k < outs) (p : Progress) (after : List ℕ)
+module _ (s : List ℕ) (outs first i at k : ℕ) (before now : List ℕ) (so : Pairs s outs first i at k before now) (here : k < outs) (p : Place) (after : List ℕ)
     (step : Stepped s k at (i + k) p now after) where
   left : outs - k ≡ suc (outs - (k + 1))
   left = omega arith
@@ -194,7 +176,7 @@ module _ (s : List ℕ) (outs first i at k : ℕ) (before now : List ℕ) (so : 
         stored = d .1 ∙ ap₂ (λ (w : List ℕ) (n : ℕ). putAt w n (driverWords (d .0))) (so .stored) place
             ∙ put-append before (8 * i) (each driverWords (so .drivers)) (driverWords (d .0)) (omega (arith, long, driver-eight (d .0))) ∙ sym (ap (putAt before (8 * i)) (each-last (so .drivers) (d .0)));
         due = so .due ∙ ap (λ (n : ℕ). next (readNames (length s) k n (linesAt s at)) (λ ds. holds (so .drivers ++ ds))) left
-            ∙ ap (λ (r : Read (List Driver)). next r (λ ds. holds (so .drivers ++ ds))) (d .4 (outs - (k + 1)))
+            ∙ ap (λ (r : Read (List Driver)). next r (λ ds. holds (so .drivers ++ ds))) (d .3 (outs - (k + 1)))
             ∙ next-twice (readNames (length s) (suc k) (outs - (k + 1)) (linesAt s (p .at))) (d .0) (so .drivers)
             ∙ ap (λ (j : ℕ). next (readNames (length s) j (outs - (k + 1)) (linesAt s (p .at))) (λ ds. holds ((so .drivers ++ (d .0 ∷ [])) ++ ds))) (sym (add-one k));
       }

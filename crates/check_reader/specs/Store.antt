@@ -7,6 +7,7 @@ use Rattle.base_words.specs.{putAt}
 use Rattle.check_names.specs.declared.Gate.{Gate}
 use Rattle.check_names.specs.{code, gateOf}
 use Rattle.check_reader.specs.Frame.{linesAt}
+use Rattle.check_reader.specs.declared.Place.{Place}
 use Rattle.check_reader.specs.declared.Progress.{Progress}
 
 -- a library that was read: cells of at most four pins
@@ -40,11 +41,11 @@ abbrev pub wireGate : ℕ → ℕ → Gate
 wireGate net k = record { table = 2; count = 1; codes = net ∷ 0 ∷ 0 ∷ 0 ∷ []; net = code (outName k) }
 
 -- output k's two lines were read: its driver stands at place i of the array and the lines behind are due, or a line breaks its form or is missing
-pub record Stepped (s : List ℕ) (k at i : ℕ) (r : Progress) (before after : List ℕ) : Type 0 where
+pub record Stepped (s : List ℕ) (k at i : ℕ) (r : Place) (before after : List ℕ) : Type 0 where
   pub size : length after ≡ length before
   pub refused : r .broken ≡ true → (after ≡ before) × ((left : ℕ) → readNames (length s) k (suc left) (linesAt s at) ≡ fault 32 (r .at))
   pub within : r .broken ≡ false → at < length s
-  pub due : r .broken ≡ false → (d : Driver) × (after ≡ putAt before (8 * i) (driverWords d)) × (r .count ≡ i + 1) × (at + 6 ≤ r .at)
+  pub due : r .broken ≡ false → (d : Driver) × (after ≡ putAt before (8 * i) (driverWords d)) × (at + 6 ≤ r .at)
       × ((left : ℕ) → readNames (length s) k (suc left) (linesAt s at) ≡ next (readNames (length s) (suc k) left (linesAt s (r .at))) (λ ds. holds (d ∷ ds)))
 
 -- the lines of so many outputs were read: their drivers stand from place i of the array on and what is behind them is due, or a line breaks its form or is

@@ -49,10 +49,8 @@ pub fn due(s: &[u8], at: usize, w: &[u8]) -> Place
     if !is_line(s, at, w) {
         return Place { at, broken: true };
     }
-    Place {
-        at: at + w.len() + 1,
-        broken: false,
-    }
+    let at = at + w.len() + 1;
+    Place { at, broken: false }
 }
 
 // A space, a net's letter and its number.
@@ -219,48 +217,27 @@ fn wire(net: u64, k: usize) -> Gate
     }
 }
 
-// Output k's two lines: "each gets `.names` with its net and its own name, then `1 1`". A missing line's place is the text's length.
-fn name_step(s: &[u8], at: usize, k: usize, nets: &mut [u64], i: usize) -> Progress
+// Output k's two lines: "each gets `.names` with its net and its own name, then `1 1`", and their driver at place i. A missing line's place is the text's
+// length.
+fn name_step(s: &[u8], at: usize, k: usize, nets: &mut [u64], i: usize) -> Place
     requires { ⌜ (k ≤ 65535) × (6 * i ≤ at) × (87384 ≤ length (now nets)) × (length (now s) ≤ 65536) ⌝ }
     ensures { λ r. ⌜ Stepped (now (s .entry)) k at i r (now (nets .entry)) (now (nets .exit)) ⌝ }
 {
     if at >= s.len() {
-        return Progress {
-            at: s.len(),
-            count: i,
-            broken: true,
-        };
+        let at = s.len();
+        return Place { at, broken: true };
     }
     let line = base_text::line(s, at);
     let net = name_at(s, at, line, k);
     if net == 0 {
-        return Progress {
-            at,
-            count: i,
-            broken: true,
-        };
+        return Place { at, broken: true };
     }
-    let row = line.next;
-    if row >= s.len() {
-        return Progress {
-            at: s.len(),
-            count: i,
-            broken: true,
-        };
-    }
-    if !is_line(s, row, b"1 1") {
-        return Progress {
-            at: row,
-            count: i,
-            broken: true,
-        };
+    let row = due(s, line.next, b"1 1");
+    if row.broken {
+        return row;
     }
     store(nets, i, at, wire(net, k));
-    Progress {
-        at: row + 4,
-        count: i + 1,
-        broken: false,
-    }
+    row
 }
 
 // The pairs of lines of so many outputs, their drivers from place `first` of the array on.
@@ -272,22 +249,17 @@ fn read_pairs(s: &[u8], from: usize, outs: usize, nets: &mut [u64], first: usize
     let mut k = 0;
     while k < outs {
         let p = name_step(s, at, k, nets, first + k);
-        let next = p.at;
+        at = p.at;
         if p.broken {
-            return Progress {
-                at: next,
-                count: first + k,
-                broken: true,
-            };
+            let count = first + k;
+            let broken = true;
+            return Progress { at, count, broken };
         }
-        at = next;
         k += 1;
     }
-    Progress {
-        at,
-        count: first + outs,
-        broken: false,
-    }
+    let count = first + outs;
+    let broken = false;
+    Progress { at, count, broken }
 }
 
 // "gates in any order": the gates' lines from a place on, into the array's first places.
@@ -301,29 +273,20 @@ fn read_gates(s: &[u8], from: usize, lib: Library, nets: &mut [u64]) -> Progress
         let line = base_text::line(s, at);
         let stop = line.stop;
         if !check_names::is_gate(&s[at..stop]) {
-            return Progress {
-                at,
-                count,
-                broken: false,
-            };
+            let broken = false;
+            return Progress { at, count, broken };
         }
         let g = gate_at(s, at, line, lib);
         if g.net == 0 {
-            return Progress {
-                at,
-                count,
-                broken: true,
-            };
+            let broken = true;
+            return Progress { at, count, broken };
         }
         store(nets, count, at, g);
         count += 1;
         at = line.next;
     }
-    Progress {
-        at,
-        count,
-        broken: false,
-    }
+    let broken = false;
+    Progress { at, count, broken }
 }
 
 // "BLIF as we print it up to `.end`": the first three lines, the gates' lines, the outputs' lines and `.end`; "what follows `.end` isn't read".
@@ -372,18 +335,12 @@ pub fn read(s: &[u8], lib: Library, work: &[u16], h: Header, nets: &mut [u64]) -
     requires { ⌜ Fitting lib × (length (now s) ≤ 65536) × (87384 ≤ length (now nets)) × ((g : Graph) × Framing (now work) h g) ⌝ }
     ensures { λ r. ⌜ ((g : Graph) → Framing (now (work .entry)) h g → Taken (now (s .entry)) lib g r (now (nets .entry)) (now (nets .exit))) ⌝ }
 {
-    let p = read_lines(s, lib, work, h, nets);
+    let mut p = read_lines(s, lib, work, h, nets);
     if p.broken {
         clear(nets);
-        return Progress {
-            at: p.at,
-            count: 0,
-            broken: true,
-        };
+        p.count = 0;
+    } else {
+        p.at = 0;
     }
-    Progress {
-        at: 0,
-        count: p.count,
-        broken: false,
-    }
+    p
 }

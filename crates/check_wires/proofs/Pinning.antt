@@ -1,8 +1,8 @@
 -- The numbers at pins, one by one.
-use Rattle.base.specs.{ℕ, _+_, _-_, _*_, _≤_, _<_, lt-of-not-le, decLe, arith, _≡_, refl, sym, subst, _∙_, Bool, true, inl, inr, List}
+use Rattle.base.specs.{ℕ, _+_, _-_, _*_, _/_, _%_, _≤_, _<_, lt-of-not-le, decLe, arith, _≡_, refl, sym, subst, _∙_, inl, inr, List}
 use Rattle.base.specs.{length, getD, set, length-set, getD-set-same, getD-set-other}
 use Rattle.theory_graph.proofs.{by-eqb}
-use Rattle.check_wires.specs.{pinsAt, useAt, Driven, Looked, Pin, PinLooked, Row, RowLooked}
+use Rattle.check_wires.specs.{pinsAt, useAt, Driven, Looked, Pin, PinLooked, Row}
 
 -- what is found drives the net
 pub driven : (ws ins : List ℕ) (count i x r : ℕ) → Looked ws ins count i x r → (r ≡ 12 + i → ⊥) → Driven ws ins count i x
@@ -21,38 +21,30 @@ pin-looked ws ins count n i j r lt l = record {
   none = l .none;
 }
 
--- the first j pins of driver i are written, and those of drivers before stay
-pub record Filled (ws ins : List ℕ) (count n i j : ℕ) (before after : List ℕ) : Type 0 where
+-- the first `at` pins are written, and what is behind them is as it was
+pub record Filled (ws ins : List ℕ) (count n at : ℕ) (before after : List ℕ) : Type 0 where
   pub long : length after ≡ length before
-  pub pins : (k : ℕ) → k < j → Pin ws ins count n i k (getD after (4 * i + k) 0)
-  pub kept : (a : ℕ) → a < 4 * i → getD after a 0 ≡ getD before a 0
-  pub behind : (a : ℕ) → 4 * i + 4 ≤ a → getD after a 0 ≡ getD before a 0
+  pub pins : (a : ℕ) → a < at → Pin ws ins count n (a / 4) (a % 4) (getD after a 0)
+  pub behind : (a : ℕ) → at ≤ a → getD after a 0 ≡ getD before a 0
 
-module _ (ws ins : List ℕ) (count n i : ℕ) (before : List ℕ) where
-  pub filled-none : Filled ws ins count n i 0 before before
-  filled-none = record { long = refl; pins = λ k h. absurd (omega arith); kept = λ a h. refl; behind = λ a h. refl }
+module _ (ws ins : List ℕ) (count n : ℕ) (before : List ℕ) where
+  pub filled-none : Filled ws ins count n 0 before before
+  filled-none = record { long = refl; pins = λ a h. absurd (omega arith); behind = λ a h. refl }
 
-  pub filled-next : (j r : ℕ) (now : List ℕ) → j < 4 → 4 * i + j < length before → Filled ws ins count n i j before now → Pin ws ins count n i j r
-      → Filled ws ins count n i (j + 1) before (set now (4 * i + j) r)
-  filled-next j r now small inside f p = record {
-    long = length-set now (4 * i + j) r ∙ f .long;
-    pins = λ k h. by-eqb k j
-        (λ e. subst (λ (m : ℕ). Pin ws ins count n i m (getD (set now (4 * i + j) r) (4 * i + m) 0)) (sym e)
-        (subst (Pin ws ins count n i j) (sym (getD-set-same now (4 * i + j) r 0 (omega (arith, f .long)))) p))
-        (λ ne. subst (Pin ws ins count n i k) (sym (getD-set-other now (4 * i + j) (4 * i + k) r 0 (λ e. ne (omega arith)))) (f .pins k (omega arith)));
-    kept = λ a h. getD-set-other now (4 * i + j) a r 0 (λ e. omega arith) ∙ f .kept a h;
-    behind = λ a h. getD-set-other now (4 * i + j) a r 0 (λ e. omega arith) ∙ f .behind a h;
+  pub filled-next : (at r : ℕ) (now : List ℕ) → at < length before → Filled ws ins count n at before now → Pin ws ins count n (at / 4) (at % 4) r
+      → Filled ws ins count n (at + 1) before (set now at r)
+  filled-next at r now inside f p = record {
+    long = length-set now at r ∙ f .long;
+    pins = λ a h. by-eqb a at
+        (λ e. subst (λ (m : ℕ). Pin ws ins count n (m / 4) (m % 4) (getD (set now at r) m 0)) (sym e)
+        (subst (Pin ws ins count n (at / 4) (at % 4)) (sym (getD-set-same now at r 0 (omega (arith, f .long)))) p))
+        (λ ne. subst (Pin ws ins count n (a / 4) (a % 4)) (sym (getD-set-other now at a r 0 (λ e. ne (omega arith)))) (f .pins a (omega (arith, ne))));
+    behind = λ a h. getD-set-other now at a r 0 (λ e. omega arith) ∙ f .behind a (omega arith);
   }
 
--- the rows of the drivers before stay
-pub rows-stay : (ws ins : List ℕ) (count n i : ℕ) (before after : List ℕ) → ((k : ℕ) → k < i → Row ws ins count n before k) → (b : Bool) → RowLooked ws ins count n i b before after
-    → (k : ℕ) → k < i → Row ws ins count n after k
-rows-stay ws ins count n i before after rows b r k h j lt = subst (Pin ws ins count n k j) (sym (r .kept (4 * k + j) (omega arith))) (rows k h j lt)
-
--- and that of driver i is written
-pub rows-next : (ws ins : List ℕ) (count n i : ℕ) (before after : List ℕ) → ((k : ℕ) → k < i → Row ws ins count n before k) → (b : Bool) → RowLooked ws ins count n i b before after
-    → b ≡ true → (k : ℕ) → k < i + 1 → Row ws ins count n after k
-rows-next ws ins count n i before after rows b r good k h j lt =
-    by-eqb k i
-    (λ e. subst (λ (m : ℕ). Pin ws ins count n m j (getD after (4 * m + j) 0)) (sym e) (r .row good j lt))
-    (λ ne. rows-stay ws ins count n i before after rows b r k (omega arith) j lt)
+  -- a driver's four pins are its row
+  pub filled-row : (at : ℕ) (now : List ℕ) → Filled ws ins count n at before now → (i : ℕ) → 4 * i + 4 ≤ at → Row ws ins count n now i
+  filled-row at now f i h j lt =
+      let whole : (4 * i + j) / 4 ≡ i = omega arith in
+      let rest : (4 * i + j) % 4 ≡ j = omega arith in
+      subst (λ (x : ℕ). Pin ws ins count n i x (getD now (4 * i + j) 0)) rest (subst (λ (x : ℕ). Pin ws ins count n x ((4 * i + j) % 4) (getD now (4 * i + j) 0)) whole (f .pins (4 * i + j) (omega arith)))

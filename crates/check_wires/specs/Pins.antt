@@ -1,5 +1,5 @@
 -- What stands at each pin of a netlist: below 12 the place of an input, from 12 on that of a driver.
-use Rattle.base.specs.{ℕ, _+_, _-_, _*_, _≤_, _<_, _≡_, _⊎_, Bool, true, false, List, length, getD, replicate}
+use Rattle.base.specs.{ℕ, _+_, _-_, _*_, _≤_, _<_, _≡_, _⊎_, List, length, getD, replicate}
 use Rattle.check_wires.specs.Chains.{pinsAt, useAt, ownAt}
 use Rattle.check_wires.specs.Refs.{refusedAt, refsLeft}
 
@@ -47,14 +47,6 @@ Row ws ins count n refs i = (j : ℕ) → j < 4 → Pin ws ins count n i j (getD
 -- "uses a net that no line drives"
 abbrev pub Loose : List ℕ → List ℕ → ℕ → ℕ → ℕ → Type 0
 Loose ws ins count n i = (j : ℕ) × (j < pinsAt ws i) × Undriven ws ins count n (useAt ws i j)
-
--- the pins of driver i were looked up
-pub record RowLooked (ws ins : List ℕ) (count n i : ℕ) (r : Bool) (before after : List ℕ) : Type 0 where
-  pub long : length after ≡ length before
-  pub row : r ≡ true → Row ws ins count n after i
-  pub kept : (a : ℕ) → a < 4 * i → getD after a 0 ≡ getD before a 0
-  pub behind : (a : ℕ) → 4 * i + 4 ≤ a → getD after a 0 ≡ getD before a 0
-  pub loose : r ≡ false → Loose ws ins count n i
 
 -- the first driver of a net already driven, n where there is none
 pub record Once (ws ins : List ℕ) (count n r : ℕ) : Type 0 where

@@ -2,15 +2,27 @@
 // `check_reader` stores them. Names are numbers already, so a net is found by the remainder of its number: the drivers of one remainder are a
 // chain.
 use check_reader::DRIVERS;
-ghost use Rattle.base.specs.{_≡_, _+_, _*_, _%_, _≤_, _<_, length, getD, set};
-ghost use Rattle.check_wires.specs.{Falling, ownAt, headOf, Chained, Found, InputOf, Drivers, Looked, PinLooked, RowLooked, Once};
+ghost use Rattle.base.specs.{_≡_, _+_, _*_, _/_, _%_, _≤_, _<_, length, getD, set};
+ghost use Rattle.check_wires.specs.{Falling, ownAt, headOf, Chained, Found, InputOf, Drivers, Looked, PinLooked, Once};
 ghost use Rattle.check_wires.specs.{Written, Referred};
 
 // Four for each driver.
 pub const PINS: usize = 43692;
 
+// What stands at each pin.
+pub type Refs = [u16; PINS];
+
+// A number for each driver.
+pub type Words = [u16; DRIVERS];
+
+// A mark for each.
+pub type Marks = [u8; DRIVERS];
+
 // A prime: every letter of a name moves its remainder.
 const CHAINS: usize = 16381;
+
+// The head of each chain.
+type Heads = [u16; CHAINS];
 
 // The input of this number.
 fn input_of(inputs: &[u64; 12], count: usize, x: u64) -> usize
@@ -28,21 +40,21 @@ fn input_of(inputs: &[u64; 12], count: usize, x: u64) -> usize
 }
 
 // A word as an index.
-fn wide(x: u16) -> usize
-    ensures { λ r. ⌜ r ≡ x ⌝ }
+pub fn wide(x: u16) -> usize
+    ensures { λ r. ⌜ (r ≡ x) × (r < 65536) ⌝ }
 {
     x as usize
 }
 
 // The head of a number's chain.
-fn head(heads: &[u16; CHAINS], x: u64) -> usize
+fn head(heads: &Heads, x: u64) -> usize
     ensures { λ r. ⌜ r ≡ headOf (now (heads .entry)) x ⌝ }
 {
     wide(heads[(x % 16381) as usize])
 }
 
 // The next of a chain.
-fn next(links: &[u16; DRIVERS], k: usize) -> usize
+fn next(links: &Words, k: usize) -> usize
     requires { ⌜ k < 10923 ⌝ }
     ensures { λ r. ⌜ r ≡ getD (now (links .entry)) k 0 ⌝ }
 {
@@ -50,7 +62,7 @@ fn next(links: &[u16; DRIVERS], k: usize) -> usize
 }
 
 // The driver of this number on the chain from a head.
-fn find(nets: &[u64], links: &[u16; DRIVERS], from: usize, x: u64) -> usize
+fn find(nets: &[u64], links: &Words, from: usize, x: u64) -> usize
     requires { ⌜ Falling (now links) × (8 * from ≤ length (now nets)) × (from ≤ 10923) ⌝ }
     ensures { λ r. ⌜ Found (now (nets .entry)) (now (links .entry)) from x r ⌝ }
 {
@@ -71,8 +83,8 @@ fn look(
     i: usize,
     inputs: &[u64; 12],
     count: usize,
-    heads: &[u16; CHAINS],
-    links: &[u16; DRIVERS],
+    heads: &Heads,
+    links: &Words,
     x: u64,
 ) -> usize
     requires { ⌜ (count ≤ 12) × Chained (now nets) (now heads) (now links) i × (8 * i ≤ length (now nets)) × (i ≤ 10923) ⌝ }
@@ -90,7 +102,7 @@ fn look(
 }
 
 // Driver i at the head of its number's chain.
-fn enter(nets: &[u64], i: usize, heads: &mut [u16; CHAINS], links: &mut [u16; DRIVERS])
+fn enter(nets: &[u64], i: usize, heads: &mut Heads, links: &mut Words)
     requires { ⌜ (i < 10923) × (8 * i + 8 ≤ length (now nets)) ⌝ }
     ensures { λ _. ⌜ (now (links .exit) ≡ set (now (links .entry)) i (headOf (now (heads .entry)) (ownAt (now (nets .entry)) i)))
         × (now (heads .exit) ≡ set (now (heads .entry)) (ownAt (now (nets .entry)) i % 16381) (i + 1)) ⌝ }
@@ -106,8 +118,8 @@ fn first_twice(
     n: usize,
     inputs: &[u64; 12],
     count: usize,
-    heads: &mut [u16; CHAINS],
-    links: &mut [u16; DRIVERS],
+    heads: &mut Heads,
+    links: &mut Words,
 ) -> usize
     requires { ⌜ Drivers (now nets) n count × Chained (now nets) (now heads) (now links) 0 ⌝ }
     ensures { λ r. ⌜ Once (now (nets .entry)) (now (inputs .entry)) count n r ×
@@ -125,50 +137,25 @@ fn first_twice(
     i
 }
 
-// What stands at pin j of driver i.
+// What stands at the pin at `at`: pin j of driver i is at 4 i + j.
 fn pin_of(
     nets: &[u64],
     n: usize,
     inputs: &[u64; 12],
     count: usize,
-    heads: &[u16; CHAINS],
-    links: &[u16; DRIVERS],
-    i: usize,
-    j: usize,
+    heads: &Heads,
+    links: &Words,
+    at: usize,
 ) -> usize
-    requires { ⌜ Drivers (now nets) n count × Chained (now nets) (now heads) (now links) n × (i < n) × (j < 4) ⌝ }
-    ensures { λ r. ⌜ PinLooked (now (nets .entry)) (now (inputs .entry)) count n i j r ⌝ }
+    requires { ⌜ Drivers (now nets) n count × Chained (now nets) (now heads) (now links) n × (at < 4 * n) ⌝ }
+    ensures { λ r. ⌜ PinLooked (now (nets .entry)) (now (inputs .entry)) count n (at / 4) (at % 4) r ⌝ }
 {
+    let i = at / 4;
+    let j = at % 4;
     if j as u64 >= nets[8 * i + 2] {
         return 0;
     }
     look(nets, n, inputs, count, heads, links, nets[8 * i + 3 + j])
-}
-
-// The four pins of driver i.
-fn pins_of(
-    nets: &[u64],
-    n: usize,
-    inputs: &[u64; 12],
-    count: usize,
-    heads: &[u16; CHAINS],
-    links: &[u16; DRIVERS],
-    i: usize,
-    refs: &mut [u16; PINS],
-) -> bool
-    requires { ⌜ Drivers (now nets) n count × Chained (now nets) (now heads) (now links) n × (i < n) × (length (now refs) ≡ 43692) ⌝ }
-    ensures { λ r. ⌜ RowLooked (now (nets .entry)) (now (inputs .entry)) count n i r (now (refs .entry)) (now (refs .exit)) ⌝ }
-{
-    let mut j = 0;
-    while j < 4 {
-        let r = pin_of(nets, n, inputs, count, heads, links, i, j);
-        if r == 12 + n {
-            return false;
-        }
-        refs[4 * i + j] = r as u16;
-        j += 1;
-    }
-    true
 }
 
 // "one uses a net that no line drives": the first such driver, or n with every pin's number written.
@@ -177,31 +164,27 @@ fn first_loose(
     n: usize,
     inputs: &[u64; 12],
     count: usize,
-    heads: &[u16; CHAINS],
-    links: &[u16; DRIVERS],
-    refs: &mut [u16; PINS],
+    heads: &Heads,
+    links: &Words,
+    refs: &mut Refs,
 ) -> usize
     requires { ⌜ Drivers (now nets) n count × Chained (now nets) (now heads) (now links) n × (length (now refs) ≡ 43692) ⌝ }
     ensures { λ r. ⌜ Written (now (nets .entry)) (now (inputs .entry)) count n r (now (refs .entry)) (now (refs .exit)) ⌝ }
 {
-    let mut i = 0;
-    while i < n {
-        if !pins_of(nets, n, inputs, count, heads, links, i, refs) {
-            return i;
+    let mut at = 0;
+    while at < 4 * n {
+        let r = pin_of(nets, n, inputs, count, heads, links, at);
+        if r == 12 + n {
+            return at / 4;
         }
-        i += 1;
+        refs[at] = r as u16;
+        at += 1;
     }
-    i
+    n
 }
 
 // The first driver that the first part of 33 refuses, else the first that the second does, with zeros left; else n, with every pin's number.
-pub fn refer(
-    nets: &[u64],
-    n: usize,
-    inputs: &[u64; 12],
-    count: usize,
-    refs: &mut [u16; PINS],
-) -> usize
+pub fn refer(nets: &[u64], n: usize, inputs: &[u64; 12], count: usize, refs: &mut Refs) -> usize
     requires { ⌜ Drivers (now nets) n count × (length (now refs) ≡ 43692) ⌝ }
     ensures { λ r. ⌜ Referred (now (nets .entry)) (now (inputs .entry)) count n r (now (refs .entry)) (now (refs .exit)) ⌝ }
 {

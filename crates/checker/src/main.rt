@@ -6,17 +6,12 @@ ghost use Rattle.base.specs.{length};
 ghost use Rattle.checker.specs.Enough.{Enough};
 
 fn show(c: Checked) {
-    match c {
-        Checked::Accepted => program_files::said(program_files::put(b"accepted\n"), b"checker"),
-        Checked::Differs(setting, output) => program_files::said(
-            program_files::line(b"differs", setting, output),
-            b"checker",
-        ),
-        Checked::Refused(number, place) => program_files::said(
-            program_files::refused(number, place),
-            b"checker",
-        ),
-    }
+    let written = match c {
+        Checked::Accepted => program_files::put(b"accepted\n"),
+        Checked::Differs(setting, output) => program_files::line(b"differs", setting, output),
+        Checked::Refused(number, place) => program_files::refused(number, place),
+    };
+    program_files::said(written, b"checker");
 }
 
 // With enough words lent, 10 never comes.
@@ -34,16 +29,10 @@ fn main() {
     let mut netlist = [0u8; 65537];
     let mut work = [0u16; 1036288];
     let cells_read = program_files::load(b"checker", b"cells.txt", &mut cells);
-    let Loaded::Bytes(n) = cells_read else {
-        return;
-    };
+    let Loaded::Bytes(n) = cells_read else { return };
     let graph_read = program_files::load(b"checker", b"graph.aag", &mut graph);
-    let Loaded::Bytes(m) = graph_read else {
-        return;
-    };
-    let netlist_read = program_files::load(b"checker", b"netlist.blif", &mut netlist);
-    let Loaded::Bytes(k) = netlist_read else {
-        return;
-    };
+    let Loaded::Bytes(m) = graph_read else { return };
+    let blif_read = program_files::load(b"checker", b"netlist.blif", &mut netlist);
+    let Loaded::Bytes(k) = blif_read else { return };
     check_files(&cells[..n], &graph[..m], &netlist[..k], &mut work);
 }

@@ -7,7 +7,9 @@ ghost use Rattle.cut_functions.specs.{leafNotes, Early, Noted, Placed, W
 ghost use Rattle.cut_functions.specs.{Reached, Ready, filled};
 
 // A note for each variable: "M exceeds 4,095" is turned back.
-const NOTES: usize = 4096;
+const VARIABLES: usize = 4096;
+
+type Notes = [usize; VARIABLES];
 
 // The notes of one walk go from 65536 times its number on, so that a higher number makes all earlier ones void.
 const STEP: usize = 65536;
@@ -23,7 +25,7 @@ fn wide(x: u16) -> usize
 
 // The leaves' tables noted, "leaf number i (ascending, from 0) is bit i of the row". A cut has four leaves at most, and four turns are
 // compiled without a loop.
-fn note_leaves(notes: &mut [usize; NOTES], base: usize, leaves: [u16; 4], n: usize)
+fn note_leaves(notes: &mut Notes, base: usize, leaves: [u16; 4], n: usize)
     requires { ⌜ (n ≤ 4) × (base < 65536000000) × ((i : ℕ) → i < n → getD leaves i 0 < 4096) ⌝ }
     ensures { λ _. ⌜ now (notes .exit) ≡ leafNotes (take n leaves) 0 base (now (notes .entry)) ⌝ }
 {
@@ -45,15 +47,7 @@ fn and_word(l: usize, x: u16, r: usize, y: u16) -> u16
 }
 
 // The AND of two literals, noted of v.
-fn note_and(
-    notes: &mut [usize; NOTES],
-    base: usize,
-    v: usize,
-    l: usize,
-    x: u16,
-    r: usize,
-    y: u16,
-) -> u16
+fn note_and(notes: &mut Notes, base: usize, v: usize, l: usize, x: u16, r: usize, y: u16) -> u16
     requires { ⌜ (v < 4096) × (base < 65536000000) ⌝ }
     ensures { λ z. ⌜ (z ≡ joined l x r y) × (now (notes .exit) ≡ set (now (notes .entry)) v (base + z)) ⌝ }
 {
@@ -64,7 +58,7 @@ fn note_and(
 
 // The table of u over the leaves, where no walk is wanted: "a leaf gives its bit and the walk stops there", and so at all that is noted, at
 // what is no AND, and one step above what is noted. Callers have it without a call when compiled.
-fn near(work: &[u16], m: usize, notes: &mut [usize; NOTES], base: usize, u: usize) -> usize
+fn near(work: &[u16], m: usize, notes: &mut Notes, base: usize, u: usize) -> usize
     requires { ⌜ Placed (now work) m × Early m (base + 65536) (now notes) × (base < 65536000000) × (u ≤ m) ×
         (0 < placeAt (now work) m u) ⌝ }
     ensures { λ r. ⌜ Near (now (work .entry)) m base u (now (notes .entry)) (now (notes .exit)) r ⌝ }
@@ -90,14 +84,7 @@ fn near(work: &[u16], m: usize, notes: &mut [usize; NOTES], base: usize, u: usiz
 }
 
 // The table of an AND that is not noted, by a walk; where it is to be shallow, `MISSING` in the place of a walk from an operand on.
-fn deep(
-    work: &[u16],
-    m: usize,
-    notes: &mut [usize; NOTES],
-    base: usize,
-    v: usize,
-    shallow: bool,
-) -> usize
+fn deep(work: &[u16], m: usize, notes: &mut Notes, base: usize, v: usize, shallow: bool) -> usize
     requires { ⌜ Placed (now work) m × Early m (base + 65536) (now notes) × (base < 65536000000) × (v ≤ m) × (kindAt (now work) m v ≡ andKind) ×
         (getD (now notes) v 0 < base) ⌝ }
     ensures { λ r. ⌜ Near (now (work .entry)) m base v (now (notes .entry)) (now (notes .exit)) r ⌝ }
@@ -182,7 +169,7 @@ fn same_cut(work: &[u16], m: usize, u: usize, leaves: [u16; 4]) -> usize
 fn far(
     work: &[u16],
     m: usize,
-    notes: &mut [usize; NOTES],
+    notes: &mut Notes,
     base: usize,
     leaves: [u16; 4],
     n: usize,
@@ -213,7 +200,7 @@ fn far(
 fn cut_word(
     work: &[u16],
     m: usize,
-    notes: &mut [usize; NOTES],
+    notes: &mut Notes,
     base: usize,
     leaves: [u16; 4],
     n: usize,
@@ -252,7 +239,7 @@ fn cut_word(
 fn fill_one(
     work: &mut [u16],
     m: usize,
-    notes: &mut [usize; NOTES],
+    notes: &mut Notes,
     base: usize,
     v: usize,
     kind: usize,
@@ -274,7 +261,7 @@ fn fill_one(
 }
 
 // The functions of all cuts of v; returns where the notes of the next walk begin.
-fn fill_node(work: &mut [u16], m: usize, notes: &mut [usize; NOTES], base: usize, v: usize) -> usize
+fn fill_node(work: &mut [u16], m: usize, notes: &mut Notes, base: usize, v: usize) -> usize
     requires { ⌜ Reached (now work) m v × Early m base (now notes) × (base ≤ 65000000000) ⌝ }
     ensures { λ _. ⌜ now (work .exit) ≡ putFunctions (now (work .entry)) m v 0 (functionsOf (now (work .entry)) m v) ⌝ }
     ensures { λ r. ⌜ Early m r (now (notes .exit)) × (r ≤ base + 65536 * cutLimit) ⌝ }
@@ -293,25 +280,17 @@ fn fill_node(work: &mut [u16], m: usize, notes: &mut [usize; NOTES], base: usize
     next
 }
 
-// The functions of all placed variables, in placing order.
-fn fill(work: &mut [u16], m: usize, placed: usize, notes: &mut [usize; NOTES])
-    requires { ⌜ Ready (now work) m placed × Early m 65536 (now notes) ⌝ }
-    ensures { λ _. ⌜ now (work .exit) ≡ filled (now (work .entry)) m placed ⌝ }
-{
-    let mut base = STEP;
-    let mut i = 0;
-    while i < placed {
-        let v = base_words::slot(work, m, i);
-        base = fill_node(work, m, notes, base, v);
-        i += 1;
-    }
-}
-
-// The function of every cut of every placed variable.
+// The function of every cut of every placed variable, in placing order.
 pub fn functions(work: &mut [u16], m: usize, placed: usize)
     requires { ⌜ Ready (now work) m placed ⌝ }
     ensures { λ _. ⌜ now (work .exit) ≡ filled (now (work .entry)) m placed ⌝ }
 {
-    let mut notes = [0usize; NOTES];
-    fill(work, m, placed, &mut notes);
+    let mut notes = [0usize; VARIABLES];
+    let mut base = STEP;
+    let mut i = 0;
+    while i < placed {
+        let v = base_words::slot(work, m, i);
+        base = fill_node(work, m, &mut notes, base, v);
+        i += 1;
+    }
 }

@@ -1,14 +1,14 @@
 // A genlib text, converted: our cell text written into lent text memory, or the first refusal of 1, 22 to 24 and 18.
 // Two passes judge each group by the same function: the first measures, the second writes, so that "a refusal leaves it unchanged" and no group is stored.
 ghost use Rattle.base.specs.{_≡_, _+_, _≤_, _<_, length};
-ghost use Rattle.model.specs.{tokens, pinDelay, delaysOf, gateFrom, groups, readGroup, readGenlib, genlibText, writtenAnswer, writtenPair};
+ghost use Rattle.model.specs.{tokens, pinDelay, delaysOf, gateFrom, readGroup, readGenlib, genlibText, writtenAnswer, writtenPair};
 ghost use Rattle.model.specs.{writtenBy, writtenAfter, GenlibDemand};
 ghost use Rattle.theory_foundry.specs.{GenlibRefusals};
 ghost use Rattle.base_text.specs.{Wrote};
 ghost use Rattle.genlib_expression.specs.{namesAt};
-ghost use Rattle.genlib_groups.specs.{valueIn, linesOf, linesBehind, groupAt};
+ghost use Rattle.genlib_groups.specs.{valueIn, linesBehind, groupAt};
 ghost use Rattle.genlib_call.specs.{delaysIn, GateIs, gateOption, Only24, judgedRead, sizedRead, InLine, Few, measured, lineOf};
-ghost use Rattle.genlib_call.specs.{linesFor, textFor};
+ghost use Rattle.genlib_call.specs.{textFor};
 use base_text::Value;
 use genlib_celltext::Gate;
 use genlib_expression::Pins;
@@ -99,10 +99,7 @@ fn sized_gate(s: &[u8], from: usize, w: &[u8], at: usize) -> Judged
     let n = genlib_expression::nth(w, 4);
     let start = n.to;
     let p = genlib_expression::find_pins(w, start);
-    if p.n > 4 {
-        return Judged::Refused(23);
-    }
-    if !genlib_expression::is_shallow(w, start) {
+    if p.n > 4 || !genlib_expression::is_shallow(w, start) {
         return Judged::Refused(23);
     }
     gate_of(s, from, w, at, p)
@@ -115,10 +112,7 @@ fn judge(s: &[u8], at: usize) -> Judged
 {
     let l = base_text::line(s, at);
     let stop = l.stop;
-    if stop == l.next {
-        return Judged::Refused(22);
-    }
-    if !genlib_groups::is_group(s, l.next, &s[at..stop]) {
+    if stop == l.next || !genlib_groups::is_group(s, l.next, &s[at..stop]) {
         return Judged::Refused(22);
     }
     sized_gate(s, l.next, &s[at..stop], at)
@@ -158,26 +152,18 @@ fn write_gate(s: &[u8], out: &mut [u8], to: usize, at: usize) -> usize
     }
 }
 
-fn write_gates(s: &[u8], out: &mut [u8], from: usize) -> usize
-    requires { ⌜ (length (now s) ≤ 65536) × (from + length (linesFor (groups (linesOf (now s) 0))) ≤ length (now out)) ⌝ }
-    ensures { λ r. ⌜ Wrote (now (out .entry)) (now (out .exit)) from r (linesFor (groups (linesOf (now (s .entry)) 0))) ⌝ }
+// The names line, and a line for each gate.
+fn write(s: &[u8], out: &mut [u8]) -> usize
+    requires { ⌜ (length (now s) ≤ 65536) × (length (textFor (now s)) ≤ length (now out)) ⌝ }
+    ensures { λ r. ⌜ Wrote (now (out .entry)) (now (out .exit)) 0 r (textFor (now (s .entry))) ⌝ }
 {
-    let mut to = from;
+    let mut to = base_text::put_bytes(out, 0, b"cell pins table area d0 d1 d2 d3\n");
     let mut at = 0;
     while at < s.len() {
         to = write_gate(s, out, to, at);
         at = genlib_groups::group_end(s, at);
     }
     to
-}
-
-// The names line, and a line for each gate.
-fn write(s: &[u8], out: &mut [u8]) -> usize
-    requires { ⌜ (length (now s) ≤ 65536) × (length (textFor (now s)) ≤ length (now out)) ⌝ }
-    ensures { λ r. ⌜ Wrote (now (out .entry)) (now (out .exit)) 0 r (textFor (now (s .entry))) ⌝ }
-{
-    let to = base_text::put_bytes(out, 0, b"cell pins table area d0 d1 d2 d3\n");
-    write_gates(s, out, to)
 }
 
 // "Read GATE and PIN lines and write our cell text." The answer is the text's length, or the first refusal: "1 is tried first, on the genlib text, 18 last

@@ -1,12 +1,10 @@
--- `Spans`: the longest beginning of which every byte passes a test. `Tokens`: the token at a place. `Walk`: from token to token. `Scanning`: the form.
+-- `Tokens`: the token at a place. `Walk`: from token to token. `Scanning`: the form.
 -- `Pinning`: the list of pins. `Values`: the value of an expression.
-pub mod Spans
 pub mod Tokens
 pub mod Walk
 pub mod Scanning
 pub mod Pinning
 pub mod Values
-pub use Spans.{span-all, span-from, span-le, span-out, span-part, span-passes, span-past, span-short, span-step, span-stop, span-take}
 pub use Tokens.{lead-part}
 pub use Walk.{all-turn, nothing-left, step}
 pub use Scanning.{lead-none}

@@ -2,8 +2,9 @@
 use Rattle.base.specs.{ℕ, suc, _+_, _-_, _≤_, _<_, add-one, arith, _≡_, refl, sym, ap, _∙_, Bool, true, false, cond, _&&_, _||_, List, []}
 use Rattle.base.specs.{_∷_, eqb, ltb, length, drop, getD, drop-of-length-le, drop-cons, lt-ltb, le-ltb, ltb-true, ltb-false, eqb-true}
 use Rattle.model.specs.{isNameByte, isLetter, between, onto, isBlank, isWordByte, startsWord, placed, tokens, span, lead, isSign, begins}
-use Rattle.genlib_expression.specs.{spanEnd, endAt, fromAt, behindAt, restAt, part}
-use Rattle.genlib_expression.proofs.Spans.{span-from, span-le, span-part, span-end, span-step, span-drop}
+use Rattle.base_text.specs.{spanEnd}
+use Rattle.genlib_expression.specs.{endAt, fromAt, behindAt, restAt, part}
+use Rattle.base_text.proofs.{class-from, class-le, class-part, class-end, class-step, class-drop}
 
 -- ---- one byte in front of a line
 
@@ -70,7 +71,7 @@ tokens-skip (b ∷ l) = go (isBlank b) refl (tokens-skip l)
 
 module _ (w : List ℕ) (at : ℕ) where
   skipped : restAt w at ≡ restAt w (fromAt w at)
-  skipped = tokens-skip (drop at w) ∙ ap tokens (span-drop isBlank w at)
+  skipped = tokens-skip (drop at w) ∙ ap tokens (class-drop isBlank w at)
 
   pub token-none : length w ≤ fromAt w at → restAt w at ≡ []
   unfolding tokens
@@ -92,7 +93,7 @@ module _ (w : List ℕ) (from : ℕ) (h : from < length w) where
   unfolding startsWord
   word-token e =
       let s : startsWord (drop from w) ≡ true = ap startsWord cons ∙ e in
-      rw (end-word e) (tokens-word (drop from w) s ∙ rw (span-part isWordByte w from) (ap (λ (x : List ℕ). span isWordByte (drop from w) ∷ tokens x) (span-drop isWordByte w from)))
+      rw (end-word e) (tokens-word (drop from w) s ∙ rw (class-part isWordByte w from) (ap (λ (x : List ℕ). span isWordByte (drop from w) ∷ tokens x) (class-drop isWordByte w from)))
 
   sign-token : isBlank (getD w from 0) ≡ false → isWordByte (getD w from 0) ≡ false → restAt w from ≡ part w from (endAt w from) ∷ restAt w (endAt w from)
   sign-token e f =
@@ -110,7 +111,7 @@ module _ (w : List ℕ) (from : ℕ) (h : from < length w) where
   end-after = go (isWordByte (getD w from 0)) refl
     where
       go : (t : Bool) → isWordByte (getD w from 0) ≡ t → (from < endAt w from) × (endAt w from ≤ length w)
-      go true f = rw (end-word f) (omega (arith, span-step isWordByte w from h f, span-from isWordByte w (from + 1)), span-le isWordByte w from (omega arith))
+      go true f = rw (end-word f) (omega (arith, class-step isWordByte w from h f, class-from isWordByte w (from + 1)), class-le isWordByte w from (omega arith))
       go false f = rw (end-sign f) (omega arith)
 
   pub lead-part : (to : ℕ) → from < to → lead (part w from to) ≡ getD w from 0
@@ -124,7 +125,7 @@ unfolding endAt
 end-out w from h = rw (le-ltb from (length w) h)
 
 pub token-first : (w : List ℕ) (at : ℕ) → fromAt w at < length w → restAt w at ≡ part w (fromAt w at) (endAt w (fromAt w at)) ∷ restAt w (endAt w (fromAt w at))
-token-first w at h = skipped w at ∙ token-here w (fromAt w at) h (span-end isBlank w at h)
+token-first w at h = skipped w at ∙ token-here w (fromAt w at) h (class-end isBlank w at h)
 
 -- ---- the sign that may be next
 
@@ -150,7 +151,7 @@ module _ (w : List ℕ) (at b : ℕ) where
           let k = end-after w (fromAt w at) h in (
             begins-is h ∙ q,
             ap (drop 1) (token-first w at h) ∙ ap (restAt w) (sym m),
-            omega (arith, span-from isBlank w at),
+            omega (arith, class-from isBlank w at),
             omega arith,
           )
 
@@ -163,4 +164,4 @@ module _ (w : List ℕ) (at b : ℕ) where
       go true p true q =
           let h : fromAt w at < length w = ltb-true (fromAt w at) (length w) p in
           let m : n ≡ endAt w (fromAt w at) = e ∙ rw (p, q) in
-          absurd (omega (arith, span-from isBlank w at, end-after w (fromAt w at) h .0))
+          absurd (omega (arith, class-from isBlank w at, end-after w (fromAt w at) h .0))

@@ -2,13 +2,13 @@
 use Rattle.base.specs.{ℕ, zero, suc, _+_, _-_, _≤_, _<_, add-one, sub-one, arith, _≡_, refl, sym, ap, subst, _∙_, Bool, true, false, not}
 use Rattle.base.specs.{cond, none, some, List, [], _∷_, map, ltb, length, drop, ltb-true, ltb-false}
 use Rattle.model.specs.{bit, from, same, flip, andThen, isBlank, isSign, isWord, isEmpty, Taken, begins, turns, chain, quoted, closeBracket}
-use Rattle.model.specs.{atom, factorOf, sumOf, indexOf, value}
+use Rattle.model.specs.{atom, factorOf, sumOf, indexOf, value, phaseTable}
 use Rattle.model.specs.GenlibFormula.{named, within}
 use Rattle.base_truth.proofs.{value-complement}
 use Rattle.genlib_expression.specs.declared.Parsed.{Parsed}
 use Rattle.genlib_expression.specs.declared.Parsed.the-variants.{At, Broken}
 use Rattle.genlib_expression.specs.{endAt, fromAt, restAt, takenAt, Within, part}
-use Rattle.genlib_expression.proofs.Spans.{span-from, span-le}
+use Rattle.base_text.proofs.{class-from, class-le}
 use Rattle.genlib_expression.proofs.Tokens.{token-none, token-first, end-after, end-out}
 
 -- ---- signs that turn a value
@@ -69,14 +69,14 @@ never e = let z : _≡_ {A = ℕ} 0 1 = cc in omega arith
 
 module _ (w : List ℕ) (at : ℕ) (h : at ≤ length w) where
   pub token-from : at ≤ fromAt w at
-  token-from = span-from isBlank w at
+  token-from = class-from isBlank w at
 
   pub token-to : (fromAt w at ≤ endAt w (fromAt w at)) × (endAt w (fromAt w at) ≤ length w)
   token-to = go (ltb (fromAt w at) (length w)) refl
     where
       go : (s : Bool) → ltb (fromAt w at) (length w) ≡ s → (fromAt w at ≤ endAt w (fromAt w at)) × (endAt w (fromAt w at) ≤ length w)
       go true p = let k = end-after w (fromAt w at) (ltb-true (fromAt w at) (length w) p) in (omega arith, omega arith)
-      go false p = let k = ltb-false (fromAt w at) (length w) p in rw (end-out w (fromAt w at) k) (omega arith, span-le isBlank w at h)
+      go false p = let k = ltb-false (fromAt w at) (length w) p in rw (end-out w (fromAt w at) k) (omega arith, class-le isBlank w at h)
 
   -- the next token's bytes
   abbrev pub here : List ℕ
@@ -196,6 +196,15 @@ no-row (suc row) = no-row row
 pub every-row : (row : ℕ) → row < 16 → bit 65535 row ≡ true
 unfolding value
 every-row row h = value-complement 0 row (omega arith) h ∙ ap not (no-row row)
+
+-- a table, turned in every row where signs say so
+turned-row : (odd : Bool) (t row : ℕ) → t < 65536 → row < 16 → bit (phaseTable odd t) row ≡ flip odd (bit t row)
+unfolding phaseTable flip value
+turned-row true t row h k = value-complement t row h k
+turned-row false t row h k = refl
+
+pub in-phase-row : (r : ℕ) (odd : Bool) (t row : ℕ) → r ≡ phaseTable odd t → t < 65536 → row < 16 → bit r row ≡ flip odd (bit t row)
+in-phase-row r odd t row e h k = ap (λ (x : ℕ). bit x row) e ∙ turned-row odd t row h k
 
 -- a callee that answered `At v n` or nothing
 pub known : (w : List ℕ) (row : ℕ) (r s : Parsed) (t : Taken) → r ≡ s → takenAt w row r ≡ t → t ≡ takenAt w row s

@@ -5,7 +5,7 @@ use Rattle.model.specs.{all, isNameByte, isBlank, isWord, isEmpty, isWordByte, 
 use Rattle.base_text.proofs.{and-left}
 use Rattle.genlib_expression.specs.{WordPart, endAt, fromAt, tokenAt, restAt, part, nthAt, Nth}
 use Rattle.genlib_expression.specs.declared.Token.{Token}
-use Rattle.genlib_expression.proofs.Spans.{span-from, span-le, span-part}
+use Rattle.base_text.proofs.{class-from, class-le, class-part}
 use Rattle.genlib_expression.proofs.Tokens.{token-none, token-first, end-after, end-out, end-word, end-sign}
 
 pub record Step (w : List ℕ) (at : ℕ) (t : Token) : Type 0 where
@@ -28,7 +28,7 @@ here w at h = go (ltb (fromAt w at) (length w)) refl
     go true p =
         let k = ltb-true (fromAt w at) (length w) p in
         let e = end-after w (fromAt w at) k in
-        let f = span-from isBlank w at in record {
+        let f = class-from isBlank w at in record {
           ordered = omega arith;
           within = e .1;
           later = λ l. omega arith;
@@ -38,7 +38,7 @@ here w at h = go (ltb (fromAt w at) (length w)) refl
     go false p =
         let k = ltb-false (fromAt w at) (length w) p in
         let e = end-out w (fromAt w at) k in
-        let f = span-le isBlank w at h in
+        let f = class-le isBlank w at h in
         let z : endAt w (fromAt w at) - fromAt w at ≡ 0 = omega arith in record {
           ordered = omega arith;
           within = omega arith;
@@ -68,7 +68,7 @@ is-word w at h k = go (ltb (fromAt w at) (length w)) refl (isWordByte (getD w (f
   where
     go : (q : Bool) → ltb (fromAt w at) (length w) ≡ q → (r : Bool) → isWordByte (getD w (fromAt w at) 0) ≡ r
         → part w (fromAt w at) (endAt w (fromAt w at)) ≡ span isWordByte (drop (fromAt w at) w)
-    go true p true u = ap (λ (n : ℕ). take (n - fromAt w at) (drop (fromAt w at) w)) (end-word w (fromAt w at) (ltb-true (fromAt w at) (length w) p) u) ∙ span-part isWordByte w (fromAt w at)
+    go true p true u = ap (λ (n : ℕ). take (n - fromAt w at) (drop (fromAt w at) w)) (end-word w (fromAt w at) (ltb-true (fromAt w at) (length w) p) u) ∙ class-part isWordByte w (fromAt w at)
     go true p false u =
         let l = ltb-true (fromAt w at) (length w) p in
         let one : fromAt w at + 1 - fromAt w at ≡ 1 = omega arith in

@@ -5,6 +5,7 @@ use Rattle.model.specs.declared.Scan.{Scan}
 use Rattle.model.specs.declared.Scan.the-variants.{Due, After, Done, Broken as NoForm}
 use Rattle.model.specs.{bit, below, isBlank, isWordByte, isWord, tokens, span, Taken, isPin, indexOf}
 use Rattle.base_text.specs.{pickN}
+use Rattle.base_text.specs.{spanEnd}
 use Rattle.genlib_expression.specs.declared.Token.{Token}
 use Rattle.genlib_expression.specs.declared.Pins.{Pins}
 use Rattle.genlib_expression.specs.declared.Turned.{Turned}
@@ -14,11 +15,6 @@ use Rattle.genlib_expression.specs.declared.Parsed.the-variants.{At, Bro
 abbrev pub pickL : Bool → List (List ℕ) → List (List ℕ) → List (List ℕ)
 pickL true a b = a
 pickL false a b = b
-
--- the first place from `at` on whose byte fails a test
-unfoldable pub spanEnd : (ℕ → Bool) → List ℕ → ℕ → ℕ
-unfolding span
-spanEnd p w at = at + length (span p (drop at w))
 
 -- the end of the token that begins at a place
 unfoldable pub endAt : List ℕ → ℕ → ℕ

@@ -2,13 +2,14 @@
 // "The expression has any number of `!` before a factor and of `'` after it, `*`, `+`, brackets, CONST0 and CONST1; a sum is made of products, a
 // product of factors, and a bracketed factor of a sum again." Its form and its value are those of the crate `model`, which reads the list of a
 // line's tokens; here a place in the line stands for the tokens from there on.
-ghost use Rattle.base.specs.{_≡_, true, _&&_, _||_, ℕ, _^_, _≤_, _<_, length, drop};
-ghost use Rattle.model.specs.{bit, same, flip, isNameByte, isBlank, isWordByte, isWord, span, shallow, scan, isDone, formed, isPin};
+ghost use Rattle.base.specs.{_≡_, true, [], ℕ, _^_, _≤_, _<_, length, getD, drop};
+ghost use Rattle.model.specs.{bit, same, flip, tokens, isWordByte, isWord, span, shallow, scan, formed, isPin};
 ghost use Rattle.model.specs.{withName, addPins, pinsOf, indexOf, nameValue, rowBits, turns, closeBracket, factorOf, productOf, sumOf};
 ghost use Rattle.model.specs.GenlibFormula.{valueOf, named, within};
-ghost use Rattle.genlib_expression.specs.{Nth, partsAt, dueStep, closeStep, endStep, afterStep, scanStep, depthOf, openedBy, spanEnd};
-ghost use Rattle.genlib_expression.specs.{endAt, tokenAt, behindAt, restAt, namesAt, takenAt, turnedAt, Within, pushed, Listed};
+ghost use Rattle.genlib_expression.specs.{Nth, partsAt, dueStep, afterStep, depthOf, openedBy};
+ghost use Rattle.genlib_expression.specs.{endAt, tokenAt, behindAt, restAt, namesAt, takenAt, turnedAt, Within, Listed};
 ghost use Rattle.genlib_expression.specs.{WordPart, withPin, addPin, pinsFrom, noPins};
+use base_text::Class;
 use model::Scan;
 
 // A token's place in its line.
@@ -35,94 +36,24 @@ struct Turned {
     at: usize,
 }
 
-// ---- bytes
-
-// "Spaces or tabs part words and may stand beside signs and at a line's ends"
-fn is_blank(b: u8) -> bool
-    ensures { λ r. ⌜ r ≡ isBlank b ⌝ }
-{
-    match b {
-        b' ' | b'\t' => true,
-        _ => false,
-    }
-}
-
-// A word is a name or a figure: "Names are of letters, digits and underscores, figures of digits with or without a point and more digits."
-fn is_word_byte(b: u8) -> bool
-    ensures { λ r. ⌜ r ≡ isWordByte b ⌝ }
-{
-    if base_text::is_name_byte(b) {
-        return true;
-    }
-    match b {
-        b'.' => true,
-        _ => false,
-    }
-}
-
 // ---- tokens
-
-// The first place from `from` on that is no blank.
-pub fn skip(w: &[u8], from: usize) -> usize
-    ensures { λ r. ⌜ r ≡ spanEnd isBlank (now (w .entry)) from ⌝ }
-{
-    let mut at = from;
-    while at < w.len() {
-        if !is_blank(w[at]) {
-            return at;
-        }
-        at += 1;
-    }
-    at
-}
-
-// The end of the word that begins at a place.
-pub fn word_end(w: &[u8], from: usize) -> usize
-    ensures { λ r. ⌜ r ≡ spanEnd isWordByte (now (w .entry)) from ⌝ }
-{
-    let mut at = from;
-    while at < w.len() {
-        if !is_word_byte(w[at]) {
-            return at;
-        }
-        at += 1;
-    }
-    at
-}
-
-// The end of the name that begins at a place.
-pub fn name_end(w: &[u8], from: usize) -> usize
-    ensures { λ r. ⌜ r ≡ spanEnd isNameByte (now (w .entry)) from ⌝ }
-{
-    let mut at = from;
-    while at < w.len() {
-        if !base_text::is_name_byte(w[at]) {
-            return at;
-        }
-        at += 1;
-    }
-    at
-}
 
 // The end of the token that begins at a place: a word is the longest run of its bytes, any other byte is a token of its own.
 fn token_end(w: &[u8], from: usize) -> usize
     ensures { λ r. ⌜ r ≡ endAt (now (w .entry)) from ⌝ }
 {
-    if w.len() <= from {
-        return from;
+    let end = base_text::span_end(w, from, Class::Word);
+    if end == from && from < w.len() {
+        return from + 1;
     }
-    if is_word_byte(w[from]) {
-        word_end(w, from + 1)
-    } else {
-        from + 1
-    }
+    end
 }
 
 // The next token from a place on; at the line's end an empty one.
 pub fn next_token(w: &[u8], at: usize) -> Token
     ensures { λ r. ⌜ r ≡ tokenAt (now (w .entry)) at ⌝ }
 {
-    let from = skip(w, at);
+    let from = base_text::span_end(w, at, Class::Blank);
     let to = token_end(w, from);
     Token { from, to }
 }
@@ -131,11 +62,9 @@ pub fn next_token(w: &[u8], at: usize) -> Token
 fn behind(w: &[u8], at: usize, b: u8) -> usize
     ensures { λ r. ⌜ r ≡ behindAt (now (w .entry)) at b ⌝ }
 {
-    let from = skip(w, at);
-    if from < w.len() {
-        if w[from] == b {
-            return token_end(w, from);
-        }
+    let from = base_text::span_end(w, at, Class::Blank);
+    if from < w.len() && w[from] == b {
+        return token_end(w, from);
     }
     at
 }
@@ -154,14 +83,21 @@ pub fn nth(w: &[u8], k: usize) -> Token
     t
 }
 
+// Its bytes.
+pub fn nth_bytes(w: &[u8], k: usize) -> &[u8]
+    ensures { λ r. ⌜ now r ≡ getD (tokens (now (w .entry))) k [] ⌝ }
+{
+    let t = nth(w, k);
+    let from = t.from;
+    let to = t.to;
+    &w[from..to]
+}
+
 // The bytes are a name.
 pub fn is_word(w: &[u8]) -> bool
     ensures { λ r. ⌜ r ≡ isWord (now (w .entry)) ⌝ }
 {
-    if w.len() == 0 {
-        return false;
-    }
-    name_end(w, 0) == w.len()
+    w.len() > 0 && base_text::span_end(w, 0, Class::Name) == w.len()
 }
 
 // ---- the form of an expression
@@ -184,85 +120,41 @@ fn scan_due(depth: usize, b: u8, name: bool) -> Scan
     }
 }
 
-// A `)` closes a bracket that is open.
-fn scan_close(depth: usize) -> Scan
-    ensures { λ r. ⌜ r ≡ closeStep depth ⌝ }
-{
-    if depth > 0 {
-        Scan::After(depth - 1)
-    } else {
-        Scan::Broken
-    }
-}
-
-// A `;` ends the form where no bracket is open.
-fn scan_end(depth: usize, b: u8) -> Scan
-    ensures { λ r. ⌜ r ≡ endStep depth b ⌝ }
-{
-    if b == b';' {
-        if depth == 0 {
-            return Scan::Done;
-        }
-    }
-    Scan::Broken
-}
-
-// The same in a form behind a factor: `'` and `)` stay behind one, `*` and `+` ask for the next.
+// The same in a form behind a factor: `'` stays behind one, and so does a `)` that closes an open bracket; `*` and `+` ask for the next; a `;` ends the form
+// where no bracket is open.
 fn scan_after(depth: usize, b: u8) -> Scan
     ensures { λ r. ⌜ r ≡ afterStep depth b ⌝ }
 {
-    if b == b'\'' {
-        return Scan::After(depth);
-    }
-    if b == b')' {
-        return scan_close(depth);
-    }
-    if b == b'*' {
-        return Scan::Due(depth);
-    }
-    if b == b'+' {
-        return Scan::Due(depth);
-    }
-    scan_end(depth, b)
-}
-
-// The state behind a token: at first a factor is due, and behind the `;` no token may stand.
-fn scan_token(s: Scan, b: u8, name: bool) -> Scan
-    requires { ⌜ depthOf s < 18446744073709551615 ⌝ }
-    ensures { λ r. ⌜ r ≡ scanStep s b name ⌝ }
-{
-    match s {
-        Scan::Due(depth) => scan_due(depth, b, name),
-        Scan::After(depth) => scan_after(depth, b),
-        Scan::Done => Scan::Broken,
-        Scan::Broken => Scan::Broken,
+    match b {
+        b'\'' => Scan::After(depth),
+        b'*' | b'+' => Scan::Due(depth),
+        b')' => {
+            if depth > 0 {
+                Scan::After(depth - 1)
+            } else {
+                Scan::Broken
+            }
+        }
+        b';' => if depth == 0 { Scan::Done } else { Scan::Broken },
+        _ => Scan::Broken,
     }
 }
 
-// The `;` was the last token.
-fn is_done(s: Scan) -> bool
-    ensures { λ r. ⌜ r ≡ isDone s ⌝ }
-{
-    match s {
-        Scan::Done => true,
-        Scan::Due(_) => false,
-        Scan::After(_) => false,
-        Scan::Broken => false,
-    }
-}
-
-// The state behind a token by its place; an empty one changes nothing.
+// The state behind a token by its place: at first a factor is due, and behind the `;` no token may stand. An empty one changes nothing.
 fn scan_at(w: &[u8], t: Token, s: Scan) -> Scan
     requires { ⌜ (t .from ≤ t .to) × (t .to ≤ length (now w)) × (depthOf s < 18446744073709551615) ⌝ }
     ensures { λ r. ⌜ r ≡ scan s (partsAt (now (w .entry)) t) ⌝ }
 {
     let from = t.from;
     let to = t.to;
-    if from < to {
-        let name = is_word(&w[from..to]);
-        scan_token(s, w[from], name)
-    } else {
-        s
+    if from == to {
+        return s;
+    }
+    match s {
+        Scan::Due(depth) => scan_due(depth, w[from], is_word(&w[from..to])),
+        Scan::After(depth) => scan_after(depth, w[from]),
+        Scan::Done => Scan::Broken,
+        Scan::Broken => Scan::Broken,
     }
 }
 
@@ -279,7 +171,7 @@ pub fn is_formed(w: &[u8], from: usize) -> bool
         s = scan_at(w, t, s);
         at = t.to;
     }
-    is_done(s)
+    if let Scan::Done = s { true } else { false }
 }
 
 // The brackets that are open behind a token with this first byte.
@@ -287,15 +179,11 @@ fn step_depth(depth: usize, b: u8) -> usize
     requires { ⌜ depth ≤ 16 ⌝ }
     ensures { λ r. ⌜ r ≡ openedBy depth b ⌝ }
 {
-    if b == b'(' {
-        return depth + 1;
+    match b {
+        b'(' => depth + 1,
+        b')' => if depth > 0 { depth - 1 } else { 0 },
+        _ => depth,
     }
-    if b == b')' {
-        if depth > 0 {
-            return depth - 1;
-        }
-    }
-    depth
 }
 
 // No "brackets over 16 deep". A bracket is a token of its own, so the bytes are counted and no token is measured.
@@ -324,22 +212,13 @@ fn word_is(w: &[u8], from: usize, t: &[u8]) -> bool
     let mut at = from;
     let mut i = 0;
     while i < t.len() {
-        if at >= w.len() {
-            return false;
-        }
-        if w[at] != t[i] {
-            return false;
-        }
-        if !is_word_byte(w[at]) {
+        if at >= w.len() || w[at] != t[i] || !base_text::is_of(Class::Word, w[at]) {
             return false;
         }
         at += 1;
         i += 1;
     }
-    if at >= w.len() {
-        return true;
-    }
-    !is_word_byte(w[at])
+    at >= w.len() || !base_text::is_of(Class::Word, w[at])
 }
 
 // The place of a name among the pins, or their number.
@@ -363,31 +242,11 @@ fn index(w: &[u8], p: Pins, t: &[u8]) -> usize
 pub fn is_pin(t: &[u8]) -> bool
     ensures { λ r. ⌜ r ≡ isPin (now (t .entry)) ⌝ }
 {
-    if !is_word(t) {
-        return false;
-    }
-    if base_text::same_bytes(t, b"CONST0") {
-        return false;
-    }
-    if base_text::same_bytes(t, b"CONST1") {
-        return false;
-    }
-    true
-}
-
-// A pin more.
-fn push_pin(mut p: Pins, from: usize) -> Pins
-    requires { ⌜ p .n < 4 ⌝ }
-    ensures { λ r. ⌜ r ≡ pushed p from ⌝ }
-{
-    let n = p.n;
-    p.at[n] = from;
-    p.n = n + 1;
-    p
+    is_word(t) && (!base_text::same_bytes(t, b"CONST0") && !base_text::same_bytes(t, b"CONST1"))
 }
 
 // The list with a name that is added if it is not in it; a fifth makes `n` 5.
-fn with_pin(w: &[u8], from: usize, t: &[u8], p: Pins) -> Pins
+fn with_pin(w: &[u8], from: usize, t: &[u8], mut p: Pins) -> Pins
     requires { ⌜ (p .n ≤ 4) × (length (p .at) ≡ 4) × (now t ≡ span isWordByte (drop from (now w))) ⌝ }
     ensures { λ r. ⌜ (length (r .at) ≡ 4) × Listed (now (w .entry)) (withName (namesAt (now (w .entry)) p) (now (t .entry))) r ×
         (r ≡ withPin (now (w .entry)) p from (now (t .entry))) ⌝ }
@@ -396,11 +255,11 @@ fn with_pin(w: &[u8], from: usize, t: &[u8], p: Pins) -> Pins
     if index(w, p, t) < n {
         return p;
     }
+    p.n = n + 1;
     if n < 4 {
-        return push_pin(p, from);
+        p.at[n] = from;
     }
-    let at = p.at;
-    Pins { n: 5, at }
+    p
 }
 
 // The list with a token, if it is a pin.
@@ -411,10 +270,8 @@ fn add_pin(w: &[u8], t: Token, p: Pins) -> Pins
 {
     let from = t.from;
     let to = t.to;
-    if from < to {
-        if is_pin(&w[from..to]) {
-            return with_pin(w, from, &w[from..to], p);
-        }
+    if from < to && is_pin(&w[from..to]) {
+        return with_pin(w, from, &w[from..to], p);
     }
     p
 }
@@ -439,27 +296,6 @@ pub fn find_pins(w: &[u8], from: usize) -> Pins
 }
 
 // ---- the value of an expression, in 16 rows at once
-
-// Two tables joined by `*`, row by row.
-fn both(a: u16, b: u16) -> u16
-    ensures { λ r. ⌜ ((row : ℕ) → row < 16 → bit r row ≡ (bit a row && bit b row)) ⌝ }
-{
-    a & b
-}
-
-// Two tables joined by `+`.
-fn either(a: u16, b: u16) -> u16
-    ensures { λ r. ⌜ ((row : ℕ) → row < 16 → bit r row ≡ (bit a row || bit b row)) ⌝ }
-{
-    a | b
-}
-
-// A table, turned in every row where signs say so.
-fn differ(odd: bool, t: u16) -> u16
-    ensures { λ r. ⌜ ((row : ℕ) → row < 16 → bit r row ≡ flip odd (bit t row)) ⌝ }
-{
-    base_truth::in_phase(odd, t)
-}
 
 // A value, turned once for each sign b that stands there: "any number of `!` before a factor and of `'` after it".
 fn turn(w: &[u8], from: usize, b: u8, start: bool) -> Turned
@@ -504,7 +340,7 @@ fn close(w: &[u8], at: usize, odd: bool, v: u16) -> Parsed
         return Parsed::Broken;
     }
     let q = turn(w, next, b'\'', odd);
-    Parsed::At(differ(q.value, v), q.at)
+    Parsed::At(base_truth::in_phase(q.value, v), q.at)
 }
 
 // A name, and the `'` behind it.
@@ -519,7 +355,7 @@ fn name(w: &[u8], at: usize, p: Pins, odd: bool) -> Parsed
     if is_word(&w[from..to]) {
         let v = name_value(w, p, &w[from..to]);
         let q = turn(w, to, b'\'', odd);
-        Parsed::At(differ(q.value, v), q.at)
+        Parsed::At(base_truth::in_phase(q.value, v), q.at)
     } else {
         Parsed::Broken
     }
@@ -537,19 +373,15 @@ fn sum(w: &[u8], from: usize, p: Pins, depth: usize) -> Parsed
     let mut v = 0u16;
     let mut at = from;
     loop {
-        match product(w, at, p, depth) {
-            Parsed::At(u, n) => {
-                v = either(v, u);
-                let next = behind(w, n, b'+');
-                if next == n {
-                    return Parsed::At(v, n);
-                }
-                at = next;
-            }
-            Parsed::Broken => {
-                return Parsed::Broken;
-            }
+        let Parsed::At(u, n) = product(w, at, p, depth) else {
+            return Parsed::Broken;
+        };
+        v = v | u;
+        let next = behind(w, n, b'+');
+        if next == n {
+            return Parsed::At(v, n);
         }
+        at = next;
     }
 }
 
@@ -563,19 +395,15 @@ fn product(w: &[u8], from: usize, p: Pins, depth: usize) -> Parsed
     let mut v = 65535u16;
     let mut at = from;
     loop {
-        match factor(w, at, p, depth) {
-            Parsed::At(u, n) => {
-                v = both(v, u);
-                let next = behind(w, n, b'*');
-                if next == n {
-                    return Parsed::At(v, n);
-                }
-                at = next;
-            }
-            Parsed::Broken => {
-                return Parsed::Broken;
-            }
+        let Parsed::At(u, n) = factor(w, at, p, depth) else {
+            return Parsed::Broken;
+        };
+        v = v & u;
+        let next = behind(w, n, b'*');
+        if next == n {
+            return Parsed::At(v, n);
         }
+        at = next;
     }
 }
 
@@ -604,17 +432,6 @@ fn factor(w: &[u8], from: usize, p: Pins, depth: usize) -> Parsed
 
 // ---- the table
 
-// The values in the 16 rows. No bracket is over 16 deep, else the gate is refused by 23.
-fn row_values(w: &[u8], from: usize, p: Pins) -> u16
-    requires { ⌜ (from ≤ length (now w)) × (p .n ≤ 4) × (length (now w) ≤ 65536) ⌝ }
-    ensures { λ r. ⌜ ((row : ℕ) → row < 16 → bit r row ≡ valueOf (nameValue (namesAt (now (w .entry)) p) row) (restAt (now (w .entry)) from)) ⌝ }
-{
-    match sum(w, from, p, 16) {
-        Parsed::At(v, _) => v,
-        Parsed::Broken => 0,
-    }
-}
-
 // "its 2^pins rows", each with 1.
 fn rows(pins: usize) -> u16
     requires { ⌜ pins ≤ 4 ⌝ }
@@ -629,11 +446,13 @@ fn rows(pins: usize) -> u16
     }
 }
 
-// "The written table must equal the expression in its 2^pins rows and be 0 above"
+// "The written table must equal the expression in its 2^pins rows and be 0 above". No bracket is over 16 deep, else the gate is refused by 23.
 pub fn table(w: &[u8], from: usize, p: Pins) -> u16
     requires { ⌜ (from ≤ length (now w)) × (p .n ≤ 4) × (length (now w) ≤ 65536) ⌝ }
     ensures { λ r. ⌜ r ≡ rowBits (λ row. valueOf (nameValue (namesAt (now (w .entry)) p) row) (restAt (now (w .entry)) from)) 0 (2 ^ p .n) ⌝ }
 {
-    let n = p.n;
-    row_values(w, from, p) & rows(n)
+    match sum(w, from, p, 16) {
+        Parsed::At(v, _) => v & rows(p.n),
+        Parsed::Broken => 0,
+    }
 }

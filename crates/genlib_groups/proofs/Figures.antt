@@ -1,13 +1,13 @@
 -- Laws of figures, by where their digits end.
 use Rattle.base.specs.{ℕ, zero, suc, _+_, _-_, _*_, _≤_, _<_, min, zero-add, add-one, arith, _≡_, refl, sym, ap, subst, _∙_, Bool, true}
-use Rattle.base.specs.{false, not, List, [], _∷_, _++_, eqb, leb, ltb, length, take, drop, getD, replicate, drop-of-length-le, length-drop}
+use Rattle.base.specs.{false, not, List, [], _∷_, _++_, eqb, leb, ltb, length, take, drop, getD, replicate, drop-of-length-le, length-drop, eqb-true, eqb-false, _&&_}
 use Rattle.base.specs.{drop-cons, drop-drop, getD-drop, take-suc, eq-eqb, ne-eqb, le-leb, lt-leb, leb-true, ltb-true, ltb-false}
 use Rattle.model.specs.{all, only, asDigits, between, isDigit, isDigits, isEmpty, isFigure, isFraction, wholes, decimals, inThousandths}
 use Rattle.model.specs.{thousandths, span}
 use Rattle.base_text.proofs.{and-left, and-right}
 use Rattle.base_text.specs.declared.Value.the-variants.{Is, Broken as NoValue}
-use Rattle.genlib_expression.specs.{spanEnd}
-use Rattle.genlib_expression.proofs.{span-all, span-take, span-passes, span-short}
+use Rattle.base_text.specs.{spanEnd}
+use Rattle.base_text.proofs.{class-all, class-take, class-passes, class-short}
 use Rattle.genlib_groups.specs.{valueIn}
 
 pub default-in : (w : List ℕ) (i : ℕ) → i < length w → getD w i 0 ≡ getD w i 48
@@ -20,15 +20,24 @@ default-out [] i h = refl
 default-out (b ∷ w) zero h = absurd (omega arith)
 default-out (b ∷ w) (suc i) h = default-out w i (omega arith)
 
-pub digits-empty : (w : List ℕ) → length w ≡ 0 → isDigits w ≡ false
+pub digits-past : (w : List ℕ) (from : ℕ) → length w ≤ from → isDigits (drop from w) ≡ false
 unfolding isDigits isEmpty
-digits-empty [] e = refl
-digits-empty (b ∷ w) e = absurd (omega arith)
+digits-past w from h = rw (drop-of-length-le w h)
 
-pub digits-all : (w : List ℕ) → (length w ≡ 0 → ⊥) → isDigits w ≡ eqb (spanEnd isDigit w 0) (length w)
+-- digits up to the end
+pub digits-from : (w : List ℕ) (from : ℕ) → from < length w → isDigits (drop from w) ≡ eqb (spanEnd isDigit w from) (length w)
 unfolding isDigits isEmpty spanEnd
-digits-all [] ne = absurd (ne refl)
-digits-all (b ∷ w) ne = span-all isDigit (b ∷ w) ∙ ap (λ (n : ℕ). eqb n (length (b ∷ w))) (sym (zero-add (length (span isDigit (b ∷ w)))))
+digits-from w from h = some ∙ class-all isDigit (drop from w) ∙ go (eqb (length (span isDigit (drop from w))) (length (drop from w))) refl
+  where
+    some : (not (isEmpty (drop from w)) && all isDigit (drop from w)) ≡ all isDigit (drop from w)
+    some = rw (drop-cons w from 0 h)
+
+    n : length (drop from w) ≡ length w - from
+    n = length-drop from w
+
+    go : (t : Bool) → eqb (length (span isDigit (drop from w))) (length (drop from w)) ≡ t → t ≡ eqb (from + length (span isDigit (drop from w))) (length w)
+    go true e = sym (eq-eqb (from + length (span isDigit (drop from w))) (length w) (omega (arith, n, eqb-true (length (span isDigit (drop from w))) (length (drop from w)) e)))
+    go false e = sym (ne-eqb (from + length (span isDigit (drop from w))) (length w) (λ z. eqb-false (length (span isDigit (drop from w))) (length (drop from w)) e (omega (arith, n))))
 
 -- the digits before the point end where all digits from the start do
 pub wholes-end : (w : List ℕ) → spanEnd isDigit w 0 ≡ length (wholes w)
@@ -125,8 +134,8 @@ module _ (w : List ℕ) (end : ℕ) (e : end ≡ spanEnd isDigit w 0) where
   unfolding wholes
   whole-is =
       let n : end ≡ length (wholes w) = e ∙ wholes-end w in
-      let t : take end w ≡ wholes w = ap (λ (k : ℕ). take k w) n ∙ span-take isDigit w in
-      (omega (arith, n, span-short isDigit w), t, ap (all isDigit) t ∙ span-passes isDigit w)
+      let t : take end w ≡ wholes w = ap (λ (k : ℕ). take k w) n ∙ class-take isDigit w in
+      (omega (arith, n, class-short isDigit w), t, ap (all isDigit) t ∙ class-passes isDigit w)
 
   pub decimals-are : decimals w ≡ drop (end + 1) w
   unfolding decimals

@@ -6,8 +6,9 @@ use Rattle.base_text.specs.declared.Span.{Span}
 use Rattle.base_text.specs.{pickBytes, pickN, endOf, stops, lineOf, endingOf, lineAt, spanAt}
 use Rattle.base_text.proofs.{end-fits, lines-at, lines-none, span-from as stop-from, span-fits, span-contents, span-ended, span-long}
 use Rattle.base_text.proofs.{span-next}
-use Rattle.genlib_expression.specs.{spanEnd, part}
-use Rattle.genlib_expression.proofs.{span-from, span-le, span-part}
+use Rattle.base_text.specs.{spanEnd}
+use Rattle.genlib_expression.specs.{part}
+use Rattle.base_text.proofs.{class-from, class-le, class-part}
 use Rattle.genlib_groups.specs.{linesOf, gateWord}
 
 -- ---- a line
@@ -109,8 +110,8 @@ module _ (s : List ℕ) (at : ℕ) (l : Span) (b : Bounded s at l) where
 
 module _ (w : List ℕ) (from to : ℕ) (e : from ≡ spanEnd isBlank w 0) (f : to ≡ spanEnd isNameByte w from) where
   pub gate-bounds : (from ≤ to) × (to ≤ length w)
-  gate-bounds = (omega (arith, span-from isNameByte w from), omega (arith, span-le isNameByte w from (omega (arith, span-le isBlank w 0 (omega arith)))))
+  gate-bounds = (omega (arith, class-from isNameByte w from), omega (arith, class-le isNameByte w from (omega (arith, class-le isBlank w 0 (omega arith)))))
 
   pub gate-part : part w from to ≡ firstName w
   unfolding firstName spanEnd
-  gate-part = ap (λ (n : ℕ). take (n - from) (drop from w)) f ∙ span-part isNameByte w from ∙ ap (λ (n : ℕ). span isNameByte (drop n w)) (e ∙ zero-add (length (span isBlank w)))
+  gate-part = ap (λ (n : ℕ). take (n - from) (drop from w)) f ∙ class-part isNameByte w from ∙ ap (λ (n : ℕ). span isNameByte (drop n w)) (e ∙ zero-add (length (span isBlank w)))

@@ -2,13 +2,13 @@
 // "A GATE line has name, area, output, `=`, expression, `;`; a PIN line name, phase, two loads, then block and fanout delay for rise, then for
 // fall." What a line is and which line counts are definitions of the crate `model`; a line's end is found by `base_text::line` alone.
 ghost use Rattle.base.specs.{_≡_, true, [], _∷_, _+_, _-_, _*_, _≤_, _<_, min, max, length, getD, take, drop};
-ghost use Rattle.model.specs.{all, same, asDigits, isWordByte, isDigit, tokens, isWord, isSign, isDigits, isFigure, thousandths, span};
-ghost use Rattle.model.specs.{gateHead, isGateLine, pinHead, isPinLine, firstName, lineIs, pinLine, lineTokens, delayOf, grouped, groups};
+ghost use Rattle.model.specs.{all, same, asDigits, isWordByte, isDigit, tokens, isSign, isFigure, thousandths, span};
+ghost use Rattle.model.specs.{isGateLine, pinHead, isPinLine, firstName, lineIs, pinLine, delayOf, grouped, groups};
 ghost use Rattle.model.specs.Genlib.{fits};
-ghost use Rattle.base_text.specs.{lineAt};
-ghost use Rattle.genlib_expression.specs.{spanEnd, restAt};
+ghost use Rattle.genlib_expression.specs.{restAt};
 ghost use Rattle.genlib_groups.specs.{linesOf, gateWord, linesBehind, lineFound, pinHas, valueIn, delayFor, groupIs, groupAt};
 ghost use Rattle.genlib_groups.specs.{behindGroup};
+use base_text::Class;
 use base_text::Value;
 
 // ---- tokens by number
@@ -29,16 +29,6 @@ fn count(w: &[u8]) -> usize
     n
 }
 
-// Token k has the bytes t.
-fn is_text(w: &[u8], k: usize, t: &[u8]) -> bool
-    ensures { λ r. ⌜ r ≡ same (getD (tokens (now (w .entry))) k []) (now (t .entry)) ⌝ }
-{
-    let n = genlib_expression::nth(w, k);
-    let from = n.from;
-    let to = n.to;
-    base_text::same_bytes(&w[from..to], t)
-}
-
 // Token k is the sign b.
 fn is_sign(w: &[u8], k: usize, b: u8) -> bool
     requires { ⌜ 0 < b ⌝ }
@@ -46,70 +36,21 @@ fn is_sign(w: &[u8], k: usize, b: u8) -> bool
 {
     let n = genlib_expression::nth(w, k);
     let from = n.from;
-    if from < n.to { w[from] == b } else { false }
-}
-
-// Token k is a name.
-fn is_name(w: &[u8], k: usize) -> bool
-    ensures { λ r. ⌜ r ≡ isWord (getD (tokens (now (w .entry))) k []) ⌝ }
-{
-    let n = genlib_expression::nth(w, k);
-    let from = n.from;
-    let to = n.to;
-    genlib_expression::is_word(&w[from..to])
+    from < n.to && w[from] == b
 }
 
 // ---- figures
-
-fn is_digit(b: u8) -> bool
-    ensures { λ r. ⌜ r ≡ isDigit b ⌝ }
-{
-    match b {
-        b'0'..=b'9' => true,
-        _ => false,
-    }
-}
-
-// The end of the digits that begin at a place.
-fn digits_end(w: &[u8], from: usize) -> usize
-    ensures { λ r. ⌜ r ≡ spanEnd isDigit (now (w .entry)) from ⌝ }
-{
-    let mut at = from;
-    while at < w.len() {
-        if !is_digit(w[at]) {
-            return at;
-        }
-        at += 1;
-    }
-    at
-}
-
-// Digits alone, one at least.
-fn is_digits(w: &[u8]) -> bool
-    ensures { λ r. ⌜ r ≡ isDigits (now (w .entry)) ⌝ }
-{
-    if w.len() == 0 {
-        return false;
-    }
-    digits_end(w, 0) == w.len()
-}
 
 // "figures of digits with or without a point and more digits"
 fn is_figure(w: &[u8]) -> bool
     ensures { λ r. ⌜ r ≡ isFigure (now (w .entry)) ⌝ }
 {
-    let end = digits_end(w, 0);
-    if end == 0 {
-        return false;
-    }
-    if w.len() <= end {
-        return true;
-    }
-    if w[end] != b'.' {
-        return false;
+    let end = base_text::span_end(w, 0, Class::Digit);
+    if end == 0 || w.len() <= end {
+        return end > 0;
     }
     let from = end + 1;
-    is_digits(&w[from..])
+    w[end] == b'.' && (from < w.len() && base_text::span_end(w, from, Class::Digit) == w.len())
 }
 
 // A digit more behind a number. A figure may be of any length: beyond 65,535 all numbers are one, so none overflows.
@@ -146,11 +87,8 @@ fn decimal(w: &[u8], at: usize) -> u8
 fn figure(w: &[u8]) -> Value
     ensures { λ r. ⌜ r ≡ valueIn (thousandths (now (w .entry))) ⌝ }
 {
-    if !is_figure(w) {
-        return Value::Broken;
-    }
-    let end = digits_end(w, 0);
-    if w.len() > end + 4 {
+    let end = base_text::span_end(w, 0, Class::Digit);
+    if !is_figure(w) || w.len() > end + 4 {
         return Value::Broken;
     }
     let a = add_digit(whole(w, end), decimal(w, end + 1));
@@ -167,20 +105,7 @@ fn figure(w: &[u8]) -> Value
 pub fn figure_at(w: &[u8], k: usize) -> Value
     ensures { λ r. ⌜ r ≡ valueIn (thousandths (getD (tokens (now (w .entry))) k [])) ⌝ }
 {
-    let n = genlib_expression::nth(w, k);
-    let from = n.from;
-    let to = n.to;
-    figure(&w[from..to])
-}
-
-// Token k is a figure.
-fn is_figure_at(w: &[u8], k: usize) -> bool
-    ensures { λ r. ⌜ r ≡ isFigure (getD (tokens (now (w .entry))) k []) ⌝ }
-{
-    let n = genlib_expression::nth(w, k);
-    let from = n.from;
-    let to = n.to;
-    is_figure(&w[from..to])
+    figure(genlib_expression::nth_bytes(w, k))
 }
 
 // Figures alone, from a place on.
@@ -193,10 +118,8 @@ fn all_figures(w: &[u8], from: usize) -> bool
         let t = genlib_expression::next_token(w, at);
         let a = t.from;
         let b = t.to;
-        if a < b {
-            if !is_figure(&w[a..b]) {
-                return false;
-            }
+        if a < b && !is_figure(&w[a..b]) {
+            return false;
         }
         at = b;
     }
@@ -206,63 +129,36 @@ fn all_figures(w: &[u8], from: usize) -> bool
 // ---- GATE and PIN lines
 
 // "A GATE line has name, area, output, `=`, expression, `;`"
-fn is_gate_head(w: &[u8]) -> bool
-    ensures { λ r. ⌜ r ≡ gateHead (tokens (now (w .entry))) ⌝ }
-{
-    if !is_text(w, 0, b"GATE") {
-        return false;
-    }
-    if !is_name(w, 1) {
-        return false;
-    }
-    if !is_figure_at(w, 2) {
-        return false;
-    }
-    if !is_name(w, 3) {
-        return false;
-    }
-    is_sign(w, 4, b'=')
-}
-
-// The same with the expression and its `;`.
 fn is_gate(w: &[u8]) -> bool
     ensures { λ r. ⌜ r ≡ isGateLine (tokens (now (w .entry))) ⌝ }
 {
-    if !is_gate_head(w) {
+    let n = genlib_expression::nth(w, 4);
+    if !base_text::same_bytes(genlib_expression::nth_bytes(w, 0), b"GATE")
+        || !genlib_expression::is_word(genlib_expression::nth_bytes(w, 1))
+        || !is_figure(genlib_expression::nth_bytes(w, 2))
+        || !genlib_expression::is_word(genlib_expression::nth_bytes(w, 3))
+    {
         return false;
     }
-    let n = genlib_expression::nth(w, 4);
-    genlib_expression::is_formed(w, n.to)
+    is_sign(w, 4, b'=') && genlib_expression::is_formed(w, n.to)
 }
 
 // "a PIN line name, phase, two loads, then block and fanout delay for rise, then for fall"
 fn is_pin_head(w: &[u8]) -> bool
     ensures { λ r. ⌜ r ≡ pinHead (tokens (now (w .entry))) ⌝ }
 {
-    if !is_text(w, 0, b"PIN") {
-        return false;
-    }
-    if !is_name(w, 2) {
-        return false;
-    }
-    if is_sign(w, 1, b'*') {
-        return true;
-    }
-    is_name(w, 1)
+    base_text::same_bytes(genlib_expression::nth_bytes(w, 0), b"PIN")
+        && (genlib_expression::is_word(genlib_expression::nth_bytes(w, 2))
+            && (is_sign(w, 1, b'*')
+                || genlib_expression::is_word(genlib_expression::nth_bytes(w, 1))))
 }
 
 // The same with its six figures.
 fn is_pin_line(w: &[u8]) -> bool
     ensures { λ r. ⌜ r ≡ isPinLine (tokens (now (w .entry))) ⌝ }
 {
-    if count(w) != 9 {
-        return false;
-    }
-    if !is_pin_head(w) {
-        return false;
-    }
     let n = genlib_expression::nth(w, 2);
-    all_figures(w, n.to)
+    count(w) == 9 && (is_pin_head(w) && all_figures(w, n.to))
 }
 
 // ---- groups
@@ -271,13 +167,9 @@ fn is_pin_line(w: &[u8]) -> bool
 fn names_gate(w: &[u8]) -> bool
     ensures { λ r. ⌜ r ≡ same (firstName (now (w .entry))) gateWord ⌝ }
 {
-    let from = genlib_expression::skip(w, 0);
-    let to = genlib_expression::name_end(w, from);
-    if to <= w.len() {
-        base_text::same_bytes(&w[from..to], b"GATE")
-    } else {
-        false
-    }
+    let from = base_text::span_end(w, 0, Class::Blank);
+    let to = base_text::span_end(w, from, Class::Name);
+    base_text::same_bytes(&w[from..to], b"GATE")
 }
 
 // The next line from a place on that starts a group, or the text's end: "gate by gate with the lines up to the next GATE".
@@ -309,10 +201,7 @@ fn all_pin_lines(s: &[u8], from: usize) -> bool
         if names_gate(&s[at..stop]) {
             return true;
         }
-        if stop == l.next {
-            return false;
-        }
-        if !is_pin_line(&s[at..stop]) {
+        if stop == l.next || !is_pin_line(&s[at..stop]) {
             return false;
         }
         at = l.next;
@@ -326,13 +215,7 @@ fn all_pin_lines(s: &[u8], from: usize) -> bool
 fn fits_line(w: &[u8], name: &[u8]) -> bool
     ensures { λ r. ⌜ r ≡ fits (now (name .entry)) (tokens (now (w .entry))) ⌝ }
 {
-    if is_sign(w, 1, b'*') {
-        return true;
-    }
-    let n = genlib_expression::nth(w, 1);
-    let from = n.from;
-    let to = n.to;
-    base_text::same_bytes(name, &w[from..to])
+    is_sign(w, 1, b'*') || base_text::same_bytes(name, genlib_expression::nth_bytes(w, 1))
 }
 
 // "the first that fits counts": its place, or the text's end.
@@ -360,11 +243,7 @@ fn has_line(s: &[u8], from: usize, t: &[u8]) -> bool
     requires { ⌜ from ≤ length (now s) ⌝ }
     ensures { λ r. ⌜ r ≡ pinHas (linesBehind (now (s .entry)) from) (now (t .entry)) ⌝ }
 {
-    if genlib_expression::is_pin(t) {
-        find_line(s, from, t) < s.len()
-    } else {
-        true
-    }
+    !genlib_expression::is_pin(t) || find_line(s, from, t) < s.len()
 }
 
 // The same for all tokens of an expression, one after the other.
@@ -385,17 +264,12 @@ fn tokens_have_lines(s: &[u8], from: usize, w: &[u8], start: usize) -> bool
     true
 }
 
-// The same for the pin that stands first at a place of the GATE line.
-fn has_line_named(s: &[u8], from: usize, w: &[u8], at: usize) -> bool
-    requires { ⌜ from ≤ length (now s) ⌝ }
-    ensures { λ r. ⌜ r ≡ pinHas (linesBehind (now (s .entry)) from) (span isWordByte (drop at (now (w .entry)))) ⌝ }
+// The word that begins at a place; none does behind the line's end.
+fn word_at(w: &[u8], at: usize) -> &[u8]
+    ensures { λ r. ⌜ now r ≡ span isWordByte (drop at (now (w .entry))) ⌝ }
 {
-    let end = genlib_expression::word_end(w, at);
-    if end <= w.len() {
-        has_line(s, from, &w[at..end])
-    } else {
-        has_line(s, from, &w[..0])
-    }
+    let end = base_text::span_end(w, at, Class::Word);
+    if end <= w.len() { &w[at..end] } else { &w[..0] }
 }
 
 // The same for all tokens of an expression, those behind the fourth pin too: 22 is tried before 23. Up to four pins are looked up once each.
@@ -411,7 +285,7 @@ fn all_have_lines(s: &[u8], from: usize, w: &[u8], start: usize) -> bool
     let mut i = 0;
     while i < n {
         let at = p.at[i];
-        if !has_line_named(s, from, w, at) {
+        if !has_line(s, from, word_at(w, at)) {
             return false;
         }
         i += 1;
@@ -440,40 +314,18 @@ fn delay_of(w: &[u8]) -> Value
     }
 }
 
-// The delay that the PIN line at a place gives.
-fn delay_at(s: &[u8], at: usize) -> Value
-    requires { ⌜ at < length (now s) ⌝ }
-    ensures { λ r. ⌜ r ≡ valueIn (delayOf (lineTokens (lineAt (now (s .entry)) at))) ⌝ }
-{
-    let l = base_text::line(s, at);
-    let stop = l.stop;
-    delay_of(&s[at..stop])
-}
-
-// The delay of a pin by its name.
-fn delay_for(s: &[u8], from: usize, name: &[u8]) -> Value
-    requires { ⌜ from ≤ length (now s) ⌝ }
-    ensures { λ r. ⌜ r ≡ valueIn (delayFor (linesBehind (now (s .entry)) from) (now (name .entry))) ⌝ }
-{
-    let at = find_line(s, from, name);
-    if at < s.len() {
-        delay_at(s, at)
-    } else {
-        Value::Broken
-    }
-}
-
 // The delay of the pin that stands first at a place of the GATE line.
 pub fn delay_named(s: &[u8], from: usize, w: &[u8], at: usize) -> Value
     requires { ⌜ from ≤ length (now s) ⌝ }
     ensures { λ r. ⌜ r ≡ valueIn (delayFor (linesBehind (now (s .entry)) from) (span isWordByte (drop at (now (w .entry))))) ⌝ }
 {
-    let end = genlib_expression::word_end(w, at);
-    if end <= w.len() {
-        delay_for(s, from, &w[at..end])
-    } else {
-        delay_for(s, from, &w[..0])
+    let line = find_line(s, from, word_at(w, at));
+    if line >= s.len() {
+        return Value::Broken;
     }
+    let l = base_text::line(s, line);
+    let stop = l.stop;
+    delay_of(&s[line..stop])
 }
 
 // ---- a group
@@ -484,14 +336,8 @@ pub fn is_group(s: &[u8], from: usize, w: &[u8]) -> bool
     requires { ⌜ from ≤ length (now s) ⌝ }
     ensures { λ r. ⌜ r ≡ groupIs (now (s .entry)) from (tokens (now (w .entry))) ⌝ }
 {
-    if !is_gate(w) {
-        return false;
-    }
-    if !all_pin_lines(s, from) {
-        return false;
-    }
     let n = genlib_expression::nth(w, 4);
-    all_have_lines(s, from, w, n.to)
+    is_gate(w) && (all_pin_lines(s, from) && all_have_lines(s, from, w, n.to))
 }
 
 // Where the group behind the one at a place begins.

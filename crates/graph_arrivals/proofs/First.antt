@@ -1,11 +1,11 @@
 -- The first line of an arrivals' text, and what lies behind it.
-use Rattle.base.specs.{ℕ, _-_, _<_, _≤_, arith, _≡_, refl, sym, ap, _∙_, true, false, cond, _&&_, List, [], _∷_, length, take, drop}
+use Rattle.base.specs.{ℕ, _<_, arith, _≡_, refl, sym, ap, _∙_, true, false, cond, _&&_, List, [], _∷_, length, drop}
 use Rattle.model.specs.{same, ended, linesFrom, unless, verdictOf, readLate, readLateLines, readArrivals}
 use Rattle.model.specs.declared.Verdict.the-variants.{Accepted, Refused}
 use Rattle.base_text.specs.declared.Span.{Span}
-use Rattle.base_text.specs.{lineAt, pastLine, spanAt}
-use Rattle.base_text.proofs.{and-left, lines-at, span-contents, span-ended, span-next, span-fits}
-use Rattle.graph_arrivals.specs.{headLine, isHead, putAll, passed, listedLines, listed}
+use Rattle.base_text.specs.{lineAt, pastLine, spanAt, firstIs}
+use Rattle.base_text.proofs.{and-left, lines-at, first-is, span-next}
+use Rattle.graph_arrivals.specs.{headLine, putAll, passed, listedLines, listed}
 use Rattle.graph_arrivals.proofs.Lines.{linesOf}
 
 -- an empty text
@@ -23,34 +23,23 @@ module _ (inputs : ℕ) (s : List ℕ) (some : 0 < length s) where
   unfolding listed listedLines headLine
   listed-by = ap (listedLines inputs) (lines-at s 0 some)
 
-  -- the test of the first line
-  first-is : isHead s (spanAt s 0) ≡ (ended (lineAt s 0) && same (lineAt s 0 .bytes) headLine)
-  unfolding isHead
-  first-is =
-      let z : spanAt s 0 .stop - 0 ≡ spanAt s 0 .stop = omega arith in
-      let e : take (spanAt s 0 .stop) s ≡ lineAt s 0 .bytes = ap (λ (k : ℕ). take k s) (sym z) ∙ span-contents s 0 in
-      rw (span-ended s 0, e)
-
   -- the first line, as it is handed back
   module _ (l : Span) (is : l ≡ spanAt s 0) where
-    pub first-fits : l .stop ≤ length s
-    first-fits = omega (arith, ap (λ (x : Span). x .stop) is, span-fits s 0 (omega arith))
-
-    pub head-not : isHead s l ≡ false → (m : ℕ) (w : List ℕ) → (Refused 25 0 ≡ verdictOf (readArrivals inputs s)) × (w ≡ putAll w m (listed inputs s))
+    pub head-not : firstIs s l headLine ≡ false → (m : ℕ) (w : List ℕ) → (Refused 25 0 ≡ verdictOf (readArrivals inputs s)) × (w ≡ putAll w m (listed inputs s))
     unfolding unless verdictOf putAll
     head-not e m w =
-        let x = sym first-is ∙ sym (ap (isHead s) is) ∙ e in
+        let x = sym (first-is s headLine) ∙ sym (ap (λ (x : Span). firstIs s x headLine) is) ∙ e in
         (sym (ap verdictOf read-by ∙ rw x), sym (ap (putAll w m) listed-by ∙ rw x))
 
-    pub head-read : isHead s l ≡ true → readArrivals inputs s ≡ readLate inputs [] (linesFrom (l .next) [] (drop (l .next) s))
+    pub head-read : firstIs s l headLine ≡ true → readArrivals inputs s ≡ readLate inputs [] (linesFrom (l .next) [] (drop (l .next) s))
     unfolding unless
     head-read e =
-        let x = sym first-is ∙ sym (ap (isHead s) is) ∙ e in
+        let x = sym (first-is s headLine) ∙ sym (ap (λ (x : Span). firstIs s x headLine) is) ∙ e in
         let u : ended (lineAt s 0) ≡ true = and-left (ended (lineAt s 0)) (same (lineAt s 0 .bytes) headLine) x in
         read-by ∙ rw (x, u) (ap (λ (k : ℕ). readLate inputs [] (linesOf s k)) (sym (ap (λ (y : Span). y .next) is ∙ span-next s 0)))
 
-    pub head-listed : isHead s l ≡ true → listed inputs s ≡ passed inputs [] (linesFrom (l .next) [] (drop (l .next) s))
+    pub head-listed : firstIs s l headLine ≡ true → listed inputs s ≡ passed inputs [] (linesFrom (l .next) [] (drop (l .next) s))
     head-listed e =
-        let x = sym first-is ∙ sym (ap (isHead s) is) ∙ e in
+        let x = sym (first-is s headLine) ∙ sym (ap (λ (x : Span). firstIs s x headLine) is) ∙ e in
         let u : ended (lineAt s 0) ≡ true = and-left (ended (lineAt s 0)) (same (lineAt s 0 .bytes) headLine) x in
         listed-by ∙ rw (x, u) (ap (λ (k : ℕ). passed inputs [] (linesOf s k)) (sym (ap (λ (y : Span). y .next) is ∙ span-next s 0)))

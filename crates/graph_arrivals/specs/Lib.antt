@@ -2,6 +2,6 @@
 pub mod Reading
 pub mod Storing
 pub use Reading.{pickJudged}
-unfoldable pub use Reading.{entryAt, headLine, isHead, judgedAt}
+unfoldable pub use Reading.{entryAt, headLine, judgedAt}
 pub use Storing.{Listable, onNumbers}
 unfoldable pub use Storing.{listed, listedLines, passed, putAll, putLate}

@@ -1,9 +1,8 @@
 -- What each reader of the arrivals' text answers, composed of what the readers of the crate text find.
-use Rattle.base.specs.{ℕ, Bool, true, false, _&&_, List, eqb, ltb, take, getD}
-use Rattle.model.specs.{same, text}
+use Rattle.base.specs.{ℕ, Bool, true, false, _&&_, List, eqb, ltb, getD}
+use Rattle.model.specs.{text}
 use Rattle.base_text.specs.{onNumber, numberThen, numberEnd}
 use Rattle.base_text.specs.declared.Cursor.{Cursor}
-use Rattle.base_text.specs.declared.Span.{Span}
 use Rattle.graph_arrivals.specs.declared.Entry.{Entry}
 use Rattle.graph_arrivals.specs.declared.Entry.the-variants.{Is as AnEntry, Broken}
 use Rattle.graph_arrivals.specs.declared.Judged.{Judged}
@@ -13,10 +12,6 @@ use Rattle.graph_arrivals.specs.declared.Judged.the-variants.{Is as Good
 unfoldable pub headLine : List ℕ
 unfolding text
 headLine = text "input arrival"
-
--- a line has its end, and its contents are those
-unfoldable pub isHead : List ℕ → Span → Bool
-isHead s l = ltb (l .stop) (l .next) && same (take (l .stop) s) headLine
 
 -- the two numbers of the line at a place
 unfoldable pub entryAt : List ℕ → ℕ → Entry

@@ -3,13 +3,12 @@
 // leading zeros. Inputs not listed arrive at 0."
 use base_text::Cursor;
 use base_text::Number;
-use base_text::Span;
 use model::Header;
 use model::Verdict;
-ghost use Rattle.base.specs.{_≡_, [], _+_, _≤_, _<_, length, drop, replicate};
+ghost use Rattle.base.specs.{_≡_, [], _+_, _≤_, _<_, drop};
 ghost use Rattle.model.specs.{linesFrom, verdictOf, rulingOf, verdictRuling, readLate, readArrivals};
 ghost use Rattle.base_words.specs.{Room, slotAt};
-ghost use Rattle.graph_arrivals.specs.{isHead, entryAt, judgedAt, Listable, putLate, putAll, passed, listed};
+ghost use Rattle.graph_arrivals.specs.{entryAt, judgedAt, Listable, putLate, putAll, passed, listed};
 
 // A line that has its form: the index, the arrival, and the next line.
 pub enum Entry {
@@ -30,18 +29,6 @@ fn wide(x: u16) -> usize
 }
 
 // ---- a line
-
-// The first line is `input arrival`.
-fn is_head(s: &[u8], first: Span) -> bool
-    requires { ⌜ first .stop ≤ length (now s) ⌝ }
-    ensures { λ r. ⌜ r ≡ isHead (now (s .entry)) first ⌝ }
-{
-    let stop = first.stop;
-    if first.next <= stop {
-        return false;
-    }
-    base_text::same_bytes(&s[..stop], b"input arrival")
-}
 
 // The index and the arrival of a line.
 fn read_late(s: &[u8], at: usize) -> Entry
@@ -65,14 +52,10 @@ fn judge(s: &[u8], at: usize, inputs: usize, marks: &[u8; 4096]) -> Judged
     match read_late(s, at) {
         Entry::Is(index, time, next) => {
             let i = wide(index);
-            if i >= inputs {
+            if i >= inputs || marks[i] != 0 {
                 return Judged::Refused(26);
             }
-            if marks[i] == 0 {
-                Judged::Is(index, time, next)
-            } else {
-                Judged::Refused(26)
-            }
+            Judged::Is(index, time, next)
         }
         Entry::Broken => Judged::Refused(25),
     }
@@ -90,19 +73,13 @@ fn store_late(work: &mut [u16], m: usize, index: u16, time: u16)
     base_words::set_late(work, m, v, time);
 }
 
-fn no_marks() -> [u8; 4096]
-    ensures { λ r. ⌜ r ≡ replicate 4096 0 ⌝ }
-{
-    [0u8; 4096]
-}
-
 // The lines from a place on, "both line by line .., at the line's offset".
 fn read_lines(s: &[u8], from: usize, h: Header, work: &mut [u16]) -> Verdict
     requires { ⌜ Listable (now work) (h .size) (h .inputs) ⌝ }
     ensures { λ r. ⌜ r ≡ verdictOf (readLate (h .inputs) [] (linesFrom from [] (drop from (now (s .entry))))) ⌝ }
     ensures { λ _. ⌜ now (work .exit) ≡ putAll (now (work .entry)) (h .size) (passed (h .inputs) [] (linesFrom from [] (drop from (now (s .entry))))) ⌝ }
 {
-    let mut marks = no_marks();
+    let mut marks = [0u8; 4096];
     let mut at = from;
     while at < s.len() {
         match judge(s, at, h.inputs, &marks) {
@@ -112,9 +89,7 @@ fn read_lines(s: &[u8], from: usize, h: Header, work: &mut [u16]) -> Verdict
                 marks[i] = 1;
                 at = next.at;
             }
-            Judged::Refused(number) => {
-                return Verdict::Refused(number, at);
-            }
+            Judged::Refused(number) => return Verdict::Refused(number, at),
         }
     }
     Verdict::Accepted
@@ -131,9 +106,8 @@ pub fn read(s: &[u8], h: Header, work: &mut [u16]) -> Verdict
         return Verdict::Accepted;
     }
     let first = base_text::line(s, 0);
-    if is_head(s, first) {
-        read_lines(s, first.next, h, work)
-    } else {
-        Verdict::Refused(25, 0)
+    if base_text::first_is(s, first, b"input arrival") {
+        return read_lines(s, first.next, h, work);
     }
+    Verdict::Refused(25, 0)
 }

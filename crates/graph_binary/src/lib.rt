@@ -29,12 +29,7 @@ fn less_by(s: &[u8], at: usize, n: usize, first: bool) -> Less
     let c = Cursor { at };
     match c.difference(s) {
         Number::Value(d, next) => {
-            if first {
-                if d == 0 {
-                    return Less::Refused(21);
-                }
-            }
-            if d as usize > n {
+            if d as usize > n || (first && d == 0) {
                 return Less::Refused(21);
             }
             Less::Is(n - d as usize, next.at)
@@ -141,12 +136,8 @@ fn read_outputs(s: &[u8], work: &mut [u16], h: Header) -> Turn
     let mut k = h.inputs;
     while k < end {
         match output_turn(s, at, work, h, k) {
-            Turn::To(next) => {
-                at = next;
-            }
-            Turn::Refused(n, place) => {
-                return Turn::Refused(n, place);
-            }
+            Turn::To(next) => at = next,
+            Turn::Refused(n, place) => return Turn::Refused(n, place),
         }
         k += 1;
     }
@@ -183,12 +174,8 @@ fn read_gates(s: &[u8], from: usize, work: &mut [u16], h: Header) -> Verdict
     let mut k = h.inputs + h.outputs;
     while k < end {
         match gate_turn(s, at, work, h, k) {
-            Turn::To(next) => {
-                at = next;
-            }
-            Turn::Refused(n, place) => {
-                return Verdict::Refused(n, place);
-            }
+            Turn::To(next) => at = next,
+            Turn::Refused(n, place) => return Verdict::Refused(n, place),
         }
         k += 1;
     }

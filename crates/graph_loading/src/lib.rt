@@ -3,8 +3,7 @@
 ghost use Rattle.base.specs.{_≡_, _+_, _*_, _≤_, _<_};
 ghost use Rattle.base_words.specs.{Room};
 ghost use Rattle.graph_placing.specs.{Fit};
-ghost use Rattle.graph_loading.specs.{dueCode, dueCount, literalsFit, LiteralsFit, mayDefine, isTaken, storedInput, storedLine};
-ghost use Rattle.graph_loading.specs.{opened};
+ghost use Rattle.graph_loading.specs.{dueCode, dueCount, literalsFit, LiteralsFit, mayDefine, isTaken, storedLine, opened};
 use model::Header;
 
 // The literals of a due line, 0 where it has fewer than three, and the place behind it.
@@ -32,10 +31,9 @@ pub fn due_kind(h: Header, k: usize) -> usize
         return base_words::INPUT;
     }
     if k < h.inputs + h.outputs {
-        base_words::UNDEFINED
-    } else {
-        base_words::AND
+        return base_words::UNDEFINED;
     }
+    base_words::AND
 }
 
 // No "literal exceeds 2M+1".
@@ -43,23 +41,14 @@ pub fn fits(m: usize, l: Literals) -> bool
     requires { ⌜ m ≤ 4095 ⌝ }
     ensures { λ r. ⌜ r ≡ literalsFit m l ⌝ }
 {
-    if l.first > 2 * m + 1 {
-        return false;
-    }
-    if l.left > 2 * m + 1 {
-        return false;
-    }
-    l.right <= 2 * m + 1
+    l.first <= 2 * m + 1 && (l.left <= 2 * m + 1 && l.right <= 2 * m + 1)
 }
 
 // An output, or no "input or left literal is odd or 0".
 pub fn may_define(kind: usize, first: usize) -> bool
     ensures { λ r. ⌜ r ≡ mayDefine kind first ⌝ }
 {
-    if kind == base_words::UNDEFINED {
-        return true;
-    }
-    if first % 2 == 0 { first != 0 } else { false }
+    kind == base_words::UNDEFINED || (first % 2 == 0 && first != 0)
 }
 
 // "An input or left variable is already defined."
@@ -67,29 +56,19 @@ pub fn taken(work: &[u16], m: usize, kind: usize, first: usize) -> bool
     requires { ⌜ Room (now work) m × (first ≤ 2 * m + 1) ⌝ }
     ensures { λ r. ⌜ r ≡ isTaken (now (work .entry)) m kind first ⌝ }
 {
-    if kind == base_words::UNDEFINED {
-        return false;
-    }
-    base_words::kind(work, m, first / 2) != base_words::UNDEFINED
+    kind != base_words::UNDEFINED && base_words::kind(work, m, first / 2) != base_words::UNDEFINED
 }
 
 // ---- what a line leaves in the words
 
 // "Placing order: variable 0 and the inputs first".
-fn store_input(work: &mut [u16], m: usize, k: usize, v: usize)
-    requires { ⌜ Room (now work) m × (k < m) × (v ≤ m) ⌝ }
-    ensures { λ _. ⌜ now (work .exit) ≡ storedInput (now (work .entry)) m k v ⌝ }
-{
-    base_words::store_node(work, m, v, base_words::INPUT, 0, 0);
-    graph_placing::place_at(work, m, k + 1, v);
-}
-
 pub fn store_line(work: &mut [u16], h: Header, k: usize, l: Literals)
     requires { ⌜ Fit h (now work) × (k < dueCount h) × LiteralsFit (h .size) l ⌝ }
     ensures { λ _. ⌜ now (work .exit) ≡ storedLine (now (work .entry)) h k l ⌝ }
 {
     if k < h.inputs {
-        store_input(work, h.size, k, l.first / 2);
+        base_words::store_node(work, h.size, l.first / 2, base_words::INPUT, 0, 0);
+        graph_placing::place_at(work, h.size, k + 1, l.first / 2);
     } else if k < h.inputs + h.outputs {
         base_words::set_output(work, h.size, h.outputs, k - h.inputs, l.first);
     } else {

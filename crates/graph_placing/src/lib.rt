@@ -7,11 +7,13 @@ ghost use Rattle.graph_placing.specs.{placedWords, placedVerdict, Passed
 use model::Header;
 use model::Verdict;
 
-// "M exceeds 4,095" is refused, and variable 0 is one more.
-const VARIABLES: usize = 4096;
+// The first use of each variable: "M exceeds 4,095" is refused, and variable 0 is one more.
+type Heads = [u16; 4096];
 
-// Two for each variable.
-const USES: usize = 2 * VARIABLES;
+// The next use of the same variable behind each use: two for each variable.
+type Links = [u16; 8192];
+
+type Marks = [u64; base_marks::WORDS];
 
 // A variable in a slot of the placing order.
 pub fn place_at(work: &mut [u16], m: usize, i: usize, v: usize)
@@ -27,10 +29,7 @@ fn waits(work: &[u16], m: usize, v: usize) -> bool
     requires { ⌜ Room (now work) m × (v ≤ m) ⌝ }
     ensures { λ r. ⌜ r ≡ isWaiting (now (work .entry)) m v ⌝ }
 {
-    if base_words::kind(work, m, v) != base_words::AND {
-        return false;
-    }
-    base_words::place(work, m, v) == 0
+    base_words::kind(work, m, v) == base_words::AND && base_words::place(work, m, v) == 0
 }
 
 fn is_placed(work: &[u16], m: usize, l: usize) -> bool
@@ -45,13 +44,9 @@ fn ready(work: &[u16], m: usize, v: usize) -> bool
     requires { ⌜ Room (now work) m × Operands (now work) m × (v ≤ m) ⌝ }
     ensures { λ r. ⌜ r ≡ isReady (now (work .entry)) m v ⌝ }
 {
-    if !waits(work, m, v) {
-        return false;
-    }
-    if !is_placed(work, m, base_words::left(work, m, v)) {
-        return false;
-    }
-    is_placed(work, m, base_words::right(work, m, v))
+    waits(work, m, v)
+        && (is_placed(work, m, base_words::left(work, m, v))
+            && is_placed(work, m, base_words::right(work, m, v)))
 }
 
 // The first AND from a variable on that is not placed, or M + 1.
@@ -70,7 +65,7 @@ fn first_waiting(work: &[u16], m: usize, from: usize) -> usize
 }
 
 // A use put before the others of a variable.
-fn link(heads: &mut [u16; VARIABLES], links: &mut [u16; USES], x: usize, o: usize)
+fn link(heads: &mut Heads, links: &mut Links, x: usize, o: usize)
     requires { ⌜ (x < 4096) × (o < 8192) ⌝ }
     ensures heads { λ _. ⌜ now (heads .exit) ≡ set (now (heads .entry)) x o ⌝ }
     ensures links { λ _. ⌜ now (links .exit) ≡ set (now (links .entry)) o (getD (now (heads .entry)) x 0) ⌝ }
@@ -80,7 +75,7 @@ fn link(heads: &mut [u16; VARIABLES], links: &mut [u16; USES], x: usize, o: usiz
 }
 
 // An AND that waits, listed by both its operands.
-fn list(work: &[u16], m: usize, v: usize, heads: &mut [u16; VARIABLES], links: &mut [u16; USES])
+fn list(work: &[u16], m: usize, v: usize, heads: &mut Heads, links: &mut Links)
     requires { ⌜ Room (now work) m × Operands (now work) m × (v ≤ m) × Passed m (now work) v (now heads) (now links) ⌝ }
     ensures passed { λ _. ⌜ Passed m (now (work .entry)) (v + 1) (now (heads .exit)) (now (links .exit)) ⌝ }
     ensures kept { λ _. ⌜ Kept (2 * v) (now (links .entry)) (now (links .exit)) ⌝ }
@@ -92,13 +87,7 @@ fn list(work: &[u16], m: usize, v: usize, heads: &mut [u16; VARIABLES], links: &
 }
 
 // The first AND from a variable on that can be placed, or M + 1. What waits below it is listed.
-fn first_ready(
-    work: &[u16],
-    m: usize,
-    from: usize,
-    heads: &mut [u16; VARIABLES],
-    links: &mut [u16; USES],
-) -> usize
+fn first_ready(work: &[u16], m: usize, from: usize, heads: &mut Heads, links: &mut Links) -> usize
     requires { ⌜ Room (now work) m × Operands (now work) m × Passed m (now work) from (now heads) (now links) ⌝ }
     ensures answer { λ r. ⌜ r ≡ readyFrom (now (work .entry)) m from ⌝ }
     ensures passed { λ r. ⌜ Passed m (now (work .entry)) r (now (heads .exit)) (now (links .exit)) ⌝ }
@@ -120,9 +109,9 @@ fn next_ready(
     work: &[u16],
     m: usize,
     scan: usize,
-    heads: &mut [u16; VARIABLES],
-    links: &mut [u16; USES],
-    marks: &[u64; base_marks::WORDS],
+    heads: &mut Heads,
+    links: &mut Links,
+    marks: &Marks,
 ) -> usize
     requires { ⌜ Room (now work) m × Operands (now work) m × Passed m (now work) scan (now heads) (now links) × Ready m (now work) (now links) (now marks) ⌝ }
     ensures { λ r. ⌜ Next m (now (work .entry)) scan (now (heads .exit)) (now (links .exit)) (now (marks .entry)) r ⌝ }
@@ -135,7 +124,7 @@ fn next_ready(
 }
 
 // v no longer has a mark, which it has below `scan`; from there on it is the first that is ready, and passed now. How far they are passed.
-fn take(marks: &mut [u64; base_marks::WORDS], v: usize, scan: usize) -> usize
+fn take(marks: &mut Marks, v: usize, scan: usize) -> usize
     requires { ⌜ v < 4096 ⌝ }
     ensures answer { λ r. ⌜ r ≡ passedTo scan v ⌝ }
     ensures left { λ _. ⌜ now (marks .exit) ≡ takenFrom scan v (now (marks .entry)) ⌝ }
@@ -148,7 +137,7 @@ fn take(marks: &mut [u64; base_marks::WORDS], v: usize, scan: usize) -> usize
 }
 
 // A mark for an AND that is ready.
-fn wake(work: &[u16], m: usize, v: usize, marks: &mut [u64; base_marks::WORDS])
+fn wake(work: &[u16], m: usize, v: usize, marks: &mut Marks)
     requires { ⌜ Room (now work) m × Operands (now work) m × (v ≤ m) ⌝ }
     ensures { λ _. ⌜ now (marks .exit) ≡ pickWords (isReady (now (work .entry)) m v) (added (now (marks .entry)) v) (now (marks .entry)) ⌝ }
 {
@@ -165,14 +154,7 @@ fn wide(x: u16) -> usize
 }
 
 // Marks for the users of a variable that are ready now that it is placed.
-fn wake_users(
-    work: &[u16],
-    m: usize,
-    v: usize,
-    heads: &[u16; VARIABLES],
-    links: &[u16; USES],
-    marks: &mut [u64; base_marks::WORDS],
-)
+fn wake_users(work: &[u16], m: usize, v: usize, heads: &Heads, links: &Links, marks: &mut Marks)
     requires { ⌜ Room (now work) m × Operands (now work) m × (v ≤ m) × Waked m (now work) v (now heads) (now links) (now marks) ⌝ }
     ensures { λ _. ⌜ Ready m (now (work .entry)) (now (links .entry)) (now (marks .exit)) ⌝ }
 {
@@ -185,13 +167,7 @@ fn wake_users(
 
 // "again and again the lowest-numbered AND whose operands are both placed". An AND that waits when it is passed is looked at again once for
 // each operand, when that is placed: so the numbering does not matter.
-fn place_ands(
-    work: &mut [u16],
-    h: Header,
-    heads: &mut [u16; VARIABLES],
-    links: &mut [u16; USES],
-    marks: &mut [u64; base_marks::WORDS],
-)
+fn place_ands(work: &mut [u16], h: Header, heads: &mut Heads, links: &mut Links, marks: &mut Marks)
     requires { ⌜ Fit h (now work) × Operands (now work) (h .size) × Passed (h .size) (now work) 1 (now heads) (now links) × Ready (h .size) (now work)
         (now links) (now marks) ⌝ }
     ensures { λ _. ⌜ now (work .exit) ≡ placedWords (now (work .entry)) h ⌝ }
@@ -217,14 +193,13 @@ pub fn place(work: &mut [u16], h: Header) -> Verdict
     ensures answer { λ r. ⌜ r ≡ placedVerdict (now (work .entry)) h ⌝ }
     ensures left { λ _. ⌜ now (work .exit) ≡ placedWords (now (work .entry)) h ⌝ }
 {
-    let mut heads = [0u16; VARIABLES];
-    let mut links = [8192u16; USES];
+    let mut heads = [0u16; 4096];
+    let mut links = [8192u16; 8192];
     let mut marks = base_marks::none();
     place_ands(work, h, &mut heads, &mut links, &mut marks);
     let v = first_waiting(work, h.size, 1);
     if v > h.size {
-        Verdict::Accepted
-    } else {
-        Verdict::Refused(15, v)
+        return Verdict::Accepted;
     }
+    Verdict::Refused(15, v)
 }

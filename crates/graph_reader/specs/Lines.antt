@@ -77,11 +77,14 @@ formAt s = onTag (tagAt s) (λ binary c. pickForm (headerEnds s binary) (numbers
 
 -- ---- the due lines
 
+abbrev pub asLine : ℕ → ℕ → ℕ → ℕ → LineRead
+asLine a l r end = ALine (literals a l r end)
+
 unfoldable pub oneLine : List ℕ → ℕ → LineRead
-oneLine s at = onNumber (numberEnd s at) (λ a c. ALine (literals a 0 0 (c .at))) NoLine
+oneLine s at = onNumber (numberEnd s at) (λ a c. asLine a 0 0 (c .at)) NoLine
 
 unfoldable pub andLine : List ℕ → ℕ → LineRead
-andLine s at = onThree (threeAt s at) (λ a l r c. ALine (literals a l r (c .at))) NoLine
+andLine s at = onThree (threeAt s at) (λ a l r c. asLine a l r (c .at)) NoLine
 
 abbrev pub pickLine : Bool → LineRead → LineRead → LineRead
 pickLine true a b = a

@@ -6,8 +6,8 @@ ghost use Rattle.model.specs.{headerValues, headerNumbers, inLimits, inSequence
 ghost use Rattle.base_words.specs.{Room};
 ghost use Rattle.graph_placing.specs.{Fit, Operands};
 ghost use Rattle.graph_loading.specs.{dueCount, LiteralsFit};
-ghost use Rattle.graph_reader.specs.{threeAt, tagBehind, tagAt, headerRecord, numbersForm, headerEnds, formAt, oneLine, andLine};
-ghost use Rattle.graph_reader.specs.{lineRead, judgedAt, isKnown, usesKnown, outputKnown, operandsKnown, wordsKnown, turnAt};
+ghost use Rattle.graph_reader.specs.{threeAt, tagBehind, tagAt, numbersForm, headerEnds, formAt, lineRead, asLine};
+ghost use Rattle.graph_reader.specs.{judgedAt, isKnown, usesKnown, outputKnown, operandsKnown, wordsKnown, turnAt};
 ghost use Rattle.graph_reader.specs.{turnWords, linesVerdict, linesWords, checkAt, checkVerdict, asciiWords, loadedWords};
 use base_text::Cursor;
 use base_text::Number;
@@ -75,32 +75,9 @@ fn tag(s: &[u8]) -> Tagged
         return tag_behind(c, s, true);
     }
     if base_text::same_bytes(&s[from..end], b"aag") {
-        tag_behind(c, s, false)
-    } else {
-        Tagged::Broken
+        return tag_behind(c, s, false);
     }
-}
-
-fn header_record(
-    size: u16,
-    inputs: u16,
-    latches: u16,
-    outputs: u16,
-    ands: u16,
-    next: usize,
-    binary: bool,
-) -> Header
-    ensures { λ r. ⌜ r ≡ headerRecord size inputs latches outputs ands next binary ⌝ }
-{
-    Header {
-        size: size as usize,
-        inputs: inputs as usize,
-        latches: latches as usize,
-        outputs: outputs as usize,
-        ands: ands as usize,
-        next,
-        binary,
-    }
+    Tagged::Broken
 }
 
 // `M I L O A` and the end of the line.
@@ -111,15 +88,16 @@ fn header_numbers(c: Cursor, s: &[u8], binary: bool) -> HeaderForm
         Number::Value(size, c0) => match c0.number_then(s, 32) {
             Number::Value(inputs, c1) => match read_three(c1, s) {
                 Three::Numbers(latches, outputs, ands, c2) => {
-                    HeaderForm::Is(header_record(
-                        size,
-                        inputs,
-                        latches,
-                        outputs,
-                        ands,
-                        c2.at,
+                    let h = Header {
+                        size: size as usize,
+                        inputs: inputs as usize,
+                        latches: latches as usize,
+                        outputs: outputs as usize,
+                        ands: ands as usize,
+                        next: c2.at,
                         binary,
-                    ))
+                    };
+                    HeaderForm::Is(h)
                 }
                 Three::Broken => HeaderForm::Broken,
             },
@@ -147,10 +125,9 @@ fn header_form(s: &[u8]) -> HeaderForm
     match tag(s) {
         Tagged::Word(binary, c) => {
             if header_ends(s, binary) {
-                header_numbers(c, s, binary)
-            } else {
-                HeaderForm::Broken
+                return header_numbers(c, s, binary);
             }
+            HeaderForm::Broken
         }
         Tagged::Broken => HeaderForm::Broken,
     }
@@ -160,16 +137,7 @@ fn header_form(s: &[u8]) -> HeaderForm
 fn in_limits(h: Header) -> bool
     ensures { λ r. ⌜ r ≡ inLimits h ⌝ }
 {
-    if h.size > 4095 {
-        return false;
-    }
-    if h.outputs > 4096 {
-        return false;
-    }
-    if h.inputs > h.size {
-        return false;
-    }
-    h.ands <= h.size - h.inputs
+    h.size <= 4095 && (h.outputs <= 4096 && (h.inputs <= h.size && h.ands <= h.size - h.inputs))
 }
 
 // No "binary header's M isn't I + A".
@@ -177,11 +145,7 @@ fn in_sequence(h: Header) -> bool
     requires { ⌜ h .inputs + h .ands ≤ 4095 ⌝ }
     ensures { λ r. ⌜ r ≡ inSequence h ⌝ }
 {
-    if h.binary {
-        h.size == h.inputs + h.ands
-    } else {
-        true
-    }
+    !h.binary || h.size == h.inputs + h.ands
 }
 
 // The header of a graph's text in either form, or the first refusal of 7 to 9 and 19, which is "tried after 9, place 0".
@@ -199,10 +163,9 @@ pub fn header(s: &[u8]) -> HeaderAnswer
                 return HeaderAnswer::Refused(9, 0);
             }
             if in_sequence(h) {
-                HeaderAnswer::Read(h)
-            } else {
-                HeaderAnswer::Refused(19, 0)
+                return HeaderAnswer::Read(h);
             }
+            HeaderAnswer::Refused(19, 0)
         }
         HeaderForm::Broken => HeaderAnswer::Refused(7, 0),
     }
@@ -221,49 +184,32 @@ pub enum Judged {
     Bad(usize),
 }
 
-fn read_one(s: &[u8], at: usize) -> LineRead
-    ensures { λ r. ⌜ r ≡ oneLine (now (s .entry)) at ⌝ }
+fn as_line(first: u16, left: u16, right: u16, c: Cursor) -> LineRead
+    ensures { λ r. ⌜ r ≡ asLine first left right (c .at) ⌝ }
 {
-    let c = Cursor { at };
-    match c.number_end(s) {
-        Number::Value(first, d) => {
-            let l = Literals {
-                first: first as usize,
-                left: 0,
-                right: 0,
-                next: d.at,
-            };
-            LineRead::Read(l)
-        }
-        Number::Broken => LineRead::Broken,
-    }
-}
-
-fn read_and(s: &[u8], at: usize) -> LineRead
-    ensures { λ r. ⌜ r ≡ andLine (now (s .entry)) at ⌝ }
-{
-    let c = Cursor { at };
-    match read_three(c, s) {
-        Three::Numbers(first, left, right, d) => {
-            let l = Literals {
-                first: first as usize,
-                left: left as usize,
-                right: right as usize,
-                next: d.at,
-            };
-            LineRead::Read(l)
-        }
-        Three::Broken => LineRead::Broken,
-    }
+    let l = Literals {
+        first: first as usize,
+        left: left as usize,
+        right: right as usize,
+        next: c.at,
+    };
+    LineRead::Read(l)
 }
 
 fn read_line(s: &[u8], at: usize, kind: usize) -> LineRead
     ensures { λ r. ⌜ r ≡ lineRead (now (s .entry)) at kind ⌝ }
 {
+    let c = Cursor { at };
     if kind == base_words::AND {
-        read_and(s, at)
+        match read_three(c, s) {
+            Three::Numbers(first, left, right, d) => as_line(first, left, right, d),
+            Three::Broken => LineRead::Broken,
+        }
     } else {
-        read_one(s, at)
+        match c.number_end(s) {
+            Number::Value(first, d) => as_line(first, 0, 0, d),
+            Number::Broken => LineRead::Broken,
+        }
     }
 }
 
@@ -274,10 +220,7 @@ fn judge(s: &[u8], at: usize, work: &[u16], m: usize, kind: usize) -> Judged
 {
     match read_line(s, at, kind) {
         LineRead::Read(l) => {
-            if !graph_loading::fits(m, l) {
-                return Judged::Bad(12);
-            }
-            if !graph_loading::may_define(kind, l.first) {
+            if !graph_loading::fits(m, l) || !graph_loading::may_define(kind, l.first) {
                 return Judged::Bad(12);
             }
             if graph_loading::taken(work, m, kind, l.first) {
@@ -318,12 +261,8 @@ fn read_lines(s: &[u8], work: &mut [u16], h: Header) -> Verdict
     let mut k = 0;
     while k < count {
         match turn_at(s, at, work, h, k) {
-            Turn::To(next) => {
-                at = next;
-            }
-            Turn::Refused(n, place) => {
-                return Verdict::Refused(n, place);
-            }
+            Turn::To(next) => at = next,
+            Turn::Refused(n, place) => return Verdict::Refused(n, place),
         }
         k += 1;
     }
@@ -348,10 +287,7 @@ fn uses_known(work: &[u16], m: usize, kind: usize, l: Literals) -> bool
     if kind == base_words::UNDEFINED {
         return known(work, m, l.first);
     }
-    if !known(work, m, l.left) {
-        return false;
-    }
-    known(work, m, l.right)
+    known(work, m, l.left) && known(work, m, l.right)
 }
 
 // So it is of output i; a literal beyond 2M+1 has no variable.
@@ -360,10 +296,7 @@ fn output_known(work: &[u16], h: Header, i: usize) -> bool
     ensures { λ r. ⌜ r ≡ outputKnown (now (work .entry)) (h .size) i ⌝ }
 {
     let l = base_words::output(work, h.size, h.outputs, i);
-    if l > 2 * h.size + 1 {
-        return false;
-    }
-    known(work, h.size, l)
+    l <= 2 * h.size + 1 && known(work, h.size, l)
 }
 
 fn outputs_known(work: &[u16], h: Header) -> bool
@@ -388,10 +321,7 @@ fn operands_known(work: &[u16], m: usize, v: usize) -> bool
     if base_words::kind(work, m, v) != base_words::AND {
         return true;
     }
-    if !known(work, m, base_words::left(work, m, v)) {
-        return false;
-    }
-    known(work, m, base_words::right(work, m, v))
+    known(work, m, base_words::left(work, m, v)) && known(work, m, base_words::right(work, m, v))
 }
 
 fn ands_known(work: &[u16], m: usize) -> bool
@@ -413,10 +343,7 @@ fn all_known(work: &[u16], h: Header) -> bool
     requires { ⌜ Fit h (now work) × Operands (now work) (h .size) ⌝ }
     ensures { λ r. ⌜ r ≡ wordsKnown (now (work .entry)) h ⌝ }
 {
-    if !outputs_known(work, h) {
-        return false;
-    }
-    ands_known(work, h.size)
+    outputs_known(work, h) && ands_known(work, h.size)
 }
 
 // Due line k again, now that all are read.
@@ -427,14 +354,10 @@ fn check_at(s: &[u8], at: usize, work: &[u16], h: Header, k: usize) -> Turn
     let kind = graph_loading::due_kind(h, k);
     match read_line(s, at, kind) {
         LineRead::Read(l) => {
-            if !graph_loading::fits(h.size, l) {
-                return Turn::Refused(14, at);
+            if graph_loading::fits(h.size, l) && uses_known(work, h.size, kind, l) {
+                return Turn::To(l.next);
             }
-            if uses_known(work, h.size, kind, l) {
-                Turn::To(l.next)
-            } else {
-                Turn::Refused(14, at)
-            }
+            Turn::Refused(14, at)
         }
         LineRead::Broken => Turn::Refused(14, at),
     }
@@ -450,12 +373,8 @@ fn check_lines(s: &[u8], work: &[u16], h: Header) -> Verdict
     let mut k = 0;
     while k < count {
         match check_at(s, at, work, h, k) {
-            Turn::To(next) => {
-                at = next;
-            }
-            Turn::Refused(n, line) => {
-                return Verdict::Refused(n, line);
-            }
+            Turn::To(next) => at = next,
+            Turn::Refused(n, line) => return Verdict::Refused(n, line),
         }
         k += 1;
     }
@@ -475,10 +394,9 @@ fn load_ascii(s: &[u8], h: Header, work: &mut [u16]) -> Verdict
     match read_lines(s, work, h) {
         Verdict::Accepted => {
             if all_known(work, h) {
-                Verdict::Accepted
-            } else {
-                check_lines(s, work, h)
+                return Verdict::Accepted;
             }
+            check_lines(s, work, h)
         }
         Verdict::Refused(n, place) => Verdict::Refused(n, place),
     }
@@ -492,8 +410,7 @@ pub fn load(s: &[u8], h: Header, work: &mut [u16]) -> Verdict
     ensures ruling { λ r. ⌜ verdictRuling r ≡ rulingOf (readGraph (now (s .entry)) h) ⌝ }
 {
     if h.binary {
-        graph_binary::load_binary(s, h, work)
-    } else {
-        load_ascii(s, h, work)
+        return graph_binary::load_binary(s, h, work);
     }
+    load_ascii(s, h, work)
 }

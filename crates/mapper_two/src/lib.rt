@@ -5,13 +5,13 @@ use model::HeaderAnswer;
 use model::Library;
 use model::Two;
 use model::Verdict;
-ghost use Rattle.base.specs.{_≡_, true, _≤_, length};
-ghost use Rattle.model.specs.{need, holds, readHeader, channelOf};
+ghost use Rattle.base.specs.{_≡_, true, length};
+ghost use Rattle.model.specs.{holds, readHeader, channelOf};
 ghost use Rattle.model.specs.declared.Answer.the-variants.{Refused};
 ghost use Rattle.promises.specs.{MappingTwo};
 ghost use Rattle.cells_matching.specs.{Blank};
 ghost use Rattle.mapper.specs.{LibraryRead, LibraryOk, allOf};
-ghost use Rattle.mapper_two.specs.{PairLeft, TwoLeft, sumFor, secondFor, firstFor};
+ghost use Rattle.mapper_two.specs.{PairLeft, TwoLeft, sumFor, firstFor};
 
 // "both return that number and place"
 fn both(number: usize, place: usize) -> Two
@@ -23,41 +23,8 @@ fn both(number: usize, place: usize) -> Two
     }
 }
 
-// Each channel as if alone: a pass asks nothing of what the words hold, so the second may find there what the first left. The sheet is made once for both,
-// and the words are cleared once.
-fn map_both_on(
-    g1: &[u8],
-    a1: &[u8],
-    h1: Header,
-    g2: &[u8],
-    a2: &[u8],
-    h2: Header,
-    lib: Library,
-    ks: &[u16],
-    ranged: bool,
-    sheet: &mut [u32],
-    work: &mut [u16],
-    t1: &mut [u8],
-    t2: &mut [u8],
-) -> Two
-    requires { ⌜ LibraryOk lib (now ks) × (readHeader (now g1) ≡ holds h1) × (readHeader (now g2) ≡ holds h2) ×
-        (need (h1 .size) (h1 .outputs) ≤ length (now work)) × (need (h2 .size) (h2 .outputs) ≤ length (now work)) × Blank (length (allOf lib (now ks)))
-        (now sheet) ⌝ }
-    ensures { λ r. ⌜ PairLeft ranged lib (now (ks .entry)) (channelOf (now (g1 .entry)) (now (a1 .entry)) (now (t1 .entry)))
-        (channelOf (now (g2 .entry)) (now (a2 .entry)) (now (t2 .entry))) (holds (record { first = h1; second = h2 })) (now (work .entry))
-        (now (t1 .entry)) (now (t2 .entry)) r (now (work .exit)) (now (t1 .exit)) (now (t2 .exit)) ⌝ }
-{
-    cover_choice::match_library(lib, ks, sheet);
-    let first = mapper::load_graph(g1, a1, h1, lib, ks, ranged, sheet, work, t1);
-    let second = mapper::load_graph(g2, a2, h2, lib, ks, ranged, sheet, work, t2);
-    base_words::clear_all(work);
-    Two {
-        first: first,
-        second: second,
-    }
-}
-
-// 10: "compares the lent words with the sum of both needs".
+// 10: "compares the lent words with the sum of both needs". Then each channel as if alone: a pass asks nothing of what the words hold, so the second may find
+// there what the first left. The sheet is made once for both, and the words are cleared once.
 fn map_pair(
     g1: &[u8],
     a1: &[u8],
@@ -79,51 +46,20 @@ fn map_pair(
         (channelOf (now (g2 .entry)) (now (a2 .entry)) (now (t2 .entry))) (sumFor (length (now (work .entry))) h1 h2) (now (work .entry))
         (now (t1 .entry)) (now (t2 .entry)) r (now (work .exit)) (now (t1 .exit)) (now (t2 .exit)) ⌝ }
 {
-    let first = base_words::need_words(h1.size, h1.outputs);
-    let second = base_words::need_words(h2.size, h2.outputs);
-    if work.len() < first + second {
+    let need1 = base_words::need_words(h1.size, h1.outputs);
+    let need2 = base_words::need_words(h2.size, h2.outputs);
+    if work.len() < need1 + need2 {
         return both(10, 0);
     }
-    map_both_on(g1, a1, h1, g2, a2, h2, lib, ks, ranged, sheet, work, t1, t2)
+    cover_choice::match_library(lib, ks, sheet);
+    let first = mapper::load_graph(g1, a1, h1, lib, ks, ranged, sheet, work, t1);
+    let second = mapper::load_graph(g2, a2, h2, lib, ks, ranged, sheet, work, t2);
+    base_words::clear_all(work);
+    Two { first, second }
 }
 
-// The second channel's refusals tried before 10, once the first has none: 1, 7 to 9 and 19.
-fn map_second(
-    g1: &[u8],
-    a1: &[u8],
-    h1: Header,
-    g2: &[u8],
-    a2: &[u8],
-    lib: Library,
-    ks: &[u16],
-    ranged: bool,
-    sheet: &mut [u32],
-    work: &mut [u16],
-    t1: &mut [u8],
-    t2: &mut [u8],
-) -> Two
-    requires { ⌜ LibraryOk lib (now ks) × (readHeader (now g1) ≡ holds h1) × Blank (length (allOf lib (now ks))) (now sheet) ⌝ }
-    ensures { λ r. ⌜ PairLeft ranged lib (now (ks .entry)) (channelOf (now (g1 .entry)) (now (a1 .entry)) (now (t1 .entry)))
-        (channelOf (now (g2 .entry)) (now (a2 .entry)) (now (t2 .entry)))
-        (secondFor (length (now (work .entry))) (channelOf (now (g2 .entry)) (now (a2 .entry)) (now (t2 .entry))) h1) (now (work .entry))
-        (now (t1 .entry)) (now (t2 .entry)) r (now (work .exit)) (now (t1 .exit)) (now (t2 .exit)) ⌝ }
-{
-    if g2.len() > 65536 {
-        return both(1, 0);
-    }
-    if a2.len() > 65536 {
-        return both(1, 0);
-    }
-    match graph_reader::header(g2) {
-        HeaderAnswer::Read(h2) => {
-            map_pair(g1, a1, h1, g2, a2, h2, lib, ks, ranged, sheet, work, t1, t2)
-        }
-        HeaderAnswer::Refused(number, place) => both(number, place),
-    }
-}
-
-// The first channel's header, 7 to 9 and 19.
-fn map_first(
+// The refusals tried before 10: the first channel's 7 to 9 and 19, and once it has none, the second's 1, 7 to 9 and 19.
+fn map_headers(
     g1: &[u8],
     a1: &[u8],
     g2: &[u8],
@@ -145,7 +81,15 @@ fn map_first(
 {
     match graph_reader::header(g1) {
         HeaderAnswer::Read(h1) => {
-            map_second(g1, a1, h1, g2, a2, lib, ks, ranged, sheet, work, t1, t2)
+            if g2.len() > 65536 || a2.len() > 65536 {
+                return both(1, 0);
+            }
+            match graph_reader::header(g2) {
+                HeaderAnswer::Read(h2) => {
+                    map_pair(g1, a1, h1, g2, a2, h2, lib, ks, ranged, sheet, work, t1, t2)
+                }
+                HeaderAnswer::Refused(number, place) => both(number, place),
+            }
         }
         HeaderAnswer::Refused(number, place) => both(number, place),
     }
@@ -168,25 +112,14 @@ fn map_pairs(
         (channelOf (now (g2 .entry)) (now (a2 .entry)) (now (t2 .entry))) (now (work .entry)) (now (t1 .entry)) (now (t2 .entry)) r
         (now (work .exit)) (now (t1 .exit)) (now (t2 .exit)) ⌝ }
 {
-    let mut ks = [0u16; 4096];
-    let n = cells_pairs::form(&mut ks, lib);
+    let mut pairs = [0u16; 4096];
+    let n = cells_pairs::form(&mut pairs, lib);
     if lib.n + n > 256 {
         return both(30, 0);
     }
+    let ks = &pairs[..n];
     let mut sheet = cells_matching::no_paired_sheet();
-    map_first(
-        g1,
-        a1,
-        g2,
-        a2,
-        lib,
-        &ks[..n],
-        ranged,
-        &mut sheet,
-        work,
-        t1,
-        t2,
-    )
+    map_headers(g1, a1, g2, a2, lib, ks, ranged, &mut sheet, work, t1, t2)
 }
 
 // The cells that both channels are mapped with: "Where a call wants them", pairs too. A call without pairs does not pay for their part of the sheet.
@@ -211,20 +144,9 @@ fn map_cells(
         return map_pairs(g1, a1, g2, a2, lib, ranged, work, t1, t2);
     }
     let none = [0u16; 1];
+    let ks = &none[..0];
     let mut sheet = cells_matching::no_sheet();
-    map_first(
-        g1,
-        a1,
-        g2,
-        a2,
-        lib,
-        &none[..0],
-        ranged,
-        &mut sheet,
-        work,
-        t1,
-        t2,
-    )
+    map_headers(g1, a1, g2, a2, lib, ks, ranged, &mut sheet, work, t1, t2)
 }
 
 // Two channels mapped: each netlist at the start of its text memory, or its refusal. `model.TwoDemands.TwoPromised` is the page of what is promised.
@@ -242,13 +164,7 @@ pub fn map_two(
     ensures { λ r. ⌜ MappingTwo paired (now (cells .entry)) (now (graph1 .entry)) (now (arrivals1 .entry)) (now (graph2 .entry)) (now (arrivals2 .entry))
         (now (work .entry)) (now (text1 .entry)) (now (text2 .entry)) r (now (work .exit)) (now (text1 .exit)) (now (text2 .exit)) ⌝ }
 {
-    if cells.len() > 65536 {
-        return both(1, 0);
-    }
-    if graph1.len() > 65536 {
-        return both(1, 0);
-    }
-    if arrivals1.len() > 65536 {
+    if cells.len() > 65536 || graph1.len() > 65536 || arrivals1.len() > 65536 {
         return both(1, 0);
     }
     let l = cells_reader::read(cells);

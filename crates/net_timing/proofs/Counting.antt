@@ -4,15 +4,11 @@ use Rattle.base.specs.{List·Memᴰ·head, List·Memᴰ·tail, length, length-a
 use Rattle.model.specs.{from, each, text, timingLines}
 use Rattle.base_words.specs.{outputAt, lowAt, phaseAt}
 use Rattle.net_writer.proofs.{each-next, each-none}
-use Rattle.net_timing.specs.{timesText, timesLength, lineText, lineLength, lineOf, linesFrom}
-
-pub times-length : (low high : ℕ) → length (timesText low high) ≡ timesLength low high
-unfolding timesText
-times-length low high = simp length-append (omega arith)
+use Rattle.net_timing.specs.{lineText, lineLength, lineOf, linesFrom}
 
 pub line-length : (k low high : ℕ) → length (lineText k low high) ≡ lineLength k low high
 unfolding lineText text
-line-length k low high = simp length-append (omega (arith, times-length low high))
+line-length k low high = simp length-append (omega arith)
 
 -- ---- line by line
 
@@ -30,7 +26,7 @@ module _ (w : List ℕ) (m n : ℕ) where
 -- where the words have the outputs and their two arrivals
 pub lines-are : (w : List ℕ) (m : ℕ) (low high : ℕ → ℕ) (i : ℕ) (ls : List ℕ) → ((j : ℕ) → j < length ls → outputAt w m (i + j) ≡ getD ls j 0)
     → ((l : ℕ) → List·Memᴰ l ls → (lowAt w m l ≡ low l) × (phaseAt w m l .arrival ≡ high l)) → linesFrom w m i (length ls) ≡ timingLines low high i ls
-unfolding linesFrom each from timingLines lineText timesText
+unfolding linesFrom each from timingLines lineText
 lines-are w m low high i [] o h = refl
 lines-are w m low high i (l ∷ ls) o h =
     let z : i + 0 ≡ i = omega arith in

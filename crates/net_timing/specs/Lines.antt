@@ -3,20 +3,12 @@ use Rattle.base.specs.{List, [], _∷_, _++_, ℕ, _+_, length}
 use Rattle.model.specs.{from, each, text, decimal, outName}
 use Rattle.base_words.specs.{outputAt, lowAt, phaseAt}
 
--- a low and a high arrival, each behind a space, and the end of the line
-unfoldable pub timesText : ℕ → ℕ → List ℕ
-unfolding decimal
-timesText low high = 32 ∷ decimal low ++ (32 ∷ decimal high ++ (10 ∷ []))
-
--- "as `# timing o0 30 35`"
+-- "as `# timing o0 30 35`: a low and a high arrival", each behind a space, and the end of the line
 unfoldable pub lineText : ℕ → ℕ → ℕ → List ℕ
-unfolding text outName timesText
-lineText k low high = text "# timing " ++ (outName k ++ timesText low high)
+unfolding text outName decimal
+lineText k low high = text "# timing " ++ (outName k ++ (32 ∷ decimal low ++ (32 ∷ decimal high ++ (10 ∷ []))))
 
--- the bytes of both, counted by their parts
-abbrev pub timesLength : ℕ → ℕ → ℕ
-timesLength low high = length (decimal low) + length (decimal high) + 3
-
+-- its bytes, counted by its parts
 abbrev pub lineLength : ℕ → ℕ → ℕ → ℕ
 lineLength k low high = length (outName k) + length (decimal low) + length (decimal high) + 12
 

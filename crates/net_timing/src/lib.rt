@@ -5,31 +5,28 @@ use model::Library;
 use model::Match;
 use model::Phase;
 use model::Source;
-ghost use Rattle.base.specs.{_≡_, _+_, _*_, _/_, _≤_, _<_, max, List, length, getD, drop};
+ghost use Rattle.base.specs.{_≡_, _+_, _*_, _/_, _≤_, _<_, List, length, drop};
 ghost use Rattle.model.specs.{cellsOf, fedNets};
 ghost use Rattle.model.specs.declared.Cell.{Cell};
-ghost use Rattle.base_words.specs.{placedOf, Room, outputAt, lowAt, phaseAt};
+ghost use Rattle.base_words.specs.{placedOf, Room, phaseAt};
 ghost use Rattle.base_truth.specs.{placesOf};
 ghost use Rattle.base_text.specs.{Wrote};
 ghost use Rattle.cells_pairs.specs.{cellsBy, Coded};
 ghost use Rattle.cells_matching.specs.{Matchable};
 ghost use Rattle.cover_choice.specs.{PinsOf, PinsIn, OutputsIn, SlotsIn, CutsIn, MatchIn, MatchesIn};
 ghost use Rattle.net_timing.specs.{after, latestLow, matchLow, ownLow, turnedLow, retimedTurn, retimedUp, InverterIn, Retimable};
-ghost use Rattle.net_timing.specs.{fourAt, LowsOf, timesText, timesLength, lineText, lineLength, linesFrom};
+ghost use Rattle.net_timing.specs.{fourAt, LowsOf, lineText, lineLength, linesFrom};
 
 // ---- the low arrivals
+
+// The lowest delays of each cell, four to a number.
+type Lows = [u32; 1024];
 
 // A time and a delay. None comes near the end of the numbers: a low arrival is at most the phase's own.
 fn later(t: u32, d: u32) -> u32
     ensures { λ r. ⌜ r ≡ after t d ⌝ }
 {
     if d <= 4294967295 - t { t + d } else { t }
-}
-
-fn larger(a: u32, b: u32) -> u32
-    ensures { λ r. ⌜ r ≡ max a b ⌝ }
-{
-    if a < b { b } else { a }
 }
 
 // "the largest of feeding arrival plus pin delay", over the nets that feed a cell under an order and a mask: from the last pin to the first. The
@@ -41,7 +38,7 @@ fn pins_low(
     order: usize,
     mask: usize,
     pins: usize,
-    lows: &[u32; 1024],
+    lows: &Lows,
     at: usize,
 ) -> u32
     requires { ⌜ Room (now work) m × PinsIn leaves m order pins × (at ≤ 1020) ⌝ }
@@ -52,27 +49,13 @@ fn pins_low(
     while j > 0 {
         j -= 1;
         let net = base_truth::pin_net(leaves, order, mask, j);
-        t = larger(later(base_words::low(work, m, net), lows[at + j]), t);
+        t = net_writer::larger(later(base_words::low(work, m, net), lows[at + j]), t);
     }
     t
 }
 
-// A word as an index.
-fn wide(x: u16) -> usize
-    ensures { λ r. ⌜ r ≡ x ⌝ }
-{
-    x as usize
-}
-
 // The low arrival of a match of v.
-fn match_low(
-    work: &[u16],
-    pins: &[u16; 256],
-    lows: &[u32; 1024],
-    m: usize,
-    v: usize,
-    x: Match,
-) -> u32
+fn match_low(work: &[u16], pins: &[u16; 256], lows: &Lows, m: usize, v: usize, x: Match) -> u32
     requires { ⌜ ((cells : List Cell) × Matchable cells × MatchIn cells (now work) m v x × PinsOf cells (now pins)) × CutsIn (now work) m × (v ≤ m) ⌝ }
     ensures { λ r. ⌜ ((cells : List Cell) → Matchable cells → MatchIn cells (now (work .entry)) m v x → PinsOf cells (now (pins .entry)) → LowsOf cells
         (now (lows .entry)) → r ≡ matchLow cells (now (work .entry)) m v x) ⌝ }
@@ -80,12 +63,12 @@ fn match_low(
     let cut = base_words::load_cut(work, m, v, x.cut);
     let leaves = cut.leaves;
     let k = x.cell;
-    let count = wide(pins[k]);
+    let count = pins[k] as usize;
     pins_low(work, m, leaves, x.order, x.mask, count, lows, 4 * k)
 }
 
 // The low arrival of a phase that no inverter drives: an input's is its own.
-fn own_low(work: &[u16], pins: &[u16; 256], lows: &[u32; 1024], m: usize, l: usize) -> u32
+fn own_low(work: &[u16], pins: &[u16; 256], lows: &Lows, m: usize, l: usize) -> u32
     requires { ⌜ ((cells : List Cell) × MatchesIn cells (now work) m × PinsOf cells (now pins)) × (l / 2 ≤ m) ⌝ }
     ensures { λ r. ⌜ ((cells : List Cell) → MatchesIn cells (now (work .entry)) m → PinsOf cells (now (pins .entry)) → LowsOf cells (now (lows .entry)) → r ≡
         ownLow cells (now (work .entry)) m l (phaseAt (now (work .entry)) m l .source)) ⌝ }
@@ -100,22 +83,14 @@ fn own_low(work: &[u16], pins: &[u16; 256], lows: &[u32; 1024], m: usize, l: usi
     }
 }
 
-// The lowest delay of an inverter.
-fn inverter_low(lows: &[u32; 1024], k: usize) -> u32
-    requires { ⌜ k < 256 ⌝ }
-    ensures { λ r. ⌜ r ≡ getD (now (lows .entry)) (4 * k) 0 ⌝ }
-{
-    lows[4 * k]
-}
-
 // The low arrival of a phase: an inverter's waits for the other phase's own.
-fn turned(lows: &[u32; 1024], p: Phase, own: u32, other: u32) -> u32
+fn turned(lows: &Lows, p: Phase, own: u32, other: u32) -> u32
     requires { ⌜ ((cells : List Cell) × InverterIn cells (p .source)) ⌝ }
     ensures { λ r. ⌜ ((cells : List Cell) → InverterIn cells (p .source) → LowsOf cells (now (lows .entry)) → r ≡ turnedLow cells own other (p .source)) ⌝ }
 {
     let s = p.source;
     match s {
-        Source::Inverter(k) => later(other, inverter_low(lows, k)),
+        Source::Inverter(k) => later(other, lows[4 * k]),
         Source::Input => own,
         Source::Cell(_) => own,
         Source::Nothing => own,
@@ -123,7 +98,7 @@ fn turned(lows: &[u32; 1024], p: Phase, own: u32, other: u32) -> u32
 }
 
 // Both phases of v.
-fn retime_variable(work: &mut [u16], pins: &[u16; 256], lows: &[u32; 1024], m: usize, v: usize)
+fn retime_variable(work: &mut [u16], pins: &[u16; 256], lows: &Lows, m: usize, v: usize)
     requires { ⌜ ((cells : List Cell) × Retimable cells (now work) m × PinsOf cells (now pins)) × (v ≤ m) ⌝ }
     ensures { λ _. ⌜ ((cells : List Cell) → Retimable cells (now (work .entry)) m → PinsOf cells (now (pins .entry)) → LowsOf cells (now (lows .entry)) → now
         (work .exit) ≡ retimedTurn cells (now (work .entry)) m v) ⌝ }
@@ -137,7 +112,7 @@ fn retime_variable(work: &mut [u16], pins: &[u16; 256], lows: &[u32; 1024], m: u
 }
 
 // In placing order.
-fn retime_variables(work: &mut [u16], pins: &[u16; 256], lows: &[u32; 1024], m: usize, n: usize)
+fn retime_variables(work: &mut [u16], pins: &[u16; 256], lows: &Lows, m: usize, n: usize)
     requires { ⌜ ((cells : List Cell) × Retimable cells (now work) m × PinsOf cells (now pins) × LowsOf cells (now lows)) × SlotsIn (now work) m n ⌝ }
     ensures { λ _. ⌜ ((cells : List Cell) → Retimable cells (now (work .entry)) m → PinsOf cells (now (pins .entry)) → LowsOf cells (now (lows .entry)) → now
         (work .exit) ≡ retimedUp cells (now (work .entry)) m n) ⌝ }
@@ -151,7 +126,7 @@ fn retime_variables(work: &mut [u16], pins: &[u16; 256], lows: &[u32; 1024], m: 
 }
 
 // The lowest delays of cell k, put into the table.
-fn put_lows(lows: &mut [u32; 1024], k: usize, four: [u32; 4])
+fn put_lows(lows: &mut Lows, k: usize, four: [u32; 4])
     requires { ⌜ k < 256 ⌝ }
     ensures { λ _. ⌜ now (lows .exit) ≡ fourAt (now (lows .entry)) k four ⌝ }
 {
@@ -163,7 +138,7 @@ fn put_lows(lows: &mut [u32; 1024], k: usize, four: [u32; 4])
 }
 
 // The lowest delays of each cell, four to a number: made once for each call, and lent to what runs for each phase.
-fn low_table(lib: Library, codes: &[u16]) -> [u32; 1024]
+fn low_table(lib: Library, codes: &[u16]) -> Lows
     requires { ⌜ Coded lib (now codes) ⌝ }
     ensures { λ r. ⌜ LowsOf (cellsBy (cellsOf lib) (now (codes .entry))) r ⌝ }
 {
@@ -189,26 +164,18 @@ pub fn retime(work: &mut [u16], lib: Library, codes: &[u16], h: Header)
 
 // ---- the timing lines
 
-// A low and a high arrival, and the end of the line.
-fn put_times(out: &mut [u8], at: usize, low: u32, high: u32) -> usize
-    requires { ⌜ at + timesLength low high ≤ length (now out) ⌝ }
-    ensures { λ r. ⌜ Wrote (now (out .entry)) (now (out .exit)) at r (timesText low high) ⌝ }
-{
-    let a = base_text::put_byte(out, at, b' ');
-    let b = base_text::put_number(out, a, low);
-    let c = base_text::put_byte(out, b, b' ');
-    let d = base_text::put_number(out, c, high);
-    base_text::put_byte(out, d, b'\n')
-}
-
-// "as `# timing o0 30 35`": the line of output k.
+// "as `# timing o0 30 35`: a low and a high arrival": the line of output k.
 fn put_line(out: &mut [u8], at: usize, k: u32, low: u32, high: u32) -> usize
     requires { ⌜ at + lineLength k low high ≤ length (now out) ⌝ }
     ensures { λ r. ⌜ Wrote (now (out .entry)) (now (out .exit)) at r (lineText k low high) ⌝ }
 {
     let a = base_text::put_bytes(out, at, b"# timing ");
     let b = net_writer::put_out(out, a, k);
-    put_times(out, b, low, high)
+    let c = base_text::put_byte(out, b, b' ');
+    let d = base_text::put_number(out, c, low);
+    let e = base_text::put_byte(out, d, b' ');
+    let f = base_text::put_number(out, e, high);
+    base_text::put_byte(out, f, b'\n')
 }
 
 // How long it is.
@@ -216,25 +183,6 @@ fn line_len(k: u32, low: u32, high: u32) -> usize
     ensures { λ r. ⌜ (r ≡ lineLength k low high) × (r ≤ 43) ⌝ }
 {
     net_writer::out_len(k) + base_text::number_len(low) + base_text::number_len(high) + 12
-}
-
-// The low arrival of output i.
-fn output_low(work: &[u16], m: usize, outputs: usize, i: usize) -> u32
-    requires { ⌜ OutputsIn (now work) m outputs × (i < outputs) ⌝ }
-    ensures { λ r. ⌜ r ≡ lowAt (now (work .entry)) m (outputAt (now (work .entry)) m i) ⌝ }
-{
-    let l = base_words::output(work, m, outputs, i);
-    base_words::low(work, m, l)
-}
-
-// Its arrival, which is the high one.
-fn output_high(work: &[u16], m: usize, outputs: usize, i: usize) -> u32
-    requires { ⌜ OutputsIn (now work) m outputs × (i < outputs) ⌝ }
-    ensures { λ r. ⌜ r ≡ phaseAt (now (work .entry)) m (outputAt (now (work .entry)) m i) .arrival ⌝ }
-{
-    let l = base_words::output(work, m, outputs, i);
-    let p = base_words::phase(work, m, l);
-    p.arrival
 }
 
 // "a line per output", written from a place on.
@@ -245,9 +193,10 @@ pub fn put_lines(work: &[u16], m: usize, outputs: usize, out: &mut [u8], at: usi
     let mut next = at;
     let mut i: usize = 0;
     while i < outputs {
-        let low = output_low(work, m, outputs, i);
-        let high = output_high(work, m, outputs, i);
-        next = put_line(out, next, i as u32, low, high);
+        let l = base_words::output(work, m, outputs, i);
+        let low = base_words::low(work, m, l);
+        let p = base_words::phase(work, m, l);
+        next = put_line(out, next, i as u32, low, p.arrival);
         i += 1;
     }
     next
@@ -261,9 +210,10 @@ pub fn lines_len(work: &[u16], m: usize, outputs: usize) -> usize
     let mut len: usize = 0;
     let mut i: usize = 0;
     while i < outputs {
-        let low = output_low(work, m, outputs, i);
-        let high = output_high(work, m, outputs, i);
-        len = len + line_len(i as u32, low, high);
+        let l = base_words::output(work, m, outputs, i);
+        let low = base_words::low(work, m, l);
+        let p = base_words::phase(work, m, l);
+        len = len + line_len(i as u32, low, p.arrival);
         i += 1;
     }
     len

@@ -1,12 +1,13 @@
 -- Lengths of names, pins and lines, and figures of gates.
 use Rattle.base.specs.{_≡_, refl, sym, ap, _∙_, Bool, true, false, cond, List, [], _∷_, _++_, map, append-assoc, append-nil, ℕ, suc, _+_}
 use Rattle.base.specs.{_-_, _*_, _/_, _%_, _≤_, _<_, max, add-zero, add-one, arith, eq-eqb, ne-eqb, length, take, drop, getD, length-append}
-use Rattle.base.specs.{drop-of-length-le, drop-cons, length-take-le, getD-take}
+use Rattle.base.specs.{drop-of-length-le, drop-cons, length-take-le, getD-take, ltb, ltb-true, ltb-false, lt-ltb, le-ltb}
 use Rattle.model.specs.{from, each, text, decimal, nameOf, varOf, ofPhase, ofPair, Gate, netName, label, outName, pinWords, gateLine}
 use Rattle.model.specs.{wireLine, sum, largest}
 use Rattle.model.specs.declared.Cell.{Cell}
 use Rattle.model.specs.declared.Header.{Header}
 use Rattle.model.specs.declared.Figures.{Figures}
+use Rattle.theory_graph.proofs.{by-bool}
 use Rattle.base_words.specs.{outputAt, phaseAt, isNeeded}
 use Rattle.base_text.proofs.{dec-below}
 use Rattle.net_gates.specs.declared.Instance.{Instance}
@@ -14,7 +15,7 @@ use Rattle.net_gates.specs.declared.Driver.{Driver}
 use Rattle.net_gates.specs.{netOf, gateOf, gatesOf}
 use Rattle.net_writer.specs.declared.Tally.{Tally}
 use Rattle.net_writer.specs.declared.Measured.{Measured}
-use Rattle.net_writer.specs.{netWords, pinWord, lineOf, lineLength, gateBy, gateAt, gatesFrom, tallied, noTally, inputNet}
+use Rattle.net_writer.specs.{netWords, pinWord, pinPart, lineOf, lineLength, gateBy, gateAt, gatesFrom, tallied, noTally, inputNet}
 use Rattle.net_writer.specs.{inputNamesFrom, outputNamesFrom, spaced, wireLength, wireLinesFrom, latestFrom, frameText, frameLength}
 use Rattle.net_writer.specs.{figuresText, figuresLength, allGates, figuresIn, textIn, textLength, measuredIn}
 
@@ -76,6 +77,25 @@ module _ (nets : List ℕ) (count : ℕ) (four : length nets ≡ 4) (few : count
   pub pins-none : (j : ℕ) → count ≤ j → netWords (65 + j) (drop j (take count nets)) ≡ []
   unfolding pinWords
   pins-none j h = ap (netWords (65 + j)) (drop-of-length-le (take count nets) {i = j} (omega (arith, long)))
+
+  -- pin by pin: `part-there` of one that is there, `part-absent` of another
+  pub part-there : (j : ℕ) → j < count → pinPart nets count j ≡ pinWord (65 + j) (getD nets j 0)
+  unfolding pinPart
+  part-there j h = ap (λ (b : Bool). cond b (pinWord (65 + j) (getD nets j 0)) []) (lt-ltb j count h)
+
+  pub part-absent : (j : ℕ) → count ≤ j → pinPart nets count j ≡ []
+  unfolding pinPart
+  part-absent j h = ap (λ (b : Bool). cond b (pinWord (65 + j) (getD nets j 0)) []) (le-ltb j count h)
+
+  part-next : (j : ℕ) → netWords (65 + j) (drop j (take count nets)) ≡ pinPart nets count j ++ netWords (65 + (j + 1)) (drop (j + 1) (take count nets))
+  part-next j = by-bool (ltb j count)
+      (λ e. let h = ltb-true j count e in rw (part-there j h) (pins-next j h))
+      (λ e. let h = ltb-false j count e in rw (part-absent j h) (pins-none j h ∙ sym (pins-none (j + 1) (omega (arith, h)))))
+
+  pub pin-parts : netWords 65 (take count nets) ≡ pinPart nets count 0 ++ (pinPart nets count 1 ++ (pinPart nets count 2 ++ pinPart nets count 3))
+  pin-parts = part-next 0 ∙ ap (λ (s : List ℕ). pinPart nets count 0 ++ s) (part-next 1 ∙ ap (λ (s : List ℕ). pinPart nets count 1 ++ s)
+      (part-next 2 ∙ ap (λ (s : List ℕ). pinPart nets count 2 ++ s) (part-next 3 ∙ ap (λ (s : List ℕ). pinPart nets count 3 ++ s) (pins-none 4 few)
+      ∙ append-nil (pinPart nets count 3))))
 
 -- ---- gate lines
 

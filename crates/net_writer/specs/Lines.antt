@@ -1,5 +1,5 @@
 -- The gates, the nets of the names lines, the figures and the text, as the lent words have them.
-use Rattle.base.specs.{Bool, false, cond, List, [], _∷_, _++_, map, ℕ, zero, suc, _+_, _*_, _/_, _≤_, _<_, length, take, getD}
+use Rattle.base.specs.{Bool, false, cond, List, [], _∷_, _++_, map, ℕ, zero, suc, _+_, _*_, _/_, _≤_, _<_, ltb, length, take, getD}
 use Rattle.model.specs.{from, each, cutLimit, orders, text, decimal, varOf, literal, opposite, fedNets, Gate, oneGate, netName, label}
 use Rattle.model.specs.{outName, pinWords, gateLine, wireLine, sum, largest}
 use Rattle.model.specs.declared.Cell.{Cell}
@@ -40,6 +40,10 @@ netWords b nets = pinWords b (map netOf nets)
 -- the word of one pin, of letter b
 abbrev pub pinWord : ℕ → ℕ → List ℕ
 pinWord b net = 32 ∷ b ∷ 61 ∷ label (netOf net)
+
+-- that of pin j among an array's first, none for an absent pin
+unfoldable pub pinPart : List ℕ → ℕ → ℕ → List ℕ
+pinPart nets count j = cond (ltb j count) (pinWord (65 + j) (getD nets j 0)) []
 
 -- the line of a gate with nets of given numbers
 abbrev pub lineOf : Cell → List ℕ → ℕ → List ℕ

@@ -1,7 +1,7 @@
 -- Where a text ends:
 --     end-here, end-on, end-past      at a byte 0, not at another byte, and at the end of the input
---     end-within                      no earlier than it begins, and within the input
-use Rattle.base.specs.{_≡_, refl, sym, ap, _∙_, Bool, true, false, cond, List, [], _∷_, ℕ, suc, _+_, _≤_, _<_, add-zero, add-suc, suc-add}
+--     end-within                      no earlier than it begins, and within the input where it begins there
+use Rattle.base.specs.{_≡_, refl, sym, ap, _∙_, Bool, true, false, cond, List, [], _∷_, ℕ, suc, _+_, _-_, _≤_, _<_, add-zero, add-suc, suc-add}
 use Rattle.base.specs.{arith, eqb, length, drop, getD, length-drop, drop-of-length-le, drop-cons, eq-eqb, ne-eqb}
 use Rattle.program_files.specs.{before, endFrom}
 
@@ -42,6 +42,6 @@ few (b ∷ bs) = go (eqb b 0) (few bs)
     go true h = omega arith
     go false h = omega arith
 
-pub end-within : (s : List ℕ) (from : ℕ) → from ≤ length s → (from ≤ endFrom s from) × (endFrom s from ≤ length s)
+pub end-within : (s : List ℕ) (from : ℕ) → (from ≤ endFrom s from) × (endFrom s from ≤ length s + (from - length s))
 unfolding endFrom
-end-within s from h = (omega arith, omega (arith, few (drop from s), length-drop from s))
+end-within s from = (omega arith, omega (arith, few (drop from s), length-drop from s))

@@ -2,15 +2,14 @@
 use libc::ENOENT;
 use libc::STDERR_FILENO;
 use libc::STDOUT_FILENO;
-ghost use Rattle.base.specs.{_≡_, _≤_, length};
+ghost use Rattle.base.specs.{_≡_, _+_, _-_, _≤_, length};
 ghost use Rattle.program_files.specs.{endFrom, Found-in, Loaded-in};
 
 // Texts that stand one after the other in one input, each ended by byte 0: how the programs that run on stored cases take theirs apart.
 
-// Where the text that begins at `from` ends: at the next byte 0, or with the input.
+// Where the text that begins at `from` ends: at the next byte 0, or with the input. None begins behind the input's end, and `from` is given back.
 pub fn end(s: &[u8], from: usize) -> usize
-    requires { ⌜ from ≤ length (now s) ⌝ }
-    ensures { λ r. ⌜ (r ≡ endFrom (now (s .entry)) from) × (from ≤ r) × (r ≤ length (now (s .entry))) ⌝ }
+    ensures { λ r. ⌜ (r ≡ endFrom (now (s .entry)) from) × (from ≤ r) × (r ≤ length (now (s .entry)) + (from - length (now (s .entry)))) ⌝ }
 {
     let mut at = from;
     while at < s.len() {
@@ -114,14 +113,14 @@ pub fn put(bytes: &[u8]) -> bool {
     io::write_all(STDOUT_FILENO, bytes)
 }
 
+// A space and a number.
+pub fn number(n: usize) -> bool {
+    put(b" ") && io::print_decimal(STDOUT_FILENO, n as u64)
+}
+
 // A word, two numbers and the line's end.
 pub fn line(word: &[u8], a: usize, b: usize) -> bool {
-    put(word)
-        && put(b" ")
-        && io::print_decimal(STDOUT_FILENO, a as u64)
-        && put(b" ")
-        && io::print_decimal(STDOUT_FILENO, b as u64)
-        && put(b"\n")
+    put(word) && number(a) && number(b) && put(b"\n")
 }
 
 // "one line of `refused`, number and place, as `refused 17 0`".

@@ -6,11 +6,10 @@ use libc::STDIN_FILENO;
 use libc::STDOUT_FILENO;
 use model::Written;
 
-fn show_answer(number: u64, value: u64) {
-    io::print_decimal(STDOUT_FILENO, number);
-    io::write_all(STDOUT_FILENO, b" ");
-    io::print_decimal(STDOUT_FILENO, value);
-    io::write_all(STDOUT_FILENO, b"\n");
+fn show(number: usize, value: usize) {
+    io::print_decimal(STDOUT_FILENO, number as u64);
+    program_files::number(value);
+    program_files::put(b"\n");
 }
 
 fn fill(text: &mut [u8]) {
@@ -24,23 +23,19 @@ fn fill(text: &mut [u8]) {
 fn convert_lent(genlib: &[u8], text: &mut [u8]) {
     fill(text);
     match genlib_call::convert(genlib, text) {
-        Written::Length(n) => show_answer(0, n as u64),
-        Written::Refused(number, place) => show_answer(number as u64, place as u64),
+        Written::Length(n) => show(0, n),
+        Written::Refused(number, place) => show(number, place),
     }
-    io::write_all(STDOUT_FILENO, text);
-    io::write_all(STDOUT_FILENO, b"\n");
-}
-
-fn convert_case(lent: usize, genlib: &[u8], text: &mut [u8]) {
-    if lent <= text.len() {
-        convert_lent(genlib, &mut text[..lent]);
-    }
+    program_files::put(text);
+    program_files::put(b"\n");
 }
 
 fn convert_with(lent: &[u8], genlib: &[u8], text: &mut [u8]) {
-    match base_text::number_of(lent) {
-        Value::Is(n) => convert_case(n as usize, genlib, text),
-        Value::Broken => {}
+    if let Value::Is(n) = base_text::number_of(lent) {
+        let k = n as usize;
+        if k <= text.len() {
+            convert_lent(genlib, &mut text[..k]);
+        }
     }
 }
 

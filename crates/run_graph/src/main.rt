@@ -1,37 +1,25 @@
 // Each text of the standard input, ended by byte 0, is read as a graph and its ANDs are placed, with the same 80,000 words lent to every one, and one line
-// says what was found:
-// `refused`, number and place; or `placed`, the placing order, and the outputs' literals behind `outputs`. cases.py writes the texts, and the lines by a
-// reader of its own.
-ghost use Rattle.base.specs.{_≡_, _+_, _≤_, length};
-ghost use Rattle.model.specs.{need, holds, readHeader};
-ghost use Rattle.graph_placing.specs.{Fit, Operands};
+// says what was found: `refused`, number and place; or `placed`, the placing order, and the outputs' literals behind `outputs`. cases.py writes the texts,
+// and the lines by a reader of its own.
 use libc::STDIN_FILENO;
-use libc::STDOUT_FILENO;
 use model::Header;
 use model::HeaderAnswer;
 use model::Verdict;
+ghost use Rattle.graph_placing.specs.{Fit};
 
-fn number(n: u64) {
-    io::write_all(STDOUT_FILENO, b" ");
-    io::print_decimal(STDOUT_FILENO, n);
-}
-
-fn refused(n: usize, place: usize) {
-    io::write_all(STDOUT_FILENO, b"refused");
-    number(n as u64);
-    number(place as u64);
-    io::write_all(STDOUT_FILENO, b"\n");
+fn refused(number: usize, place: usize) {
+    program_files::refused(number, place);
 }
 
 // Variable 0, the inputs and the ANDs, in the order of their slots.
 fn show_order(work: &[u16], h: Header)
     requires { ⌜ Fit h (now work) ⌝ }
 {
-    io::write_all(STDOUT_FILENO, b"placed");
+    program_files::put(b"placed");
     let count = h.inputs + h.ands;
     let mut i = 0;
     while i <= count {
-        number(base_words::slot(work, h.size, i) as u64);
+        program_files::number(base_words::slot(work, h.size, i));
         i += 1;
     }
 }
@@ -39,34 +27,13 @@ fn show_order(work: &[u16], h: Header)
 fn show_outputs(work: &[u16], h: Header)
     requires { ⌜ Fit h (now work) ⌝ }
 {
-    io::write_all(STDOUT_FILENO, b" outputs");
+    program_files::put(b" outputs");
     let mut i = 0;
     while i < h.outputs {
-        number(base_words::output(work, h.size, h.outputs, i) as u64);
+        program_files::number(base_words::output(work, h.size, h.outputs, i));
         i += 1;
     }
-    io::write_all(STDOUT_FILENO, b"\n");
-}
-
-fn show_placed(work: &mut [u16], h: Header)
-    requires { ⌜ Fit h (now work) × Operands (now work) (h .size) ⌝ }
-{
-    match graph_placing::place(work, h) {
-        Verdict::Accepted => {
-            show_order(work, h);
-            show_outputs(work, h);
-        }
-        Verdict::Refused(n, place) => refused(n, place),
-    }
-}
-
-fn show_loaded(text: &[u8], h: Header, work: &mut [u16])
-    requires { ⌜ (readHeader (now text) ≡ holds h) × (need (h .size) (h .outputs) ≤ length (now work)) ⌝ }
-{
-    match graph_reader::load(text, h, work) {
-        Verdict::Accepted => show_placed(work, h),
-        Verdict::Refused(n, place) => refused(n, place),
-    }
+    program_files::put(b"\n");
 }
 
 fn show(text: &[u8], work: &mut [u16]) {
@@ -74,11 +41,20 @@ fn show(text: &[u8], work: &mut [u16]) {
         HeaderAnswer::Read(h) => {
             if base_words::need_words(h.size, h.outputs) > work.len() {
                 refused(10, 0);
-            } else {
-                show_loaded(text, h, work);
+                return;
+            }
+            match graph_reader::load(text, h, work) {
+                Verdict::Accepted => match graph_placing::place(work, h) {
+                    Verdict::Accepted => {
+                        show_order(work, h);
+                        show_outputs(work, h);
+                    }
+                    Verdict::Refused(number, place) => refused(number, place),
+                },
+                Verdict::Refused(number, place) => refused(number, place),
             }
         }
-        HeaderAnswer::Refused(n, place) => refused(n, place),
+        HeaderAnswer::Refused(number, place) => refused(number, place),
     }
 }
 

@@ -2,40 +2,34 @@
 // `read`, under the longer names line `ranged`, then the number of cells and their values in the order of that line. cases.py writes the texts, and
 // the lines by a reader of its own.
 use libc::STDIN_FILENO;
-use libc::STDOUT_FILENO;
 use model::Cell;
 use model::Library;
 use model::Verdict;
 
-fn number(n: u64) {
-    io::write_all(STDOUT_FILENO, b" ");
-    io::print_decimal(STDOUT_FILENO, n);
-}
-
-fn wide(x: u16) -> u64 {
-    x as u64
+fn number(n: u16) {
+    program_files::number(n as usize);
 }
 
 fn show_name(name: [u8; 8], len: usize) {
-    io::write_all(STDOUT_FILENO, b" ");
+    program_files::put(b" ");
     if len <= 8 {
-        io::write_all(STDOUT_FILENO, &name[..len]);
+        program_files::put(&name[..len]);
     }
 }
 
 fn show_delays(d: [u16; 4]) {
-    number(wide(d[0]));
-    number(wide(d[1]));
-    number(wide(d[2]));
-    number(wide(d[3]));
+    number(d[0]);
+    number(d[1]);
+    number(d[2]);
+    number(d[3]);
 }
 
 fn show_cell(c: Cell) {
     let name = c.name;
     show_name(name, c.len);
-    number(wide(c.pins));
-    number(wide(c.table));
-    number(wide(c.area));
+    number(c.pins);
+    number(c.table);
+    number(c.area);
     let delays = c.delays;
     show_delays(delays);
     let lows = c.lows;
@@ -44,7 +38,7 @@ fn show_cell(c: Cell) {
 
 fn show_cells(l: Library) {
     let n = cells_reader::count(l);
-    number(n as u64);
+    program_files::number(n);
     let mut i = 0;
     while i < 32 {
         if i < n {
@@ -54,30 +48,24 @@ fn show_cells(l: Library) {
     }
 }
 
-fn show_kind(ranged: bool) {
-    if ranged {
-        io::write_all(STDOUT_FILENO, b"ranged");
-    } else {
-        io::write_all(STDOUT_FILENO, b"read");
-    }
-}
-
 fn show(text: &[u8]) {
     let a = cells_reader::read(text);
     let v = a.verdict;
     match v {
         Verdict::Accepted => {
-            show_kind(cells_reader::is_ranged(text));
+            if cells_reader::is_ranged(text) {
+                program_files::put(b"ranged");
+            } else {
+                program_files::put(b"read");
+            }
             let l = a.library;
             show_cells(l);
+            program_files::put(b"\n");
         }
-        Verdict::Refused(k, p) => {
-            io::write_all(STDOUT_FILENO, b"refused");
-            number(k as u64);
-            number(p as u64);
+        Verdict::Refused(number, place) => {
+            program_files::refused(number, place);
         }
     }
-    io::write_all(STDOUT_FILENO, b"\n");
 }
 
 fn each(s: &[u8]) {

@@ -21,16 +21,16 @@ pub struct Next {
     pub tally: Tally,
 }
 
+fn led_to(turn: Turn, tally: Tally) -> Next {
+    Next { turn, tally }
+}
+
 // A netlist, or its refusal in its place.
 fn count_one(cells: &[u8], netlist: &[u8], t: Tally) -> Tally {
     let r = tally_counting::count(t, cells, netlist);
     let verdict = r.verdict;
-    match verdict {
-        Verdict::Accepted => {}
-        Verdict::Refused(number, place) => program_files::said(
-            program_files::refused(number, place),
-            b"tally",
-        ),
+    if let Verdict::Refused(number, place) = verdict {
+        program_files::said(program_files::refused(number, place), b"tally");
     }
     r.tally
 }
@@ -39,21 +39,9 @@ fn count_file(path: &[u8], cells: &[u8], buf: &mut [u8], t: Tally) -> Next
     requires { ⌜ length (now buf) ≡ 65537 ⌝ }
 {
     match program_files::find(b"tally", path, buf) {
-        Found::Bytes(n) => {
-            let tally = count_one(cells, &buf[..n], t);
-            Next {
-                turn: Turn::Counted,
-                tally,
-            }
-        }
-        Found::Absent => Next {
-            turn: Turn::End,
-            tally: t,
-        },
-        Found::Unreadable => Next {
-            turn: Turn::Unreadable,
-            tally: t,
-        },
+        Found::Bytes(n) => led_to(Turn::Counted, count_one(cells, &buf[..n], t)),
+        Found::Absent => led_to(Turn::End, t),
+        Found::Unreadable => led_to(Turn::Unreadable, t),
     }
 }
 
@@ -87,10 +75,7 @@ fn count_all(cells: &[u8], buf: &mut [u8]) -> Next
         t = next.tally;
         k += 1;
     }
-    Next {
-        turn: Turn::End,
-        tally: t,
-    }
+    led_to(Turn::End, t)
 }
 
 // It lends 65,536 bytes.

@@ -3,7 +3,7 @@
 --     tally-step, tally-low   the same of the three figures
 --     add-all, add-same       all places, as the crate model adds them
 use Rattle.base.specs.{ℕ, zero, suc, _+_, _*_, _^_, _≤_, _<_, mul-le-mul, le-of-lt, add-one, arith, _≡_, refl, sym, ap, ap₂, _∙_, Bool}
-use Rattle.base.specs.{true, false, List, [], _∷_, leb, ltb, length, getD, set, lt-ltb, le-ltb, le-leb, lt-leb, leb-true}
+use Rattle.base.specs.{true, false, List, [], _∷_, leb, ltb, length, getD, set, lt-ltb, le-ltb, leb-true}
 use Rattle.model.specs.{one, all, noCell, inWidth, addEach}
 use Rattle.model.specs.declared.Library.{Library}
 use Rattle.model.specs.declared.Tally.{Tally}
@@ -115,13 +115,9 @@ module _ (t : Tally) where
       width-occurs e = sym (rw (g, a, e))
 
       module _ (o : small (t .occurs) ≡ true) where
-        pub width-over : 2 ^ 40 < t .netlists → false ≡ inWidth t
+        pub width-last : leb (t .netlists) (2 ^ 40) ≡ inWidth t
         unfolding inWidth
-        width-over h = sym (rw (g, a, o) (lt-leb (t .netlists) (2 ^ 40) h))
-
-        pub width-yes : t .netlists ≤ 2 ^ 40 → true ≡ inWidth t
-        unfolding inWidth
-        width-yes h = sym (rw (g, a, o) (le-leb (t .netlists) (2 ^ 40) h))
+        width-last = sym (rw (g, a, o))
 
         pub width-wide : length (t .gates) ≡ 32 → length (t .areas) ≡ 32 → length (t .occurs) ≡ 32 → Wide t
         width-wide p q r =

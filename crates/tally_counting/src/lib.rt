@@ -64,32 +64,23 @@ fn has_form(w: &[u8], form: Form) -> bool
     }
 }
 
-// One line that is due at a place.
-fn due(s: &[u8], at: usize, form: Form) -> Reached
-    requires { ⌜ (at ≤ length (now s)) × (length (now s) ≤ 65536) ⌝ }
-    ensures { λ r. ⌜ (readIn (now (s .entry)) r ≡ dueLines (length (now (s .entry))) (formTest form ∷ []) (linesOf (now (s .entry)) at)) ×
-        (r .at ≤ length (now (s .entry))) ⌝ }
-{
-    let l = base_text::line(s, at);
-    let stop = l.stop;
-    let next = l.next;
-    if next != stop + 1 {
-        return Reached { ok: false, at };
-    }
-    if has_form(&s[at..stop], form) {
-        Reached { ok: true, at: next }
-    } else {
-        Reached { ok: false, at }
-    }
-}
-
-// The same behind lines that were read.
-fn then_due(s: &[u8], r: Reached, form: Form) -> Reached
+// One line that is due behind lines that were read.
+fn due(s: &[u8], r: Reached, form: Form) -> Reached
     requires { ⌜ (r .at ≤ length (now s)) × (length (now s) ≤ 65536) ⌝ }
     ensures { λ q. ⌜ (readIn (now (s .entry)) q ≡ next (readIn (now (s .entry)) r) (dueLines (length (now (s .entry))) (formTest form ∷ []))) ×
         (q .at ≤ length (now (s .entry))) ⌝ }
 {
-    if r.ok { due(s, r.at, form) } else { r }
+    if !r.ok {
+        return r;
+    }
+    let at = r.at;
+    let l = base_text::line(s, at);
+    let stop = l.stop;
+    let next = l.next;
+    if next != stop + 1 || !has_form(&s[at..stop], form) {
+        return Reached { ok: false, at };
+    }
+    Reached { ok: true, at: next }
 }
 
 // The first three lines.
@@ -97,9 +88,9 @@ fn read_frame(s: &[u8]) -> Reached
     requires { ⌜ length (now s) ≤ 65536 ⌝ }
     ensures { λ r. ⌜ (readIn (now (s .entry)) r ≡ dueLines (length (now (s .entry))) frame (linesOf (now (s .entry)) 0)) × (r .at ≤ length (now (s .entry))) ⌝ }
 {
-    let a = due(s, 0, Form::Model);
-    let b = then_due(s, a, Form::Inputs);
-    then_due(s, b, Form::Outputs)
+    let a = due(s, Reached { ok: true, at: 0 }, Form::Model);
+    let b = due(s, a, Form::Inputs);
+    due(s, b, Form::Outputs)
 }
 
 // How many names the third line has.
@@ -126,8 +117,8 @@ fn read_wires(s: &[u8], from: Reached, outs: usize) -> Reached
     let mut r = from;
     let mut k = 0;
     while k < outs {
-        r = then_due(s, r, Form::Wire);
-        r = then_due(s, r, Form::One);
+        r = due(s, r, Form::Wire);
+        r = due(s, r, Form::One);
         k += 1;
     }
     r
@@ -143,24 +134,10 @@ fn read_timings(s: &[u8], from: Reached, ranged: bool, outs: usize) -> Reached
     let mut r = from;
     let mut k = 0;
     while k < n {
-        r = then_due(s, r, Form::Timing);
+        r = due(s, r, Form::Timing);
         k += 1;
     }
     r
-}
-
-// No line is left.
-fn at_end(s: &[u8], r: Reached) -> Reached
-    requires { ⌜ r .at ≤ length (now s) ⌝ }
-    ensures { λ q. ⌜ (readIn (now (s .entry)) q ≡ next (readIn (now (s .entry)) r) nothingLeft) × (q .at ≤ length (now (s .entry))) ⌝ }
-{
-    if s.len() <= r.at {
-        return r;
-    }
-    Reached {
-        ok: false,
-        at: r.at,
-    }
 }
 
 // What is due behind the gates, up to the text's end.
@@ -170,10 +147,14 @@ fn read_behind(s: &[u8], at: usize, ranged: bool, outs: usize, gates: u32, area:
         (linesOf (now (s .entry)) at)) nothingLeft) × (r .at ≤ length (now (s .entry))) ⌝ }
 {
     let a = read_wires(s, Reached { ok: true, at }, outs);
-    let b = then_due(s, a, Form::End);
-    let c = then_due(s, b, Form::Figures(gates, area));
+    let b = due(s, a, Form::End);
+    let c = due(s, b, Form::Figures(gates, area));
     let d = read_timings(s, c, ranged, outs);
-    at_end(s, d)
+    let at = d.at;
+    if s.len() <= at {
+        return d;
+    }
+    Reached { ok: false, at }
 }
 
 // ---- gates
@@ -336,22 +317,9 @@ pub fn in_width(t: Tally) -> bool
     ensures { λ r. ⌜ (r ≡ inWidth t) × (r ≡ true → Wide t) ⌝ }
 {
     let gates = t.gates;
-    if !all_small(gates) {
-        return false;
-    }
     let areas = t.areas;
-    if !all_small(areas) {
-        return false;
-    }
     let occurs = t.occurs;
-    if !all_small(occurs) {
-        return false;
-    }
-    if t.netlists <= 1099511627776 {
-        true
-    } else {
-        false
-    }
+    all_small(gates) && (all_small(areas) && (all_small(occurs) && t.netlists <= 1099511627776))
 }
 
 // "A refused netlist adds nothing."
@@ -383,10 +351,7 @@ fn count_in(t: Tally, lib: Library, ranged: bool, s: &[u8]) -> Counted
     requires { ⌜ (length (now s) ≤ 65536) × Listed lib × Blank lib ⌝ }
     ensures { λ r. ⌜ r ≡ countedAnswer t (countRead t ranged (cellsOf lib) (now (s .entry))) ⌝ }
 {
-    if t.netlists >= 64 {
-        return refused(t, 28, 64);
-    }
-    if !in_width(t) {
+    if t.netlists >= 64 || !in_width(t) {
         return refused(t, 28, 64);
     }
     let n = read_netlist(s, lib, ranged);
@@ -404,20 +369,14 @@ pub fn count(t: Tally, cells: &[u8], netlist: &[u8]) -> Counted
     ensures answer { λ r. ⌜ r ≡ countedAnswer t (countText t (now (cells .entry)) (now (netlist .entry))) ⌝ }
     ensures ruling { λ r. ⌜ verdictRuling (r .verdict) ≡ rulingOf (countText t (now (cells .entry)) (now (netlist .entry))) ⌝ }
 {
-    if cells.len() > 65536 {
-        return refused(t, 1, 0);
-    }
-    if netlist.len() > 65536 {
+    if cells.len() > 65536 || netlist.len() > 65536 {
         return refused(t, 1, 0);
     }
     let a = cells_reader::read(cells);
     let verdict = a.verdict;
     let lib = a.library;
     match verdict {
-        Verdict::Accepted => {
-            let ranged = cells_reader::is_ranged(cells);
-            count_in(t, lib, ranged, netlist)
-        },
+        Verdict::Accepted => count_in(t, lib, cells_reader::is_ranged(cells), netlist),
         Verdict::Refused(number, place) => refused(t, number, place),
     }
 }

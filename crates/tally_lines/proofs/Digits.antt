@@ -1,23 +1,11 @@
 -- Fields by their bytes: digits, a letter and digits, a pin and its net, and a number's own digits.
-use Rattle.base.specs.{ℕ, _+_, _-_, _≤_, _<_, arith, _≡_, refl, sym, _∙_, true, false, List, [], _∷_, eqb, leb, length, take, drop, getD}
-use Rattle.base.specs.{replicate, length-drop, take-append-seam, take-all, eq-eqb, ne-eqb, le-leb, lt-leb, lt-ltb, le-ltb}
-use Rattle.model.specs.{all, decimal, between, areDigits, isLabel, isPhaseNet, isInnerNet, isGateNet, isBound}
+use Rattle.base.specs.{ℕ, _+_, _-_, _≤_, _<_, arith, _≡_, refl, sym, ap, _∙_, zero-add, true, false, List, [], _∷_, eqb, length, take, drop, getD}
+use Rattle.base.specs.{replicate, length-drop, take-append-seam, take-all, eq-eqb, ne-eqb, lt-ltb, le-ltb}
+use Rattle.model.specs.{decimal, isDigit, span, areDigits, isLabel, isPhaseNet, isInnerNet, isGateNet, isBound}
 use Rattle.base_words.specs.{putAt}
+use Rattle.base_text.specs.{spanEnd}
+use Rattle.base_text.proofs.{class-all}
 use Rattle.base_text.proofs.{and-false, dec-below, put-front}
-
--- ---- one byte
-
-pub digit-low : (b : ℕ) → b < 48 → between 48 57 b ≡ false
-unfolding between
-digit-low b h = rw (lt-leb 48 b h)
-
-pub digit-high : (b : ℕ) → 57 < b → between 48 57 b ≡ false
-unfolding between
-digit-high b h = rw (lt-leb b 57 h) (and-false (leb 48 b))
-
-pub digit-is : (b : ℕ) → 48 ≤ b → b ≤ 57 → between 48 57 b ≡ true
-unfolding between
-digit-is b h k = rw (le-leb 48 b h, le-leb b 57 k)
 
 -- ---- fields
 
@@ -29,9 +17,9 @@ pub digits-none : (w : List ℕ) → length w ≡ 0 → false ≡ areDigits w
 unfolding areDigits
 digits-none w e = sym (rw (le-ltb 0 (length w) (omega arith)))
 
-pub digits-some : (w : List ℕ) → (length w ≡ 0 → ⊥) → all (between 48 57) (drop 0 w) ≡ areDigits w
-unfolding areDigits
-digits-some w n = sym (rw (lt-ltb 0 (length w) (omega arith)))
+pub digits-some : (w : List ℕ) → 0 < length w → eqb (spanEnd isDigit w 0) (length w) ≡ areDigits w
+unfolding areDigits spanEnd isDigit
+digits-some w h = ap (λ (n : ℕ). eqb n (length w)) (zero-add (length (span isDigit w))) ∙ sym (class-all isDigit w) ∙ sym (rw (lt-ltb 0 (length w) h))
 
 none-behind : (w : List ℕ) → length w ≡ 0 → areDigits (drop 1 w) ≡ false
 none-behind [] e = sym (digits-none [] refl)

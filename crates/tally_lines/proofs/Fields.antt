@@ -1,11 +1,12 @@
 -- The fields of a line, byte by byte and field by field:
---     end-space, end-step, end-out         where a field ends, by the byte at a place
---     count-space, count-step, count-out   how many fields there are, likewise
+--     end-span                             where a field ends
+--     count-space, count-step, count-out   how many fields there are, by the byte at a place
 --     field-part, field-fits, field-next   the bytes up to its end are the field, and behind it stand the others
-use Rattle.base.specs.{ℕ, suc, _+_, _-_, _≤_, _<_, add-one, arith, _≡_, refl, sym, ap, _∙_, Bool, true, false, List, [], _∷_, _++_, eqb}
+use Rattle.base.specs.{ℕ, suc, _+_, _-_, _≤_, _<_, add-one, arith, _≡_, refl, sym, ap, _∙_, Bool, true, false, not, cond, List, [], _∷_, _++_, eqb}
 use Rattle.base.specs.{length, take, drop, getD, drop-of-length-le, length-append, length-drop, drop-cons, drop-drop, take-all}
 use Rattle.base.specs.{take-append-seam, drop-append-add, eq-eqb, ne-eqb, eqb-true, le-leb, lt-leb}
-use Rattle.model.specs.{fields, split, onto}
+use Rattle.model.specs.{fields, split, onto, span}
+use Rattle.base_text.specs.{noSpace, spanEnd}
 use Rattle.tally_lines.specs.{fieldsAt, fieldAt, fieldEnd}
 
 -- ---- by bytes
@@ -20,6 +21,20 @@ onto-count : (b : ℕ) (ws : List (List ℕ)) → 0 < length ws → length (onto
 unfolding onto
 onto-count b [] h = absurd (omega arith)
 onto-count b (w ∷ ws) h = refl
+
+-- a field reaches to the first space
+first-span : (l : List ℕ) → getD (fields l) 0 [] ≡ span noSpace l
+unfolding fields span
+first-span [] = refl
+first-span (b ∷ l) = go (eqb b 32) (first-span l)
+  where
+    go : (t : Bool) → getD (fields l) 0 [] ≡ span noSpace l → getD (split t b (fields l)) 0 [] ≡ cond (not t) (b ∷ span noSpace l) []
+    go true e = unfold split in refl
+    go false e = unfold split in onto-first b (fields l) ∙ ap (λ (x : List ℕ). b ∷ x) e
+
+pub end-span : (w : List ℕ) (at : ℕ) → spanEnd noSpace w at ≡ fieldEnd w at
+unfolding spanEnd fieldEnd fieldAt
+end-span w at = ap (λ (x : List ℕ). at + length x) (sym (first-span (drop at w)))
 
 -- there is a first field
 some-field : (l : List ℕ) → 0 < length (fields l)
@@ -41,10 +56,6 @@ module _ (w : List ℕ) (at : ℕ) (h : at < length w) where
     unfolding split
     space = here ∙ rw (eq-eqb (getD w at 0) 32 e)
 
-    pub end-space : fieldEnd w at ≡ at
-    unfolding fieldEnd fieldAt
-    end-space = rw space (let z : at + 0 ≡ at = omega arith in z)
-
     pub count-space : length (fields (drop at w)) ≡ length (fields (drop (at + 1) w)) + 1
     count-space = ap length space ∙ sym (add-one (length (fields (drop (at + 1) w))))
 
@@ -53,10 +64,6 @@ module _ (w : List ℕ) (at : ℕ) (h : at < length w) where
     unfolding split
     other = here ∙ rw (ne-eqb (getD w at 0) 32 n)
 
-    pub end-step : fieldEnd w at ≡ fieldEnd w (at + 1)
-    unfolding fieldEnd fieldAt
-    end-step = omega (arith, ap (λ (ws : List (List ℕ)). length (getD ws 0 [])) other, ap length (onto-first (getD w at 0) (fields (drop (at + 1) w))))
-
     pub count-step : length (fields (drop at w)) ≡ length (fields (drop (at + 1) w))
     count-step = ap length other ∙ onto-count (getD w at 0) (fields (drop (at + 1) w)) (some-field (drop (at + 1) w))
 
@@ -64,10 +71,6 @@ module _ (w : List ℕ) (at : ℕ) (h : length w ≤ at) where
   nothing : fields (drop at w) ≡ [] ∷ []
   unfolding fields
   nothing = rw (drop-of-length-le w h)
-
-  pub end-out : fieldEnd w at ≡ at
-  unfolding fieldEnd fieldAt
-  end-out = rw nothing (let z : at + 0 ≡ at = omega arith in z)
 
   pub count-out : length (fields (drop at w)) ≡ 1
   count-out = ap length nothing

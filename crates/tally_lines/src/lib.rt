@@ -1,10 +1,11 @@
 // The lines of a printed netlist: their fields, and the form of each kind of line. A line is lent without its end.
 // A reader goes from field to field by steps that lead past a field of its kind, to the place of the next; a place past the line says that no
 // field is left, or that one was not of its kind.
-ghost use Rattle.base.specs.{_≡_, map, ℕ, _+_, _-_, _≤_, length, take, drop};
-ghost use Rattle.model.specs.{all, same, below, decimal, fields, between, cellsOf, areDigits, isLabel, isPhaseNet, isInnerNet, isGateNet};
+ghost use Rattle.base.specs.{_≡_, map, ℕ, _+_, _-_, _≤_, length, drop};
+ghost use Rattle.model.specs.{all, same, below, decimal, fields, cellsOf, areDigits, isLabel, isPhaseNet, isInnerNet, isGateNet};
 ghost use Rattle.model.specs.{isBound, ofForm, isNameList, gateForm, gateOf, isWire, isFigures, isTiming};
-ghost use Rattle.tally_lines.specs.{fieldsAt, fieldEnd, stepAt, stepsAt, kindTest, whichOf, Listed};
+ghost use Rattle.tally_lines.specs.{fieldsAt, stepAt, stepsAt, kindTest, whichOf, Listed};
+use base_text::Class;
 use model::Cell;
 use model::Library;
 
@@ -26,90 +27,43 @@ pub enum Which {
 // ---- one field
 
 // "any digits".
-fn all_digits(w: &[u8], from: usize) -> bool
-    ensures { λ r. ⌜ r ≡ all (between 48 57) (drop from (now (w .entry))) ⌝ }
-{
-    let mut i = from;
-    while i < w.len() {
-        let b = w[i];
-        if b < 48 {
-            return false;
-        }
-        if b > 57 {
-            return false;
-        }
-        i += 1;
-    }
-    true
-}
-
 pub fn are_digits(w: &[u8]) -> bool
     ensures { λ r. ⌜ r ≡ areDigits (now (w .entry)) ⌝ }
 {
-    if w.len() == 0 {
-        return false;
-    }
-    all_digits(w, 0)
+    w.len() > 0 && base_text::span_end(w, 0, Class::Digit) == w.len()
 }
 
 pub fn is_label(w: &[u8], b: u8) -> bool
     ensures { λ r. ⌜ r ≡ isLabel b (now (w .entry)) ⌝ }
 {
-    if w.len() == 0 {
-        return false;
-    }
-    if w[0] != b {
-        return false;
-    }
-    are_digits(&w[1..])
+    w.len() > 0 && (w[0] == b && are_digits(&w[1..]))
 }
 
 // "Nets are `p` or `m` (negative) and the variable".
 pub fn is_phase_net(w: &[u8]) -> bool
     ensures { λ r. ⌜ r ≡ isPhaseNet (now (w .entry)) ⌝ }
 {
-    if is_label(w, b'p') {
-        return true;
-    }
-    is_label(w, b'm')
+    is_label(w, b'p') || is_label(w, b'm')
 }
 
 // "a net `s` followed by the root's net name"
 fn is_inner_net(w: &[u8]) -> bool
     ensures { λ r. ⌜ r ≡ isInnerNet (now (w .entry)) ⌝ }
 {
-    if w.len() == 0 {
-        return false;
-    }
-    if w[0] != b's' {
-        return false;
-    }
-    is_phase_net(&w[1..])
+    w.len() > 0 && (w[0] == b's' && is_phase_net(&w[1..]))
 }
 
 // A net of a gate line, at a pin or at the output.
 pub fn is_gate_net(w: &[u8]) -> bool
     ensures { λ r. ⌜ r ≡ isGateNet (now (w .entry)) ⌝ }
 {
-    if is_phase_net(w) {
-        return true;
-    }
-    is_inner_net(w)
+    is_phase_net(w) || is_inner_net(w)
 }
 
 pub fn is_bound(w: &[u8], b: u8) -> bool
     ensures { λ r. ⌜ r ≡ isBound b (now (w .entry)) ⌝ }
 {
-    if w.len() < 2 {
-        return false;
-    }
-    if w[0] != b {
-        return false;
-    }
-    if w[1] != b'=' {
-        return false;
-    }
-    is_gate_net(&w[2..])
+    w.len() > 1 && (w[0] == b && (w[1] == b'=' && is_gate_net(&w[2..])))
 }
 
 // The digits of this number, "without leading zeros".
@@ -135,35 +89,16 @@ pub fn is_kind(w: &[u8], kind: Kind) -> bool
 
 // ---- steps
 
-// Where the field at a place ends: at the next space or at the line's end.
-pub fn field_end(w: &[u8], from: usize) -> usize
-    requires { ⌜ from ≤ length (now w) ⌝ }
-    ensures { λ r. ⌜ r ≡ fieldEnd (now (w .entry)) from ⌝ }
-{
-    let mut at = from;
-    while at < w.len() {
-        if w[at] == 32 {
-            return at;
-        }
-        at += 1;
-    }
-    at
-}
-
 // Past this word.
 pub fn word(w: &[u8], at: usize, k: &[u8]) -> usize
     requires { ⌜ length (now w) ≤ 65536 ⌝ }
     ensures { λ r. ⌜ r ≡ stepAt (same (now (k .entry))) (now (w .entry)) at ⌝ }
 {
-    if at > w.len() {
+    let end = base_text::span_end(w, at, Class::Field);
+    if at > w.len() || !base_text::same_bytes(k, &w[at..end]) {
         return w.len() + 2;
     }
-    let end = field_end(w, at);
-    if base_text::same_bytes(k, &w[at..end]) {
-        end + 1
-    } else {
-        w.len() + 2
-    }
+    end + 1
 }
 
 // Past a field of this kind.
@@ -171,15 +106,11 @@ pub fn field(w: &[u8], at: usize, kind: Kind) -> usize
     requires { ⌜ length (now w) ≤ 65536 ⌝ }
     ensures { λ r. ⌜ r ≡ stepAt (kindTest kind) (now (w .entry)) at ⌝ }
 {
-    if at > w.len() {
+    let end = base_text::span_end(w, at, Class::Field);
+    if at > w.len() || !is_kind(&w[at..end], kind) {
         return w.len() + 2;
     }
-    let end = field_end(w, at);
-    if is_kind(&w[at..end], kind) {
-        end + 1
-    } else {
-        w.len() + 2
-    }
+    end + 1
 }
 
 // ---- lines
@@ -264,15 +195,6 @@ pub fn names_in(w: &[u8]) -> usize
 
 // ---- gate lines
 
-// The cell's name.
-fn cell_name(w: &[u8], at: usize, name: [u8; 8], len: usize) -> usize
-    requires { ⌜ length (now w) ≤ 65536 ⌝ }
-    ensures { λ r. ⌜ r ≡ stepAt (same (take len name)) (now (w .entry)) at ⌝ }
-{
-    let n = if len < 8 { len } else { 8 };
-    word(w, at, &name[..n])
-}
-
 // "each pin in order with `=` and its net".
 fn pins(w: &[u8], from: usize, n: u16) -> usize
     requires { ⌜ (length (now w) ≤ 65536) × (n ≤ 4) ⌝ }
@@ -293,7 +215,8 @@ fn is_gate(w: &[u8], at: usize, c: Cell) -> bool
     ensures { λ r. ⌜ r ≡ ofForm (drop 1 (gateForm c)) (fieldsAt (now (w .entry)) at) ⌝ }
 {
     let name = c.name;
-    let a = cell_name(w, at, name, c.len);
+    let len = if c.len < 8 { c.len } else { 8 };
+    let a = word(w, at, &name[..len]);
     let b = pins(w, a, c.pins);
     let o = field(w, b, Kind::Bound(b'O'));
     if o == w.len() + 1 { true } else { false }

@@ -9,6 +9,7 @@ ghost use Rattle.base_text.specs.{Wrote};
 ghost use Rattle.tally_lines.specs.{Listed};
 ghost use Rattle.tally_counting.specs.{Wide};
 ghost use Rattle.tally_report.specs.{cellLines, figureText, fitting};
+use model::Cell;
 use model::Library;
 use model::Tally;
 use model::Verdict;
@@ -68,21 +69,14 @@ fn sum_of(xs: [u64; 32], n: usize) -> u64
 
 // ---- the lines
 
-// The same, where the name is the first `len` of eight bytes.
-fn put_named(
-    out: &mut [u8],
-    at: usize,
-    name: [u8; 8],
-    len: usize,
-    gates: u64,
-    area: u64,
-    netlists: u64,
-) -> usize
-    requires { ⌜ at + length (reportLine (take len name) gates area netlists) ≤ length (now out) ⌝ }
-    ensures { λ r. ⌜ Wrote (now (out .entry)) (now (out .exit)) at r (reportLine (take len name) gates area netlists) ⌝ }
+// The same for a cell.
+fn put_named(out: &mut [u8], at: usize, c: Cell, gates: u64, area: u64, netlists: u64) -> usize
+    requires { ⌜ at + length (reportLine (take (c .len) (c .name)) gates area netlists) ≤ length (now out) ⌝ }
+    ensures { λ r. ⌜ Wrote (now (out .entry)) (now (out .exit)) at r (reportLine (take (c .len) (c .name)) gates area netlists) ⌝ }
 {
-    let n = if len < 8 { len } else { 8 };
-    put_line(out, at, &name[..n], gates, area, netlists)
+    let name = c.name;
+    let len = if c.len < 8 { c.len } else { 8 };
+    put_line(out, at, &name[..len], gates, area, netlists)
 }
 
 // The line of the cell at a place.
@@ -91,8 +85,7 @@ fn put_cell(out: &mut [u8], at: usize, lib: Library, t: Tally, i: usize) -> usiz
     ensures { λ r. ⌜ Wrote (now (out .entry)) (now (out .exit)) at r (cellLine (cellsOf lib) t i) ⌝ }
 {
     let cell = lib.cells[i];
-    let name = cell.name;
-    put_named(out, at, name, cell.len, t.gates[i], t.areas[i], t.occurs[i])
+    put_named(out, at, cell, t.gates[i], t.areas[i], t.occurs[i])
 }
 
 // The lines of all listed cells.

@@ -8,4 +8,4 @@ pub add-spec : {M : Type 1} → statement M
 unfolding added
 add-spec = tie.close (tie.spec
     (λ c. search needs) (λ c. search needs) (λ c κs. search needs) (λ c. search needs) (λ c κs. search needs) (λ c. search needs)
-    (λ c. search needs) (λ c. search needs) (λ c. rw (c .before .before .with-bit .ensures, c .with-bit2 .ensures)))
+    (λ c. search needs) (λ c. search needs) (λ c. rw (c .before .before .one-at .ensures, c .one-at2 .ensures)))

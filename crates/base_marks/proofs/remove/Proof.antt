@@ -6,11 +6,11 @@ use Rattle.base_marks.proofs.remove.Tie as tie
 
 returns : tie.Need-returns
 unfolding removed
-returns c = rw (sym (c .before .before .before .flip-bit .ensures), eq-eqb _ 0 (c .if1 .taken), sym (c .before .flip-bit2 .ensures))
+returns c = rw (sym (c .before .before .before .one-at .ensures), eq-eqb _ 0 (c .if1 .taken), sym (c .before .one-at2 .ensures))
 
 pub remove-spec : {M : Type 1} → statement M
 unfolding removed
 remove-spec = tie.close (tie.spec
     (λ c. search needs) (λ c. search needs) (λ c κs. search needs) (λ c. search needs) (λ c κs. search needs) (λ c. search needs)
     (λ c. search needs) (λ c. search needs) returns
-    (λ c. rw (sym (c .before .before .before .flip-bit .ensures), ne-eqb _ 0 (c .if1 .left))))
+    (λ c. rw (sym (c .before .before .before .one-at .ensures), ne-eqb _ 0 (c .if1 .left))))

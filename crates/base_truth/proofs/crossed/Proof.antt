@@ -32,7 +32,7 @@ returns c =
     let s = c .before .before in
     let t : ℕ = s .args .t in
     let k : ℕ = s .args .k in
-    let p = c .before .ones-of .ensures in
+    let p = c .before .pattern .ensures in
     let q = c .complement .ensures ∙ ap (λ (x : ℕ). 65535 - x) p in
     let n = by k (s .pre) .0 in
     (λ i. bitOr (bitAnd t (p i) / 2 ^ n i) (bitAnd t (q i) * 2 ^ n i % 65536))

@@ -6,11 +6,11 @@ use Rattle.capi.proofs.mapper_map_two.Tie as tie
 
 returns : tie.Need-returns
 returns c =
-    let e = c .before .before .before .before .before .before .before .before .map-two .ensures in
+    let e = c .before .before .before .before .before .before .before .map-two .ensures in
     let m = e .memory in
     record {
-      first = c .before .answer .ensures ∙ ap answered (m .returnsFirst);
-      second = c .answer2 .ensures ∙ ap answered (m .returnsSecond);
+      first = c .answers .ensures .0 ∙ ap answered (m .returnsFirst);
+      second = c .answers .ensures .1 ∙ ap answered (m .returnsSecond);
       words = m .words;
       bytes1 = m .firstBytes;
       bytes2 = m .secondBytes;
@@ -19,5 +19,4 @@ returns c =
 
 pub mapper-map-two-spec : {M : Type 1} → statement M
 mapper-map-two-spec = tie.close (tie.spec
-    (λ c κs. search needs) (λ c κs. search needs) (λ c κs. search needs) (λ c. search needs) (λ c. search needs) (λ c. search needs)
-    returns)
+    (λ c κs. search needs) (λ c κs. search needs) (λ c. search needs) (λ c. search needs) (λ c. search needs) returns)

@@ -8,11 +8,11 @@ use Rattle.capi.proofs.text_answer.Tie as tie
 
 returns : tie.Need-returns
 unfolding writtenPair
-returns c = c .plain .ensures ∙ sym (ap (λ (x : Written). answeredText (writtenPair x)) (c .before .before .a .given .1))
+returns c = c .values .ensures ∙ sym (ap (λ (x : Written). answeredText (writtenPair x)) (c .before .before .a .given .1))
 
 returns-2 : tie.Need-returns-2
 unfolding writtenPair
-returns-2 c = c .plain2 .ensures ∙ sym (ap (λ (x : Written). answeredText (writtenPair x)) (c .before .before .a2 .given .1))
+returns-2 c = c .values2 .ensures ∙ sym (ap (λ (x : Written). answeredText (writtenPair x)) (c .before .before .a2 .given .1))
 
 pub text-answer-spec : {M : Type 1} → statement M
 text-answer-spec = tie.close (tie.spec

@@ -10,11 +10,12 @@ enum-told c = search needs
 
 returns : tie.Need-returns
 unfolding verdictPair
-returns c = c .plain .ensures ∙ sym (ap (λ (x : Verdict). answeredText (verdictPair x)) (c .before .enum-told .given .1))
+returns c = c .values .ensures ∙ sym (ap (λ (x : Verdict). answeredText (verdictPair x)) (c .before .enum-told .given .1))
 
 returns-2 : tie.Need-returns-2
 unfolding verdictPair
-returns-2 c = c .plain2 .ensures ∙ sym (ap (λ (x : Verdict). answeredText (verdictPair x)) (c .before .before .v .given .1))
+returns-2 c = c .values2 .ensures ∙ sym (ap (λ (x : Verdict). answeredText (verdictPair x)) (c .before .before .v .given .1))
 
 pub verdict-answer-spec : {M : Type 1} → statement M
-verdict-answer-spec = tie.close (tie.spec enum-told (λ c κs. search needs) (λ c. search needs) (λ c κs. search needs) returns returns-2)
+verdict-answer-spec = tie.close (tie.spec
+    enum-told (λ c κs. search needs) (λ c. search needs) (λ c κs. search needs) returns returns-2)

@@ -18,69 +18,101 @@ pin-time-requires c κs =
 
 returns : tie.Need-returns
 returns c =
-    let s = c .before .before .before .before .before .before in
+    let q1 = c .before .before in
+    let w = q1 .before in
+    let s = w .before .before .before in
     let a = s .args in
-    let p : ℕ = c .before .before .before .wide .result in
-    let picked : p ≡ getD (a .sheet .now) (66560 + 2 * a .x + 1) 0 = c .before .before .before .wide .ensures in
-    one-late (a .sheet .now) (a .times .now) (a .x) (s .pre .0) (a .b) p picked (c .before .before .pin-time .result) (waits (a .sheet .now) (a .times .now) (p / 16 % 16) (65536 + p / 65536 + 1)) (waits (a .sheet .now) (a .times .now) (p / 256 % 16) (65536 + p / 65536 + 2)) (waits (a .sheet .now) (a .times .now) (p / 4096 % 16) (65536 + p / 65536 + 3)) (c .before .before .pin-time .ensures, refl, refl, refl) (omega (arith, c .if1 .taken))
+    let p : ℕ = w .wide .result in
+    let picked : p ≡ getD (a .sheet .now) (66560 + 2 * a .x + 1) 0 = w .wide .ensures in
+    one-late (a .sheet .now) (a .times .now) (a .x) (s .pre .0) (a .b) p picked (q1 .pin-time .result) (waits (a .sheet .now) (a .times .now) (p / 16 % 16) (65536 + p / 65536 + 1)) (waits (a .sheet .now) (a .times .now) (p / 256 % 16) (65536 + p / 65536 + 2)) (waits (a .sheet .now) (a .times .now) (p / 4096 % 16) (65536 + p / 65536 + 3)) (q1 .pin-time .ensures, refl, refl, refl) (omega (arith, c .if1 .taken))
 
 pin-time-requires-2 : tie.Need-pin-time-requires-2
 pin-time-requires-2 c κs =
-    let s = c .before .before .before .before .before .before in
+    let q1 = c .before .before in
+    let w = q1 .before in
+    let s = w .before .before .before in
     let a = s .args in
-    let p : ℕ = c .before .before .before .wide .result in
-    let picked : p ≡ getD (a .sheet .now) (66560 + 2 * a .x + 1) 0 = c .before .before .before .wide .ensures in
+    let p : ℕ = w .wide .result in
+    let picked : p ≡ getD (a .sheet .now) (66560 + 2 * a .x + 1) 0 = w .wide .ensures in
     (omega arith, omega (arith, delay-within (a .sheet .now) (a .times .now) (a .x) (s .pre .0) (a .b) p picked), brief-at (a .sheet .now) (a .times .now) (a .x) (s .pre .0) (a .b) p picked 1 (omega arith), s .pre .1)
 
 returns-2 : tie.Need-returns-2
 returns-2 c =
-    let s = c .before .before .before .before .before .before .before .before .before in
+    let q2 = c .before .before in
+    let q1 = q2 .before .before .before in
+    let w = q1 .before in
+    let s = w .before .before .before in
     let a = s .args in
-    let p : ℕ = c .before .before .before .before .before .before .wide .result in
-    let picked : p ≡ getD (a .sheet .now) (66560 + 2 * a .x + 1) 0 = c .before .before .before .before .before .before .wide .ensures in
-    one-late (a .sheet .now) (a .times .now) (a .x) (s .pre .0) (a .b) p picked (c .before .before .before .before .before .pin-time .result) (c .before .before .pin-time2 .result) (waits (a .sheet .now) (a .times .now) (p / 256 % 16) (65536 + p / 65536 + 2)) (waits (a .sheet .now) (a .times .now) (p / 4096 % 16) (65536 + p / 65536 + 3)) (c .before .before .before .before .before .pin-time .ensures, c .before .before .pin-time2 .ensures, refl, refl) (omega (arith, c .if2 .taken))
+    let p : ℕ = w .wide .result in
+    let picked : p ≡ getD (a .sheet .now) (66560 + 2 * a .x + 1) 0 = w .wide .ensures in
+    one-late (a .sheet .now) (a .times .now) (a .x) (s .pre .0) (a .b) p picked (q1 .pin-time .result) (q2 .pin-time2 .result) (waits (a .sheet .now) (a .times .now) (p / 256 % 16) (65536 + p / 65536 + 2)) (waits (a .sheet .now) (a .times .now) (p / 4096 % 16) (65536 + p / 65536 + 3)) (q1 .pin-time .ensures, q2 .pin-time2 .ensures, refl, refl) (omega (arith, c .if2 .taken))
 
 pin-time-requires-3 : tie.Need-pin-time-requires-3
 pin-time-requires-3 c κs =
-    let s = c .before .before .before .before .before .before .before .before .before in
+    let q2 = c .before .before in
+    let q1 = q2 .before .before .before in
+    let w = q1 .before in
+    let s = w .before .before .before in
     let a = s .args in
-    let p : ℕ = c .before .before .before .before .before .before .wide .result in
-    let picked : p ≡ getD (a .sheet .now) (66560 + 2 * a .x + 1) 0 = c .before .before .before .before .before .before .wide .ensures in
+    let p : ℕ = w .wide .result in
+    let picked : p ≡ getD (a .sheet .now) (66560 + 2 * a .x + 1) 0 = w .wide .ensures in
     (omega arith, omega (arith, delay-within (a .sheet .now) (a .times .now) (a .x) (s .pre .0) (a .b) p picked), brief-at (a .sheet .now) (a .times .now) (a .x) (s .pre .0) (a .b) p picked 2 (omega arith), s .pre .1)
 
 returns-3 : tie.Need-returns-3
 returns-3 c =
-    let s = c .before .before .before .before .before .before .before .before .before .before .before .before in
+    let q3 = c .before .before in
+    let q2 = q3 .before .before .before in
+    let q1 = q2 .before .before .before in
+    let w = q1 .before in
+    let s = w .before .before .before in
     let a = s .args in
-    let p : ℕ = c .before .before .before .before .before .before .before .before .before .wide .result in
-    let picked : p ≡ getD (a .sheet .now) (66560 + 2 * a .x + 1) 0 = c .before .before .before .before .before .before .before .before .before .wide .ensures in
-    one-late (a .sheet .now) (a .times .now) (a .x) (s .pre .0) (a .b) p picked (c .before .before .before .before .before .before .before .before .pin-time .result) (c .before .before .before .before .before .pin-time2 .result) (c .before .before .pin-time3 .result) (waits (a .sheet .now) (a .times .now) (p / 4096 % 16) (65536 + p / 65536 + 3)) (c .before .before .before .before .before .before .before .before .pin-time .ensures, c .before .before .before .before .before .pin-time2 .ensures, c .before .before .pin-time3 .ensures, refl) (omega (arith, c .if3 .taken))
+    let p : ℕ = w .wide .result in
+    let picked : p ≡ getD (a .sheet .now) (66560 + 2 * a .x + 1) 0 = w .wide .ensures in
+    one-late (a .sheet .now) (a .times .now) (a .x) (s .pre .0) (a .b) p picked (q1 .pin-time .result) (q2 .pin-time2 .result) (q3 .pin-time3 .result) (waits (a .sheet .now) (a .times .now) (p / 4096 % 16) (65536 + p / 65536 + 3)) (q1 .pin-time .ensures, q2 .pin-time2 .ensures, q3 .pin-time3 .ensures, refl) (omega (arith, c .if3 .taken))
 
 pin-time-requires-4 : tie.Need-pin-time-requires-4
 pin-time-requires-4 c κs =
-    let s = c .before .before .before .before .before .before .before .before .before .before .before .before in
+    let q3 = c .before .before in
+    let q2 = q3 .before .before .before in
+    let q1 = q2 .before .before .before in
+    let w = q1 .before in
+    let s = w .before .before .before in
     let a = s .args in
-    let p : ℕ = c .before .before .before .before .before .before .before .before .before .wide .result in
-    let picked : p ≡ getD (a .sheet .now) (66560 + 2 * a .x + 1) 0 = c .before .before .before .before .before .before .before .before .before .wide .ensures in
+    let p : ℕ = w .wide .result in
+    let picked : p ≡ getD (a .sheet .now) (66560 + 2 * a .x + 1) 0 = w .wide .ensures in
     (omega arith, omega (arith, delay-within (a .sheet .now) (a .times .now) (a .x) (s .pre .0) (a .b) p picked), brief-at (a .sheet .now) (a .times .now) (a .x) (s .pre .0) (a .b) p picked 3 (omega arith), s .pre .1)
 
 returns-4 : tie.Need-returns-4
 returns-4 c =
-    let s = c .before .before .before .before .before .before .before .before .before .before .before .before .before .before .before in
+    let q4 = c .before .before in
+    let q3 = q4 .before .before .before in
+    let q2 = q3 .before .before .before in
+    let q1 = q2 .before .before .before in
+    let w = q1 .before in
+    let s = w .before .before .before in
     let a = s .args in
-    let p : ℕ = c .before .before .before .before .before .before .before .before .before .before .before .before .wide .result in
-    let picked : p ≡ getD (a .sheet .now) (66560 + 2 * a .x + 1) 0 = c .before .before .before .before .before .before .before .before .before .before .before .before .wide .ensures in
-    one-late (a .sheet .now) (a .times .now) (a .x) (s .pre .0) (a .b) p picked (c .before .before .before .before .before .before .before .before .before .before .before .pin-time .result) (c .before .before .before .before .before .before .before .before .pin-time2 .result) (c .before .before .before .before .before .pin-time3 .result) (c .before .before .pin-time4 .result) (c .before .before .before .before .before .before .before .before .before .before .before .pin-time .ensures, c .before .before .before .before .before .before .before .before .pin-time2 .ensures, c .before .before .before .before .before .pin-time3 .ensures, c .before .before .pin-time4 .ensures) (omega (arith, c .if4 .taken))
+    let p : ℕ = w .wide .result in
+    let picked : p ≡ getD (a .sheet .now) (66560 + 2 * a .x + 1) 0 = w .wide .ensures in
+    one-late (a .sheet .now) (a .times .now) (a .x) (s .pre .0) (a .b) p picked (q1 .pin-time .result) (q2 .pin-time2 .result) (q3 .pin-time3 .result) (q4 .pin-time4 .result) (q1 .pin-time .ensures, q2 .pin-time2 .ensures, q3 .pin-time3 .ensures, q4 .pin-time4 .ensures) (omega (arith, c .if4 .taken))
 
 returns-5 : tie.Need-returns-5
 returns-5 c =
-    let s = c .before .before .before .before .before .before .before .before .before .before .before .before .before .before .before .before .before .before in
+    let i4 = c .before .before .before in
+    let q4 = i4 .before .before in
+    let i3 = q4 .before in
+    let q3 = i3 .before .before in
+    let i2 = q3 .before in
+    let q2 = i2 .before .before in
+    let i1 = q2 .before in
+    let q1 = i1 .before .before in
+    let w = q1 .before in
+    let s = w .before .before .before in
     let a = s .args in
-    let p : ℕ = c .before .before .before .before .before .before .before .before .before .before .before .before .before .before .before .wide .result in
-    let picked : p ≡ getD (a .sheet .now) (66560 + 2 * a .x + 1) 0 = c .before .before .before .before .before .before .before .before .before .before .before .before .before .before .before .wide .ensures in
+    let p : ℕ = w .wide .result in
+    let picked : p ≡ getD (a .sheet .now) (66560 + 2 * a .x + 1) 0 = w .wide .ensures in
     let top = c .larger3 .ensures ∙ ap₂ max (c .before .before .larger .ensures) (c .before .larger2 .ensures) in
-    all-early (a .sheet .now) (a .times .now) (a .x) (s .pre .0) (a .b) p picked (c .before .before .before .before .before .before .before .before .before .before .before .before .before .before .pin-time .result) (c .before .before .before .before .before .before .before .before .before .before .before .pin-time2 .result) (c .before .before .before .before .before .before .before .before .pin-time3 .result) (c .before .before .before .before .before .pin-time4 .result) (c .larger3 .result) (c .before .before .before .before .before .before .before .before .before .before .before .before .before .before .pin-time .ensures, c .before .before .before .before .before .before .before .before .before .before .before .pin-time2 .ensures, c .before .before .before .before .before .before .before .before .pin-time3 .ensures, c .before .before .before .before .before .pin-time4 .ensures) top
-    (lowest (a .b .arrival) (c .before .before .before .before .before .before .before .before .before .before .before .before .before .before .pin-time .result) (c .before .before .before .before .before .before .before .before .before .before .before .pin-time2 .result) (c .before .before .before .before .before .before .before .before .pin-time3 .result) (c .before .before .before .before .before .pin-time4 .result) (c .larger3 .result) top (c .before .before .before .before .before .before .before .before .before .before .before .before .if1 .left) (c .before .before .before .before .before .before .before .before .before .if2 .left) (c .before .before .before .before .before .before .if3 .left) (c .before .before .before .if4 .left))
+    all-early (a .sheet .now) (a .times .now) (a .x) (s .pre .0) (a .b) p picked (q1 .pin-time .result) (q2 .pin-time2 .result) (q3 .pin-time3 .result) (q4 .pin-time4 .result) (c .larger3 .result) (q1 .pin-time .ensures, q2 .pin-time2 .ensures, q3 .pin-time3 .ensures, q4 .pin-time4 .ensures) top
+    (lowest (a .b .arrival) (q1 .pin-time .result) (q2 .pin-time2 .result) (q3 .pin-time3 .result) (q4 .pin-time4 .result) (c .larger3 .result) top (i1 .if1 .left) (i2 .if2 .left) (i3 .if3 .left) (i4 .if4 .left))
 
 pub try-variant-spec : {M : Type 1} → statement M
 try-variant-spec = tie.close (tie.spec

@@ -41,8 +41,9 @@ put-pins-requires c κs =
 loop-again : tie.Need-loop-again Inv-loop μ-loop
 unfolding cellsOf
 loop-again c =
-    let s = c .before .before .before .before .before .before .before .before .before .before in
-    let l = c .before .before .before .before .before .before .before .loop in
+    let at-loop = c .before .before .before .before .before .before .before in
+    let s = at-loop .before .before .before in
+    let l = at-loop .loop in
     let q = c .before .before .put-pins in
     let h : l .i < s .args .lib .n = c .before .before .before .before .before .before .loop-test .taken in
     let fits : 0 + length (pairCodes (cellsOf (s .args .lib))) ≤ length (s .args .codes .now) = omega (arith, s .pre .1) in (

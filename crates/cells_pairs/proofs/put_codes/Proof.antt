@@ -16,18 +16,22 @@ abbrev μ-loop : tie.MeasureT-loop
 loop-holds : tie.Need-loop-holds Inv-loop μ-loop
 loop-holds c = (omega arith, begin (c .before .before .args .book .now) (c .before .before .args .at) refl)
 
-put-pair-requires : tie.Need-put-pair-requires Inv-loop μ-loop
-put-pair-requires c κs =
-    let s = c .before .before .before .before .before .before in
-    let l = c .before .before .before .loop in
-    room (s .pre) (l .inv .1) (codeBytes (getD (s .args .codes .now) (l .i) 0)) (each codeBytes (drop (l .i + 1) (s .args .codes .now))) (next-code (s .args .codes .now) (l .i) (c .before .before .loop-test .taken))
+cast-t14 : tie.Need-cast-t14 Inv-loop μ-loop
+cast-t14 c = omega (arith, c .shared-slice-known2 .given (c .before .before .loop .i))
+
+put-bytes-requires : tie.Need-put-bytes-requires Inv-loop μ-loop
+put-bytes-requires c κs =
+    let s = c .before .before .before .before .before .before .before in
+    let l = c .before .before .before .before .loop in
+    room (s .pre) (l .inv .1) (codeBytes (getD (s .args .codes .now) (l .i) 0)) (each codeBytes (drop (l .i + 1) (s .args .codes .now))) (next-code (s .args .codes .now) (l .i) (c .before .before .before .loop-test .taken))
 
 loop-again : tie.Need-loop-again Inv-loop μ-loop
 loop-again c =
-    let s = c .before .before .before .before .before .before .before .before .before in
-    let l = c .before .before .before .before .before .before .loop in
-    let h : l .i < length (s .args .codes .now) = c .before .before .before .before .before .loop-test .taken in
-    let q = c .before .before .put-pair in (
+    let turn = c .before .before .before .before .before .before in
+    let s = turn .before .before .before .before in
+    let l = turn .before .loop in
+    let h : l .i < length (s .args .codes .now) = turn .loop-test .taken in
+    let q = c .before .before .put-bytes in (
       omega arith,
       step (s .pre) (l .inv .1) (q .last .0) (q .result) (codeBytes (getD (s .args .codes .now) (l .i) 0)) (each codeBytes (drop (l .i + 1) (s .args .codes .now))) (next-code (s .args .codes .now) (l .i) h) (q .ensures),
     )
@@ -40,5 +44,5 @@ returns c = end (c .before .before .before .before .pre) (c .before .loop .inv .
 
 pub put-codes-spec : {M : Type 1} → statement M
 put-codes-spec = tie.close (tie.spec
-    Inv-loop μ-loop loop-holds (λ c. search needs) (λ c. search needs) put-pair-requires (λ c. search needs) (λ c. omega arith) loop-again
-    same-length returns)
+    Inv-loop μ-loop loop-holds (λ c. search needs) (λ c. search needs) (λ c. search needs) cast-t14 (λ c. search needs) put-bytes-requires
+    (λ c. search needs) (λ c. omega arith) loop-again same-length returns)

@@ -62,8 +62,9 @@ put-code-requires c κs =
 loop-again : tie.Need-loop-again Inv-loop μ-loop
 unfolding cellsOf
 loop-again c =
-    let s = c .before .before .before .before .before .before .before .before .before .before in
-    let l = c .before .before .before .before .before .before .loop in
+    let at-loop = c .before .before .before .before .before .before in
+    let s = at-loop .before .before .before .before in
+    let l = at-loop .loop in
     let q = c .before .before .put-code in
     let h : l .j < s .args .lib .n = c .before .before .before .before .before .loop-test .taken in (
       omega arith,

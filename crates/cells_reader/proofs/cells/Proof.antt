@@ -46,10 +46,10 @@ loop-again : tie.Need-loop-again Inv-loop μ-loop
 loop-again c =
     let l = c .before .before .before .before .before .before .before .before in
     let j = sym (c .before .before .before .before .before .before .judge .ensures) ∙ c .before .before .before .before .end .given .1 in (
-      added-room (l .loop .lib) (c .before .cell-of .result) (c .add .result) (judged-cell _ _ _ _ _ _ _ j .0) (c .add .ensures),
-      added-length (l .loop .lib) (c .before .cell-of .result) (c .add .result) (l .loop .inv .1) (c .add .ensures),
-      l .loop .inv .2 ∙ so-far-added _ (l .loop .lib) _ _ _ _ _ (c .before .cell-of .result) (c .add .result) (c .before .before .before .before .before .before .before .loop-test .taken) (l .loop .inv .1) j (c .before .cell-of .ensures) (c .add .ensures),
-      tidy-added (l .loop .lib) (c .before .cell-of .result) (c .add .result) (l .loop .inv .3) (judged-cell _ _ _ _ _ _ _ j .0) (l .loop .inv .1) (c .add .ensures),
+      added-room (l .loop .library) (c .before .cell-of .result) (c .add .result) (judged-cell _ _ _ _ _ _ _ j .0) (c .add .ensures),
+      added-length (l .loop .library) (c .before .cell-of .result) (c .add .result) (l .loop .inv .1) (c .add .ensures),
+      l .loop .inv .2 ∙ so-far-added _ (l .loop .library) _ _ _ _ _ (c .before .cell-of .result) (c .add .result) (c .before .before .before .before .before .before .before .loop-test .taken) (l .loop .inv .1) j (c .before .cell-of .ensures) (c .add .ensures),
+      tidy-added (l .loop .library) (c .before .cell-of .result) (c .add .result) (l .loop .inv .3) (judged-cell _ _ _ _ _ _ _ j .0) (l .loop .inv .1) (c .add .ensures),
     )
 
 returns : tie.Need-returns Inv-loop μ-loop

@@ -5,25 +5,22 @@ use Rattle.cells_reader.proofs.in_range.Statement.{statement}
 use Rattle.cells_reader.proofs.in_range.Tie as tie
 
 returns : tie.Need-returns
-returns c = sym (range-is (c .before .before .args .f) ∙ rw (lt-leb _ _ (c .if1 .taken)))
+returns c =
+    let third = c .before .before in let second = third .before .before .before in let first = second .before .before .before in
+    sym (range-is (first .before .before .before .before .before .args .f) ∙ rw (le-leb _ _ (first .if1 .taken), le-leb _ _ (second .if2 .taken), le-leb _ _ (third .if3 .taken)))
 
 returns-2 : tie.Need-returns-2
 returns-2 c =
-    let a = c .before .before in
-    sym (range-is (a .before .before .args .f) ∙ rw (le-leb _ _ (a .if1 .left), lt-leb _ _ (c .if2 .taken)))
+    let second = c .before .before .before in let first = second .before .before .before in
+    lt-leb _ _ (c .if3 .left) ∙ sym (range-is (first .before .before .before .before .before .args .f) ∙ rw (le-leb _ _ (first .if1 .taken), le-leb _ _ (second .if2 .taken), lt-leb _ _ (c .if3 .left)))
 
 returns-3 : tie.Need-returns-3
 returns-3 c =
-    let b = c .before .before in
-    let a = b .before .before in
-    sym (range-is (a .before .before .args .f) ∙ rw (le-leb _ _ (a .if1 .left), le-leb _ _ (b .if2 .left), lt-leb _ _ (c .if3 .taken)))
+    let first = c .before .before .before in
+    lt-leb _ _ (c .if2 .left) ∙ sym (range-is (first .before .before .before .before .before .args .f) ∙ rw (le-leb _ _ (first .if1 .taken), lt-leb _ _ (c .if2 .left)))
 
 returns-4 : tie.Need-returns-4
-returns-4 c =
-    let d = c .before in
-    let b = d .before .before in
-    let a = b .before .before in
-    sym (range-is (a .before .before .args .f) ∙ rw (le-leb _ _ (a .if1 .left), le-leb _ _ (b .if2 .left), le-leb _ _ (d .if3 .left)))
+returns-4 c = lt-leb _ _ (c .if1 .left) ∙ sym (range-is (c .before .before .before .before .before .args .f) ∙ rw (lt-leb _ _ (c .if1 .left)))
 
 pub in-range-spec : {M : Type 1} → statement M
 in-range-spec = tie.close (tie.spec returns returns-2 returns-3 returns-4)

@@ -1,8 +1,9 @@
 -- `cells_reader::is_ranged` meets its contract: the contents of the first line.
 use Rattle.base.specs.{sym, _∙_, length-take-le, needs}
 use Rattle.model.specs.{text}
+use Rattle.base_text.proofs.{first-fits}
 use Rattle.cells_reader.specs.{longerLine}
-use Rattle.cells_reader.proofs.First.{first-fits, names-ranged}
+use Rattle.cells_reader.proofs.First.{names-ranged}
 use Rattle.cells_reader.proofs.is_ranged.Statement.{statement}
 use Rattle.cells_reader.proofs.is_ranged.Tie as tie
 

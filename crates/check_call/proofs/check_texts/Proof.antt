@@ -1,5 +1,5 @@
 -- `check_call::check_texts` meets its contract: demand 1 from the functions below it, what the answer means from the definitions' law.
-use Rattle.base.specs.{needs, ℕ, arith, List, length}
+use Rattle.base.specs.{needs, ℕ, arith, List, length, ⊎-elim, ltb-true, ltb-false}
 use Rattle.model.specs.{CheckPromised}
 use Rattle.theory_check.specs.CheckRefusals.{CheckRefusals}
 use Rattle.theory_check.proofs.{check-exactly, edited-compared, edited-meant, edited-equal, printed-accepted}
@@ -21,42 +21,33 @@ said library graph netlist words = (
 
 returns : tie.Need-returns
 returns c =
-    let a = c .before .before .before .before .before .args in
-    (long-text (a .cells .now) (a .graph .now) (a .netlist .now) (a .work .now) (λ x y z. omega arith), said (a .cells .now) (a .graph .now) (a .netlist .now) (length (a .work .now)))
-
-returns-2 : tie.Need-returns-2
-returns-2 c =
-    let a = c .before .before .before .before .before .before .args in
-    (long-text (a .cells .now) (a .graph .now) (a .netlist .now) (a .work .now) (λ x y z. omega arith), said (a .cells .now) (a .graph .now) (a .netlist .now) (length (a .work .now)))
-
-returns-3 : tie.Need-returns-3
-returns-3 c =
-    let a = c .before .before .before .before .before .before .before .args in
-    (long-text (a .cells .now) (a .graph .now) (a .netlist .now) (a .work .now) (λ x y z. omega arith), said (a .cells .now) (a .graph .now) (a .netlist .now) (length (a .work .now)))
+    let a = c .before .before .before .before .before .args in (
+      long-text (a .cells .now) (a .graph .now) (a .netlist .now) (a .work .now) (λ x y z. ⊎-elim (λ w. omega arith) (⊎-elim (λ w. omega (arith, ltb-true)) (λ w. omega (arith, ltb-true))) (c .if1 .came)),
+      said (a .cells .now) (a .graph .now) (a .netlist .now) (length (a .work .now)),
+    )
 
 check-header-requires : tie.Need-check-header-requires
 check-header-requires c κs =
     let t = c .before .before in let l = t .before .before in
     let a = l .before .before .before .before .before .before .before .before .args in
-    (library-read (a .cells .now) (a .graph .now) (a .netlist .now) (a .work .now) (omega arith) (omega arith) (omega arith) (l .read .result) (l .read .ensures .0) (t .enum-told .given .1) .fitting, omega arith)
+    (library-read (a .cells .now) (a .graph .now) (a .netlist .now) (a .work .now) (omega arith) (omega (arith, ltb-false)) (omega (arith, ltb-false)) (l .read .result) (l .read .ensures .0) (t .enum-told .given .1) .fitting, omega (arith, ltb-false))
 
-returns-4 : tie.Need-returns-4
-returns-4 c =
+returns-2 : tie.Need-returns-2
+returns-2 c =
     let h = c .before .before in let t = h .before .before .before in let l = t .before .before in
     let a = l .before .before .before .before .before .before .before .before .args in (
-      library-read (a .cells .now) (a .graph .now) (a .netlist .now) (a .work .now) (omega arith) (omega arith) (omega arith) (l .read .result) (l .read .ensures .0) (t .enum-told .given .1) .goes _ _ (h .check-header .ensures),
+      library-read (a .cells .now) (a .graph .now) (a .netlist .now) (a .work .now) (omega arith) (omega (arith, ltb-false)) (omega (arith, ltb-false)) (l .read .result) (l .read .ensures .0) (t .enum-told .given .1) .goes _ _ (h .check-header .ensures),
       said (a .cells .now) (a .graph .now) (a .netlist .now) (length (a .work .now)),
     )
 
-returns-5 : tie.Need-returns-5
-returns-5 c =
+returns-3 : tie.Need-returns-3
+returns-3 c =
     let k = c .before in let l = k .before .before in
     let a = l .before .before .before .before .before .before .before .before .args in (
-      library-stops (a .cells .now) (a .graph .now) (a .netlist .now) (a .work .now) (omega arith) (omega arith) (omega arith) (l .read .result) (l .read .ensures .0) _ _ (k .v .given .1),
+      library-stops (a .cells .now) (a .graph .now) (a .netlist .now) (a .work .now) (omega arith) (omega (arith, ltb-false)) (omega (arith, ltb-false)) (l .read .result) (l .read .ensures .0) _ _ (k .v .given .1),
       said (a .cells .now) (a .graph .now) (a .netlist .now) (length (a .work .now)),
     )
 
 pub check-texts-spec : {M : Type 1} → statement M
 check-texts-spec = tie.close (tie.spec
-    returns returns-2 returns-3 (λ c κs. search needs) (λ c. search needs) check-header-requires (λ c. search needs) (λ c. search needs)
-    returns-4 returns-5)
+    returns (λ c κs. search needs) (λ c. search needs) check-header-requires (λ c. search needs) (λ c. search needs) returns-2 returns-3)

@@ -21,8 +21,8 @@ part-pin-code-start c = let a = c .before .before .before .args in omega (arith,
 part-pin-code-end : tie.Need-part-pin-code-end
 part-pin-code-end c = let a = c .before .before .before .args in omega (arith, c .space-from .ensures, space-fits (a .l .now) (a .at) (c .before .if1 .left))
 
-add-t11 : tie.Need-add-t11
-add-t11 c = let k = c .before .before in let a = k .before .before .before .args in omega (arith, k .space-from .ensures, space-fits (a .l .now) (a .at) (k .before .if1 .left))
+add-next : tie.Need-add-next
+add-next c = let k = c .before .before in let a = k .before .before .before .args in omega (arith, k .space-from .ensures, space-fits (a .l .now) (a .at) (k .before .if1 .left))
 
 returns-2 : tie.Need-returns-2
 unfolding pinAt
@@ -34,4 +34,4 @@ returns-2 c =
 
 pub pin-at-spec : {M : Type 1} → statement M
 pin-at-spec = tie.close (tie.spec
-    returns (λ c κs. search needs) sub-pin-code part-pin-code-start part-pin-code-end (λ c κs. search needs) add-t11 returns-2)
+    returns (λ c κs. search needs) sub-pin-code part-pin-code-start part-pin-code-end (λ c κs. search needs) add-next returns-2)

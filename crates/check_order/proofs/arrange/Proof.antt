@@ -1,15 +1,55 @@
--- `check_order::arrange` meets its contract: walks from each driver, then sweeps.
-use Rattle.base.specs.{needs, suc, ap, _∙_}
-use Rattle.check_order.specs.{settleFrom, Down, arrangeOf}
+-- `check_order::arrange` meets its contract: walks from each driver, then sweeps. The invariant: what is listed is in order. The measure is how many drivers are left.
+use Rattle.base.specs.{ℕ, suc, _-_, _≤_, arith, _≡_, sym, ap, _∙_}
+use Rattle.check_order.specs.{made, down, settleFrom, divesFrom, Down, arrangeOf, Arranged}
+use Rattle.check_order.proofs.Making.{dives-go, dives-end}
 use Rattle.check_order.proofs.arrange.Statement.{statement}
 use Rattle.check_order.proofs.arrange.Tie as tie
 
-returns : tie.Need-returns
+abbrev Inv-loop : tie.InvT-loop
+Inv-loop refs n marks₀ order₀ passed₀ stack₀ m₀ i₀ marks order passed stack m i =
+    (i ≤ n) × Arranged refs n marks order m × (divesFrom refs n 0 n (down 0 (made 0 marks₀ order₀) passed₀ stack₀) ≡ divesFrom refs n i (n - i) (down 0 (made m marks order) passed stack))
+
+abbrev μ-loop : tie.MeasureT-loop
+μ-loop refs n marks₀ order₀ passed₀ stack₀ m₀ i₀ marks order passed stack m i = n - i
+
+loop-holds : tie.Need-loop-holds Inv-loop μ-loop
+loop-holds c =
+    let a = c .args in
+    (omega arith, c .pre .1, ap (λ (k : ℕ). divesFrom (a .refs .now) (a .n) 0 k (down 0 (made 0 (a .marks .now) (a .order .now)) _ _)) (let e : a .n ≡ a .n - 0 = omega arith in e))
+
+dive-requires : tie.Need-dive-requires Inv-loop μ-loop
+dive-requires c κs =
+    let t = c .before .before .before .before in
+    let l = t .before in
+    (l .before .pre .0, t .loop-test .taken, l .loop .inv .1)
+
+add-i : tie.Need-add-i Inv-loop μ-loop
+add-i c = omega (arith, c .before .before .before .before .before .before .before .pre .0 .few)
+
+loop-again : tie.Need-loop-again Inv-loop μ-loop
+loop-again c =
+    let t = c .before .before .before .before .before in
+    let l = t .before in
+    let a = l .before .args in (
+      omega arith,
+      c .dive .ensures .0,
+      l .loop .inv .2 ∙ dives-go (a .refs .now) (a .n) (l .loop .i) (down 0 (made (l .loop .m) (l .loop .marks) (l .loop .order)) (l .loop .passed) (l .loop .stack)) _ (t .loop-test .taken) (c .dive .ensures .1),
+    )
+
+settle-requires : tie.Need-settle-requires Inv-loop μ-loop
+settle-requires c κs = let l = c .before .before .before in (l .before .pre .0, l .loop .inv .1)
+
+returns : tie.Need-returns Inv-loop μ-loop
 unfolding arrangeOf
 returns c =
-    let d = c .before .before .before in
-    let a = d .before .before .before .before .before .args in
-    (c .settle .ensures .0, c .settle .ensures .1 ∙ ap (λ (x : Down). settleFrom (a .refs .now) (a .n) (suc (a .n)) (x .listed)) (d .dive-all .ensures .1))
+    let e = c .before .before .before in
+    let l = e .before in
+    let a = l .before .args in (
+      c .settle .ensures .0,
+      c .settle .ensures .1
+          ∙ ap (λ (x : Down). settleFrom (a .refs .now) (a .n) (suc (a .n)) (x .listed))
+          (sym (l .loop .inv .2 ∙ dives-end (a .refs .now) (a .n) (l .loop .i) (down 0 (made (l .loop .m) (l .loop .marks) (l .loop .order)) (l .loop .passed) (l .loop .stack)) (e .loop-test .left))),
+    )
 
 pub arrange-spec : {M : Type 1} → statement M
-arrange-spec = tie.close (tie.spec (λ c κs. search needs) (λ c κs. search needs) returns)
+arrange-spec = tie.close (tie.spec Inv-loop μ-loop loop-holds dive-requires add-i (λ c. omega arith) loop-again settle-requires returns)

@@ -9,7 +9,7 @@ returns c =
     let p = c .before in
     let s = p .before in
     let a = s .args in
-    (s .pre .2, λ l. descend-input (a .refs .now) (a .n) (a .depth) (a .at) (p .pin .result) (a .passed .now) (a .stack .now) (p .pin .ensures) l (c .if1 .taken))
+    (s .pre .2, λ l. descend-input (a .refs .now) (a .n) (a .d) (a .at) (p .pin .result) (a .passed .now) (a .stack .now) (p .pin .ensures) l (c .if1 .taken))
 
 element-copy-out-if2 : tie.Need-element-copy-out-if2
 element-copy-out-if2 c =
@@ -22,7 +22,7 @@ returns-2 c =
     let p = e .before in
     let s = p .before in
     let a = s .args in
-    (s .pre .2, λ l. descend-met (a .refs .now) (a .n) (a .depth) (a .at) (p .pin .result) (a .passed .now) (a .stack .now) (p .pin .ensures) l (e .if1 .left) (c .if2 .taken))
+    (s .pre .2, λ l. descend-met (a .refs .now) (a .n) (a .d) (a .at) (p .pin .result) (a .passed .now) (a .stack .now) (p .pin .ensures) l (e .if1 .left) (c .if2 .taken))
 
 returns-3 : tie.Need-returns-3
 returns-3 c =
@@ -31,7 +31,7 @@ returns-3 c =
     let p = e .before in
     let s = p .before in
     let a = s .args in
-    (s .pre .2, λ l. descend-full (a .refs .now) (a .n) (a .depth) (a .at) (p .pin .result) (a .passed .now) (a .stack .now) (p .pin .ensures) l (e .if1 .left) (f .if2 .left) (c .if3 .taken))
+    (s .pre .2, λ l. descend-full (a .refs .now) (a .n) (a .d) (a .at) (p .pin .result) (a .passed .now) (a .stack .now) (p .pin .ensures) l (e .if1 .left) (f .if2 .left) (c .if3 .taken))
 
 cast-stack : tie.Need-cast-stack
 cast-stack c =
@@ -46,7 +46,7 @@ returns-4 c =
     let p = e .before in
     let s = p .before in
     let a = s .args in
-    (omega (arith, c .if3 .left), λ l. descend-next (a .refs .now) (a .n) (a .depth) (a .at) (p .pin .result) (a .passed .now) (a .stack .now) (p .pin .ensures) l (e .if1 .left) (f .if2 .left) (c .if3 .left))
+    (omega (arith, c .if3 .left), λ l. descend-next (a .refs .now) (a .n) (a .d) (a .at) (p .pin .result) (a .passed .now) (a .stack .now) (p .pin .ensures) l (e .if1 .left) (f .if2 .left) (c .if3 .left))
 
 pub descend-spec : {M : Type 1} → statement M
 descend-spec = tie.close (tie.spec

@@ -30,8 +30,8 @@ loop-holds c = (
   (λ g ds q. (ap (λ (x : ℕ). compareFrom x 0 (wrongAt g (settled (length ds) (inputNets g) ds))) (let e : c .settings-of .result ≡ c .settings-of .result - 0 = omega arith in e), λ d. absurd (d refl))),
 )
 
-reach-requires : tie.Need-reach-requires Inv-loop μ-loop
-reach-requires c κs =
+evaluate-requires : tie.Need-evaluate-requires Inv-loop μ-loop
+evaluate-requires c κs =
     let at-loop = c .before .before in
     ((at-loop .before .before .before .before .pre, at-loop .loop .inv .1), λ g ds q. at-loop .loop .inv .2 g ds q .1)
 
@@ -46,7 +46,7 @@ returns c = λ g ds q.
     sym (all-settings (a .h .inputs) (length (g .inputs)) (settings .settings-of .result) (q .holding .ins) (settings .settings-of .ensures) wrong
     ∙ at-loop .loop .inv .2 g ds q .0
     ∙ stop-at wrong s (settings .settings-of .result - s) (omega arith) (found .first-wrong .result)
-    (some-wrong g ds s (reached .reach .last .1 .1 .1 .1 .1 .1 .1 .0) (a .h .outputs) (q .holding .outs) (reached .reach .ensures .1 g ds q) (found .first-wrong .result) (found .first-wrong .ensures) (c .if1 .taken)))
+    (some-wrong g ds s (reached .evaluate .last .1 .1 .1 .1 .1 .1 .1 .0) (a .h .outputs) (q .holding .outs) (reached .evaluate .ensures .1 g ds q) (found .first-wrong .result) (found .first-wrong .ensures) (c .if1 .taken)))
 
 loop-again : tie.Need-loop-again Inv-loop μ-loop
 loop-again c =
@@ -54,14 +54,14 @@ loop-again c =
     let settings = at-loop .before in let a = settings .before .before .before .args in
     let s = at-loop .loop .s in (
       omega arith,
-      reached .reach .ensures .0,
+      reached .evaluate .ensures .0,
       (λ g ds q.
           let wrong = wrongAt g (settled (length ds) (inputNets g) ds) in (
             at-loop .loop .inv .2 g ds q .0
                 ∙ go-on wrong s (settings .settings-of .result - s) (omega arith)
-                (none-wrong g ds s (reached .reach .last .1 .1 .1 .1 .1 .1 .1 .0) (a .h .outputs) (q .holding .outs) (reached .reach .ensures .1 g ds q) (found .first-wrong .result) (found .first-wrong .ensures) (c .if1 .left))
+                (none-wrong g ds s (reached .evaluate .last .1 .1 .1 .1 .1 .1 .1 .0) (a .h .outputs) (q .holding .outs) (reached .evaluate .ensures .1 g ds q) (found .first-wrong .result) (found .first-wrong .ensures) (c .if1 .left))
                 ∙ ap (λ (x : ℕ). compareFrom x (s + 1) wrong) (let e : settings .settings-of .result - s - 1 ≡ settings .settings-of .result - (s + 1) = omega arith in e),
-            (λ d k l. reached .reach .ensures .1 g ds q k l ∙ ap (λ (x : ℕ). wrongWord g ds x k) (let e : s / 64 ≡ (s + 1) / 64 = omega (arith, d) in e)),
+            (λ d k l. reached .evaluate .ensures .1 g ds q k l ∙ ap (λ (x : ℕ). wrongWord g ds x k) (let e : s / 64 ≡ (s + 1) / 64 = omega (arith, d) in e)),
           )),
     )
 
@@ -76,5 +76,5 @@ returns-2 c = λ g ds q.
 
 pub compare-spec : {M : Type 1} → statement M
 compare-spec = tie.close (tie.spec
-    Inv-loop μ-loop (λ c κs. let q = c .before .before .pre .2 in omega (arith, q .few, q .holding .ins)) loop-holds reach-requires
+    Inv-loop μ-loop (λ c κs. let q = c .before .before .pre .2 in omega (arith, q .few, q .holding .ins)) loop-holds evaluate-requires
     first-wrong-requires returns (λ c. search needs) (λ c. omega arith) loop-again returns-2)

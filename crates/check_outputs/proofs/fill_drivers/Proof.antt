@@ -15,7 +15,7 @@ abbrev μ-loop : tie.MeasureT-loop
 driver-word-requires : tie.Need-driver-word-requires Inv-loop μ-loop
 driver-word-requires c κs =
     let at-loop = c .before .before .before .before in let start = at-loop .before .before in
-    subst (Readable (start .args .nets .now) (start .args .refs .now)) (sym (c .before .wide .ensures)) (start .pre .1 (at-loop .loop .p) (omega arith))
+    subst (Readable (start .args .nets .now) (start .args .refs .now)) (sym (c .before .wide .ensures .0)) (start .pre .1 (at-loop .loop .p) (omega arith))
 
 mul-drivers : tie.Need-mul-drivers Inv-loop μ-loop
 mul-drivers c =
@@ -35,10 +35,10 @@ loop-again c =
     let inside : getD (a .order .now) p 0 < length xs = omega (arith, start .pre .1 p (omega arith) .few, at-loop .loop .inv .2) in (
       omega arith,
       (λ values t.
-          subst (λ (v : ℕ). (q : ℕ) → q < p + 1 → getD (set xs v (c .driver-word .result)) (order q) 0 ≡ values (order q)) (sym (wide .wide .ensures))
+          subst (λ (v : ℕ). (q : ℕ) → q < p + 1 → getD (set xs v (c .driver-word .result)) (order q) 0 ≡ values (order q)) (sym (wide .wide .ensures .0))
           (filled-more xs order values p (c .driver-word .result) inside
           (c .driver-word .ensures
-          ∙ ap (driverWord (a .nets .now) (a .refs .now) (a .b) (λ u. getD xs u 0)) (wide .wide .ensures)
+          ∙ ap (driverWord (a .nets .now) (a .refs .now) (a .b) (λ u. getD xs u 0)) (wide .wide .ensures .0)
           ∙ driver-same (a .nets .now) (a .refs .now) (a .order .now) (a .n) (a .b) values t p (omega arith) (λ u. getD xs u 0) (at-loop .loop .inv .1 values t))
           (at-loop .loop .inv .1 values t))),
       length-set xs (wide .wide .result) (c .driver-word .result) ∙ at-loop .loop .inv .2,

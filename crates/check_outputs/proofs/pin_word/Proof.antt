@@ -18,13 +18,13 @@ element-copy-out-result c =
 returns-2 : tie.Need-returns-2
 returns-2 c =
     let wide = c .before .before in let other = wide .before .before in let a = other .before .args in
-    pin-driver (a .refs .now) (a .count) (a .b) (λ u. getD (a .drivers .now) u 0) (a .i) (a .j) (other .if1 .left) (wide .wide .result) (wide .wide .ensures) (c .before .if2 .taken)
+    pin-driver (a .refs .now) (a .count) (a .b) (λ u. getD (a .drivers .now) u 0) (a .i) (a .j) (other .if1 .left) (wide .wide .result) (wide .wide .ensures .0) (c .before .if2 .taken)
 
 returns-3 : tie.Need-returns-3
 returns-3 c =
     let wide = c .before .before in let other = wide .before .before in let a = other .before .args in
     c .input-word .ensures
-    ∙ pin-input (a .refs .now) (a .count) (a .b) (λ u. getD (a .drivers .now) u 0) (a .i) (a .j) (other .if1 .left) (wide .wide .result) (wide .wide .ensures) (c .before .if2 .left)
+    ∙ pin-input (a .refs .now) (a .count) (a .b) (λ u. getD (a .drivers .now) u 0) (a .i) (a .j) (other .if1 .left) (wide .wide .result) (wide .wide .ensures .0) (c .before .if2 .left)
 
 pub pin-word-spec : {M : Type 1} → statement M
 pin-word-spec = tie.close (tie.spec

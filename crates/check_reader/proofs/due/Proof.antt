@@ -12,14 +12,14 @@ returns-2 c =
     let i = c .before in let e = i .before in let a = e .before .before .before .args in
     due-other (a .s .now) (a .w .now) (a .at) (e .if1 .left) (sym (i .is-line .ensures) ∙ not-true _ (c .if2 .taken))
 
-add-t8 : tie.Need-add-t8
-add-t8 c =
+add-at : tie.Need-add-at
+add-at c =
     let i = c .before in let e = i .before in let b = e .before .before .before in let a = b .args in
     let fits : a .at + length (a .w .now) ≤ length (a .s .now) = due-inside (a .s .now) (a .w .now) (a .at) (e .if1 .left) (sym (i .is-line .ensures) ∙ not-false _ (c .if2 .left)) in
     omega (arith, b .pre)
 
-add-t9 : tie.Need-add-t9
-add-t9 c =
+add-at-2 : tie.Need-add-at-2
+add-at-2 c =
     let i = c .before in let e = i .before in let b = e .before .before .before in let a = b .args in
     let fits : a .at + length (a .w .now) ≤ length (a .s .now) = due-inside (a .s .now) (a .w .now) (a .at) (e .if1 .left) (sym (i .is-line .ensures) ∙ not-false _ (c .if2 .left)) in
     omega (arith, b .pre)
@@ -30,4 +30,4 @@ returns-3 c =
     due-fine (a .s .now) (a .w .now) (a .at) (e .if1 .left) (sym (i .is-line .ensures) ∙ not-false _ (c .if2 .left))
 
 pub due-spec : {M : Type 1} → statement M
-due-spec = tie.close (tie.spec returns (λ c κs. search needs) returns-2 add-t8 add-t9 returns-3)
+due-spec = tie.close (tie.spec returns (λ c κs. search needs) returns-2 add-at add-at-2 returns-3)

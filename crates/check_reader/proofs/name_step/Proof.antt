@@ -1,15 +1,15 @@
 -- `check_reader::name_step` meets its contract: each return knows which line was met.
-use Rattle.base.specs.{needs, not-true, not-false, _≡_, refl, sym, _∙_, ap, subst, true≢false, _∷_, ℕ, suc, _+_, _*_, _≤_, _<_, arith}
+use Rattle.base.specs.{needs, _≡_, refl, sym, _∙_, ap, subst, true≢false, ℕ, _+_, _*_, arith}
 use Rattle.base.specs.{length}
-use Rattle.model.specs.{text, holds, fault, next, isLine, readNames}
+use Rattle.model.specs.{text}
 use Rattle.base_words.specs.{putAt}
 use Rattle.base_words.proofs.{length-put}
 use Rattle.base_text.specs.{lineAt}
-use Rattle.check_reader.specs.{gateWords, linesAt}
+use Rattle.check_reader.specs.{gateWords, Due}
 use Rattle.check_reader.proofs.Seen.{stop-from, stop-next, line-next, line-long}
+use Rattle.check_reader.proofs.Lines.{due-past}
 use Rattle.check_reader.proofs.Gathering.{gate-eight}
-use Rattle.check_reader.proofs.Naming.{name-none, name-some, name-long, names-missing, names-broken, names-rowless, row-broken}
-use Rattle.check_reader.proofs.Naming.{row-fine}
+use Rattle.check_reader.proofs.Naming.{name-none, name-some, name-long, names-missing, names-broken, row-broken, row-fine}
 use Rattle.check_reader.proofs.name_step.Statement.{statement}
 use Rattle.check_reader.proofs.name_step.Tie as tie
 
@@ -32,75 +32,50 @@ returns-2 c =
     }
 
 returns-3 : tie.Need-returns-3
-returns-3 c =
-    let f = c .before in let n = f .before in let m = n .before in let e = m .before in let a = e .before .before .before .args in
-    let s = a .s .now in
-    let d = name-some (a .k) (lineAt s (a .at)) (n .name-at .result) (n .name-at .ensures) (f .if2 .left) in
-    let behind = line-next s (a .at) (m .line .result) (m .line .ensures) in
-    record {
-      size = refl;
-      refused = λ _. (refl, (λ left. names-rowless s (a .k) (a .at) (e .if1 .left) (d .0) (d .1) (d .2) (subst (λ (x : ℕ). length s ≤ x) behind (c .if3 .taken)) left));
-      within = λ q. absurd (true≢false q);
-      due = λ q. absurd (true≢false q);
-    }
-
-returns-4 : tie.Need-returns-4
 unfolding text
-returns-4 c =
-    let i = c .before in let t = i .before .before in let f = t .before in let n = f .before in let m = n .before in let e = m .before in
+returns-3 c =
+    let u = c .before in let f = u .before .before in let n = f .before in let m = n .before in let e = m .before in
     let a = e .before .before .before .args in let s = a .s .now in
     let d = name-some (a .k) (lineAt s (a .at)) (n .name-at .result) (n .name-at .ensures) (f .if2 .left) in
     let behind = line-next s (a .at) (m .line .result) (m .line .ensures) in
+    let row = subst (λ (x : ℕ). Due s (text "1 1") x (u .due .result)) behind (u .due .ensures) in
     record {
       size = refl;
-      refused = λ _. (
-        refl,
-        (λ left.
-            row-broken s (a .k) (a .at) (e .if1 .left) (d .0) (d .1) (d .2) (subst (λ (x : ℕ). x < length s) behind (t .if3 .left))
-            (sym (ap (λ (x : ℕ). isLine (text "1 1") (lineAt s x)) behind) ∙ sym (i .is-line .ensures) ∙ not-true _ (c .if4 .taken)) left
-            ∙ ap (λ (x : ℕ). fault 32 x) (sym behind)),
-      );
-      within = λ q. absurd (true≢false q);
-      due = λ q. absurd (true≢false q);
+      refused = λ _. (refl, row-broken s (a .k) (a .at) (e .if1 .left) (d .0) (d .1) (d .2) (u .due .result) row (c .if3 .taken));
+      within = λ q. absurd (true≢false (sym (c .if3 .taken) ∙ q));
+      due = λ q. absurd (true≢false (sym (c .if3 .taken) ∙ q));
     }
-
-wire-requires : tie.Need-wire-requires
-wire-requires c κs = let t = c .before .before .before .before in let b = t .before .before .before .before .before .before .before in b .pre .0
 
 store-requires : tie.Need-store-requires
 store-requires c κs =
-    let e = c .before .before .before .before .before .before .before .before .before in let b = e .before .before .before in
+    let u = c .before .before .before in let e = u .before .before .before .before .before in let b = e .before .before .before in
     omega (arith, b .pre .1, b .pre .2, b .pre .3, e .if1 .left)
 
-returns-5 : tie.Need-returns-5
+returns-4 : tie.Need-returns-4
 unfolding text lineAt
-returns-5 c =
-    let st = c .before .before in let w = st .before in let x = w .before .before in let i = x .before in let t = i .before .before in
-    let f = t .before in let n = f .before in let m = n .before in let e = m .before in let b = e .before .before .before in
+returns-4 c =
+    let st = c .before .before in let w = st .before in let x = w .before .before in let u = x .before in
+    let f = u .before .before in let n = f .before in let m = n .before in let e = m .before in let b = e .before .before .before in
     let a = b .args in let s = a .s .now in
     let d = name-some (a .k) (lineAt s (a .at)) (n .name-at .result) (n .name-at .ensures) (f .if2 .left) in
     let behind = line-next s (a .at) (m .line .result) (m .line .ensures) in
+    let row = subst (λ (y : ℕ). Due s (text "1 1") y (u .due .result)) behind (u .due .ensures) in
     let puts : st .store .last .0 ≡ putAt (a .nets .now) (8 * a .i) (gateWords (a .at) (w .wire .result)) = st .store .ensures in
     record {
       size = ap length puts ∙ length-put (a .nets .now) (8 * a .i) (gateWords (a .at) (w .wire .result)) (omega (arith, b .pre .1, b .pre .2, b .pre .3, e .if1 .left, gate-eight (a .at) (w .wire .result)));
-      refused = λ q. absurd (true≢false (sym q));
+      refused = λ q. absurd (true≢false (sym q ∙ x .if3 .left));
       within = λ _. e .if1 .left;
       due = λ _. (
         d .0,
         puts ∙ ap (putAt (a .nets .now) (8 * a .i)) (ap (gateWords (a .at)) (w .wire .ensures) ∙ d .3),
-        refl,
         (let y : m .line .result .next ≡ m .line .result .stop + lineAt s (a .at) .ending = stop-next s (a .at) (m .line .result) (m .line .ensures) in
             let z : lineAt s (a .at) .ending ≡ 1 = d .2 in
-            omega (arith, stop-from s (a .at) (m .line .result) (m .line .ensures), name-long (a .k) (lineAt s (a .at)) (d .0) (d .1), line-long s (a .at) (m .line .result) (m .line .ensures))),
-        (λ left.
-            row-fine s (a .k) (a .at) (e .if1 .left) (d .0) (d .1) (d .2) (subst (λ (v : ℕ). v < length s) behind (t .if3 .left))
-            (sym (ap (λ (v : ℕ). isLine (text "1 1") (lineAt s v)) behind) ∙ sym (i .is-line .ensures) ∙ not-false _ (x .if4 .left)) left
-            ∙ ap (λ (v : ℕ). next (readNames (length s) (suc (a .k)) left (linesAt s (v + 4))) (λ ds. holds (d .0 ∷ ds))) (sym behind)),
+            omega (arith, due-past s (text "1 1") (m .line .result .next) (u .due .result) (u .due .ensures) (x .if3 .left), stop-from s (a .at) (m .line .result) (m .line .ensures), name-long (a .k) (lineAt s (a .at)) (d .0) (d .1), line-long s (a .at) (m .line .result) (m .line .ensures))),
+        row-fine s (a .k) (a .at) (e .if1 .left) (d .0) (d .1) (d .2) (u .due .result) row (x .if3 .left),
       );
     }
 
 pub name-step-spec : {M : Type 1} → statement M
 name-step-spec = tie.close (tie.spec
-    returns (λ c κs. search needs) name-at-requires returns-2 returns-3 (λ c. search needs)
-    (λ c κs. let t = c .before in omega (arith, t .if3 .left)) returns-4 wire-requires store-requires (λ c. search needs)
-    (λ c. search needs) (λ c. search needs) returns-5)
+    returns (λ c κs. search needs) name-at-requires returns-2 (λ c. search needs) (λ c κs. search needs) returns-3 (λ c κs. search needs)
+    store-requires (λ c. search needs) returns-4)

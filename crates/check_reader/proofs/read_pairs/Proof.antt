@@ -23,8 +23,8 @@ name-step-requires c κs =
     let size : length (l .loop .nets) ≡ length (b .args .nets .now) = l .loop .inv .2 .size in
     (omega (arith, b .pre .0, c .before .loop-test .taken), l .loop .inv .1, omega (arith, b .pre .3), b .pre .1)
 
-add-t14 : tie.Need-add-t14 Inv-loop μ-loop
-add-t14 c =
+add-count : tie.Need-add-count Inv-loop μ-loop
+add-count c =
     let l = c .before .before .before .before .before .before in
     let size : length (l .loop .nets) ≡ length (l .before .before .before .args .nets .now) = l .loop .inv .2 .size in
     omega (arith, l .loop .inv .1)
@@ -48,7 +48,7 @@ loop-again c =
     let t = c .before .before .before in let l = t .before .before .before in let b = l .before .before .before in
     let a = b .args in (
       omega (arith, t .before .before .loop-test .taken),
-      (let further : l .loop .at + 6 ≤ t .name-step .result .at = t .name-step .ensures .due (c .if1 .left) .3 in omega (arith, l .loop .inv .1)),
+      (let further : l .loop .at + 6 ≤ t .name-step .result .at = t .name-step .ensures .due (c .if1 .left) .2 in omega (arith, l .loop .inv .1)),
       pairs-step (a .s .now) (a .outs) (a .from) (a .first) (l .loop .at) (l .loop .k) (a .nets .now) (l .loop .nets) (l .loop .inv .2) (t .before .before .loop-test .taken)
           (t .name-step .result) _ (t .name-step .ensures) (omega (arith, b .pre .1, b .pre .3, l .loop .inv .1, t .name-step .ensures .within (c .if1 .left))) (c .if1 .left),
     )
@@ -60,6 +60,6 @@ returns-2 c =
 
 pub read-pairs-spec : {M : Type 1} → statement M
 read-pairs-spec = tie.close (tie.spec
-    Inv-loop μ-loop loop-holds add-name-step name-step-requires add-t14 same-length returns add-k
+    Inv-loop μ-loop loop-holds add-name-step name-step-requires add-count same-length returns add-k
     (λ c. omega (arith, c .before .before .before .before .before .loop-test .taken)) loop-again
     (λ c. omega (arith, c .before .loop .inv .1, c .loop-test .left)) (λ c. c .before .loop .inv .2 .size) returns-2)

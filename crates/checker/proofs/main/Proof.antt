@@ -18,22 +18,22 @@ counted-graph c =
     let l = c .before .before .before .before .load2 in
     subst (λ (a : Loaded). Loaded-in a (l .last .1 .1 .0)) (c .before .graph-read .given .1) (l .ensures)
 
-counted-netlist : (c : tie.After-known-told3) → Loaded-in (Bytes (c .before .netlist-read .given .0 .0)) (c .before .before .before .before .load3 .last .1 .1 .0)
+counted-netlist : (c : tie.After-known-told3) → Loaded-in (Bytes (c .before .blif-read .given .0 .0)) (c .before .before .before .before .load3 .last .1 .1 .0)
 counted-netlist c =
     let l = c .before .before .before .before .load3 in
-    subst (λ (a : Loaded). Loaded-in a (l .last .1 .1 .0)) (c .before .netlist-read .given .1) (l .ensures)
+    subst (λ (a : Loaded). Loaded-in a (l .last .1 .1 .0)) (c .before .blif-read .given .1) (l .ensures)
 
 array-share-prefix-cells : tie.Need-array-share-prefix-cells
-array-share-prefix-cells c = counted-cells (c .before .before .before .before .before .before .before .before .before .before .before .before .before .before .before .before) .0
+array-share-prefix-cells c = let at-graph = c .before .before .before .before .before .before .before .before in counted-cells (at-graph .before .before .before .before .before .before .before .before) .0
 
 slice-aggregate-check-files : tie.Need-slice-aggregate-check-files
-slice-aggregate-check-files c = counted-cells (c .before .before .before .before .before .before .before .before .before .before .before .before .before .before .before .before .before) .1
+slice-aggregate-check-files c = let at-graph = c .before .before .before .before .before .before .before .before .before in counted-cells (at-graph .before .before .before .before .before .before .before .before) .1
 
 array-share-prefix-graph : tie.Need-array-share-prefix-graph
 array-share-prefix-graph c = counted-graph (c .before .before .before .before .before .before .before .before .before) .0
 
 slice-aggregate-check-files-2 : tie.Need-slice-aggregate-check-files-2
-slice-aggregate-check-files-2 c = counted-graph (c .before .before .before .before .before .before .before .before .before .before) .1
+slice-aggregate-check-files-2 c = let at-netlist = c .before .before in counted-graph (at-netlist .before .before .before .before .before .before .before .before) .1
 
 array-share-prefix-netlist : tie.Need-array-share-prefix-netlist
 array-share-prefix-netlist c = counted-netlist (c .before .before) .0
@@ -49,9 +49,4 @@ check-files-requires c κs = subst Enough (sym (length-replicate {A = ℕ} 10362
 
 pub main-spec : {M : Type 1} → statement M
 main-spec = tie.close (tie.spec
-    (λ c. search needs) (λ c. search needs) (λ c. search needs) (λ c κs. search needs) (λ c. search needs) (λ c. search needs)
-    (λ c. search needs) (λ c. search needs) (λ c. search needs) (λ c. search needs) (λ c κs. search needs) (λ c. search needs)
-    (λ c. search needs) (λ c. search needs) (λ c. search needs) (λ c. search needs) (λ c. search needs) (λ c κs. search needs)
-    (λ c. search needs) (λ c. search needs) (λ c. search needs) array-share-prefix-cells slice-aggregate-check-files
-    array-share-prefix-graph slice-aggregate-check-files-2 array-share-prefix-netlist slice-aggregate-check-files-3
-    slice-aggregate-check-files-4 check-files-requires (λ c. search needs))
+    (λ c. search needs) (λ c. search needs) (λ c. search needs) (λ c κs. search needs) (λ c. search needs) (λ c. search needs) (λ c. search needs) (λ c. search needs) (λ c. search needs) (λ c. search needs) (λ c κs. search needs) (λ c. search needs) (λ c. search needs) (λ c. search needs) (λ c. search needs) (λ c. search needs) (λ c. search needs) (λ c κs. search needs) (λ c. search needs) (λ c. search needs) (λ c. search needs) array-share-prefix-cells slice-aggregate-check-files array-share-prefix-graph slice-aggregate-check-files-2 array-share-prefix-netlist slice-aggregate-check-files-3 slice-aggregate-check-files-4 check-files-requires (λ c. search needs))

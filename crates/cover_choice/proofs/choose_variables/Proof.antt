@@ -47,9 +47,9 @@ choose-variable-requires c κs =
 
 loop-again : tie.Need-loop-again Inv-loop μ-loop
 loop-again c =
-    let s = c .before .before .before .before .before .before .before .before .before .before in
-    let a = s .args in
     let l = c .before .before .before .before .before .before .before in
+    let s = l .before .before .before in
+    let a = s .args in
     let t = c .before .before in
     let i : ℕ = l .loop .i in (
       omega (arith, c .before .before .before .before .before .before .loop-test .taken),

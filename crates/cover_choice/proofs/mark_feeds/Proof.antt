@@ -29,10 +29,11 @@ mark-needed-requires c κs =
 
 returns : tie.Need-returns
 returns c cells r pins =
-    let s = c .before .before .before .before .before .before .before .before .before .before in
+    let told = c .before .before .before .before .before in
+    let s = told .before .before .before .before .before in
     let a = s .args in
-    let x = c .before .before .before .before .before .s .given .0 .0 in
-    let e = ap (λ (p : Phase). p .source) (sym (c .before .before .before .before .before .before .before .phase .ensures)) ∙ c .before .before .before .before .before .s .given .1 in
+    let x = told .s .given .0 .0 in
+    let e = ap (λ (p : Phase). p .source) (sym (told .before .before .phase .ensures)) ∙ told .s .given .1 in
     let i = r .matches (a .l) (s .pre .1) x e in
     c .before .before .mark-match .ensures cells (r .usable) i pins
     ∙ ap (putAll (a .work .now) (a .m)) (sym (feeds-matched cells (a .work .now) (a .m) (a .l) x i e))
@@ -40,9 +41,10 @@ returns c cells r pins =
 returns-2 : tie.Need-returns-2
 unfolding putAll
 returns-2 c cells r pins =
-    let a = c .before .before .before .before .before .before .before .before .before .before .args in
-    let x = c .before .before .before .before .before .enum-told .given .0 .0 in
-    let e = ap (λ (p : Phase). p .source) (sym (c .before .before .before .before .before .before .before .phase .ensures)) ∙ c .before .before .before .before .before .enum-told .given .1 in
+    let told = c .before .before .before .before .before in
+    let a = told .before .before .before .before .before .args in
+    let x = told .enum-told .given .0 .0 in
+    let e = ap (λ (p : Phase). p .source) (sym (told .before .before .phase .ensures)) ∙ told .enum-told .given .1 in
     c .before .before .mark-needed .ensures
     ∙ ap (putNeeded (a .work .now) (a .m)) (c .before .before .before .opposite .ensures .0)
     ∙ ap (putAll (a .work .now) (a .m)) (sym (feeds-inverted cells (a .work .now) (a .m) (a .l) x e))

@@ -30,7 +30,7 @@ mark-pins-requires c κs =
 returns : tie.Need-returns
 returns c cells ok i pins =
     let t = c .before .before .before in
-    let s = c .before .before .before .before .before .before .before .before .before .before in
+    let s = t .before .before .before .before .before .before .before in
     let a = s .args in
     let cut = t .before .before .before .before .load-cut in
     let e : t .wide .result ≡ cellAt cells (a .x .cell) .pins =

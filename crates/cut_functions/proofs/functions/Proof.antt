@@ -1,12 +1,69 @@
--- `cut_functions::functions` meets its contract: the pass, with nothing noted yet.
-use Rattle.base.specs.{ℕ, arith, length-replicate, getD-replicate, needs}
+-- `cut_functions::functions` meets its contract. The invariant: the functions of the first i variables are stored, and the notes are below those of the next walk.
+-- The measure is the variables that are left.
+use Rattle.base.specs.{_≡_, refl, ap, _∙_, ℕ, _+_, _-_, _*_, _≤_, arith, needs, length, length-replicate, getD-replicate}
+use Rattle.model.specs.{cutLimit}
+use Rattle.cut_functions.specs.{Early, filled}
+use Rattle.cut_functions.proofs.Fills.{pass-begin, pass-room, pass-reached, pass-turn}
 use Rattle.cut_functions.proofs.functions.Statement.{statement}
 use Rattle.cut_functions.proofs.functions.Tie as tie
 
-fill-requires : tie.Need-fill-requires
-fill-requires c κs =
-    let s = c .before .before .before in
-    (s .pre, record { long = length-replicate {A = ℕ} 4096 0; before = λ u h. omega (arith, getD-replicate {A = ℕ} 4096 u 0 0 (omega (arith, s .pre .placed .room .small))) })
+abbrev Inv-loop : tie.InvT-loop
+Inv-loop work₀ m placed notes₀ base₀ i₀ work notes base i =
+    (i ≤ placed) × (length work ≡ length work₀) × (work ≡ filled work₀ m i) × Early m base notes × (base ≤ 65536 + 65536 * cutLimit * i)
+
+abbrev μ-loop : tie.MeasureT-loop
+μ-loop work₀ m placed notes₀ base₀ i₀ work notes base i = placed - i
+
+loop-holds : tie.Need-loop-holds Inv-loop μ-loop
+loop-holds c =
+    let s = c .before in
+    (omega arith, refl, pass-begin (s .args .work .now) (s .args .m) (s .args .placed) (s .pre), record { long = length-replicate {A = ℕ} 4096 0; before = λ u h. omega (arith, getD-replicate {A = ℕ} 4096 u 0 0 (omega (arith, s .pre .placed .room .small))) }, omega arith)
+
+slot-requires : tie.Need-slot-requires Inv-loop μ-loop
+slot-requires c κs =
+    let turn = c .before in
+    let l = turn .before in
+    let s = l .before .before in
+    let a = s .args in
+    (pass-room (a .work .now) (a .m) (a .placed) (s .pre) (l .loop .i) (l .loop .inv .0) (l .loop .work) (l .loop .inv .2), omega (arith, s .pre .within, turn .loop-test .taken))
+
+fill-node-requires : tie.Need-fill-node-requires Inv-loop μ-loop
+fill-node-requires c κs =
+    let k = c .before .before in
+    let turn = k .before .before in
+    let l = turn .before in
+    let s = l .before .before in
+    let a = s .args in (
+      pass-reached (a .work .now) (a .m) (a .placed) (s .pre) (l .loop .i) (turn .loop-test .taken) (l .loop .work) (l .loop .inv .2) (k .slot .result) (k .slot .ensures),
+      l .loop .inv .3,
+      omega (arith, l .loop .inv .4, s .pre .within, s .pre .placed .room .small, turn .loop-test .taken),
+    )
+
+loop-again : tie.Need-loop-again Inv-loop μ-loop
+loop-again c =
+    let done = c .before .before in
+    let k = done .before .before .before in
+    let turn = k .before .before in
+    let l = turn .before in
+    let s = l .before .before in
+    let a = s .args in (
+      omega (arith, turn .loop-test .taken),
+      done .fill-node .kept .0 ∙ l .loop .inv .1,
+      pass-turn (a .work .now) (a .m) (a .placed) (s .pre) (l .loop .i) (turn .loop-test .taken) (l .loop .work) (l .loop .inv .2) (k .slot .result) (k .slot .ensures) (done .fill-node .last .0)
+          (done .fill-node .ensures .0),
+      done .fill-node .ensures .1 .0,
+      omega (arith, l .loop .inv .4, done .fill-node .ensures .1 .1),
+    )
+
+returns : tie.Need-returns Inv-loop μ-loop
+returns c =
+    let l = c .before in
+    let s = l .before .before in
+    let a = s .args in
+    let all : l .loop .i ≡ a .placed = omega (arith, l .loop .inv .0, c .loop-test .left) in
+    l .loop .inv .2 ∙ ap (filled (a .work .now) (a .m)) all
 
 pub functions-spec : {M : Type 1} → statement M
-functions-spec = tie.close (tie.spec fill-requires (λ c. search needs) (λ c. search needs))
+functions-spec = tie.close (tie.spec
+    Inv-loop μ-loop loop-holds slot-requires fill-node-requires (λ c. search needs) (λ c. search needs) loop-again (λ c. search needs)
+    returns)

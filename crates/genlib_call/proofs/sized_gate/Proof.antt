@@ -1,5 +1,5 @@
 -- `genlib_call::sized_gate` meets its contract: the pins, the depth, and the gate.
-use Rattle.base.specs.{_≡_, sym, ap, subst, _∙_, true, List, ℕ, _≤_, _<_, arith, length, drop, not-true, not-false, needs}
+use Rattle.base.specs.{_≡_, sym, ap, subst, _∙_, ⊎-elim, true, List, ℕ, _≤_, _<_, arith, length, drop, not-true, not-false, needs}
 use Rattle.model.specs.{tokens, pinsOf, shallow}
 use Rattle.genlib_expression.specs.{namesAt}
 use Rattle.genlib_expression.proofs.{length-names}
@@ -28,15 +28,11 @@ returns : tie.Need-returns
 returns c =
     let f = c .before .before in
     let s = start f in
-    let many = f .find-pins .ensures .1 .many (c .if1 .taken) in
-    (tt, sym (sized-many (lines s) (ts s) (s .args .at) (subst (λ (x : List (List ℕ)). 4 < length (pinsOf x)) (f .before .nth .ensures .rest) many)))
-
-returns-2 : tie.Need-returns-2
-returns-2 c =
-    let e = c .before .before in
-    let f = e .before .before in
-    let s = start f in
-    (tt, sym (sized-deep (lines s) (ts s) (s .args .at) (few f (e .if1 .left)) (sym (c .before .is-shallow .ensures ∙ ap (shallow 0) (f .before .nth .ensures .rest)) ∙ not-true _ (c .if2 .taken))))
+    let rest = f .before .nth .ensures .rest in
+    ⊎-elim
+    (λ y. (tt, sym (sized-many (lines s) (ts s) (s .args .at) (subst (λ (x : List (List ℕ)). 4 < length (pinsOf x)) rest (f .find-pins .ensures .1 .many (y .taken))))))
+    (λ y. (tt, sym (sized-deep (lines s) (ts s) (s .args .at) (few f (y .0 .left)) (sym (y .1 .ensures ∙ ap (shallow 0) rest) ∙ not-true _ (y .2 .taken)))))
+    (c .if1 .came)
 
 gate-of-requires : tie.Need-gate-of-requires
 gate-of-requires c κs =
@@ -45,8 +41,8 @@ gate-of-requires c κs =
     let s = start f in
     (s .pre .0, s .pre .1, record { four = e .if1 .left; names = names f (e .if1 .left) })
 
-returns-3 : tie.Need-returns-3
-returns-3 c =
+returns-2 : tie.Need-returns-2
+returns-2 c =
     let q = c .before in
     let e = q .before .before in
     let f = e .before .before in
@@ -57,4 +53,4 @@ returns-3 c =
 
 pub sized-gate-spec : {M : Type 1} → statement M
 sized-gate-spec = tie.close (tie.spec
-    (λ c κs. search needs) (λ c κs. search needs) returns (λ c κs. search needs) returns-2 gate-of-requires returns-3)
+    (λ c κs. search needs) (λ c κs. search needs) (λ c κs. search needs) returns gate-of-requires returns-2)

@@ -3,9 +3,10 @@
 -- here on (`Values.Chained`).
 use borrow.Fn.Kinds.{In}
 use borrow.Fn.PlainCycle.{Measures, is, falls, and}
-use Rattle.base.specs.{needs, ℕ, _<_, _≤_, _+_, _-_, _*_, le-refl, arith, refl, sym, ap, subst, _∙_, some, Bool, true, false, _&&_, _||_}
+use Rattle.base.specs.{needs, ℕ, _<_, _≤_, _+_, _-_, _*_, le-refl, arith, _≡_, bitAnd, bitOr, refl, sym, ap, subst, _∙_, some, Bool, true, false, _&&_, _||_}
 use Rattle.base.specs.{List, length}
-use Rattle.model.specs.{bit, Taken, nameValue, factorOf, productOf, sumOf}
+use Rattle.base_truth.proofs.{value-and, value-or}
+use Rattle.model.specs.{bit, value, Taken, nameValue, factorOf, productOf, sumOf}
 use Rattle.model.specs.GenlibFormula.{within}
 use Rattle.genlib_expression.specs.declared.Pins.{Pins}
 use Rattle.genlib_expression.specs.{namesAt, restAt}
@@ -24,9 +25,7 @@ use Rattle.genlib_expression.proofs.sum.Reads as sum
 use Rattle.genlib_expression.proofs.sum.Kinds as sum-kinds
 use Rattle.genlib_expression.proofs.+factor+product+sum.Lts-sum as sum-lts
 use Rattle.genlib_expression.proofs.behind.Reads as behind-reads
-use Rattle.genlib_expression.proofs.both.Reads as both-reads
 use Rattle.genlib_expression.proofs.close.Reads as close-reads
-use Rattle.genlib_expression.proofs.either.Reads as either-reads
 use Rattle.genlib_expression.proofs.name.Reads as name-reads
 use Rattle.genlib_expression.proofs.turn.Reads as turn-reads
 
@@ -62,10 +61,10 @@ abbrev factor-claims : ℕ → factor-lts.Claims
 factor-claims t = (turn-reads.Asked, turn-reads.Learnt, behind-reads.Asked, behind-reads.Learnt, name-reads.Asked, name-reads.Learnt, sum-below t, sum.Post, close-reads.Asked, close-reads.Learnt)
 
 abbrev product-claims : ℕ → product-lts.Claims
-product-claims t = (factor-below t, factor.Post, both-reads.Asked, both-reads.Learnt, behind-reads.Asked, behind-reads.Learnt)
+product-claims t = (factor-below t, factor.Post, behind-reads.Asked, behind-reads.Learnt)
 
 abbrev sum-claims : ℕ → sum-lts.Claims
-sum-claims t = (product-below t, product.Post, either-reads.Asked, either-reads.Learnt, behind-reads.Asked, behind-reads.Learnt)
+sum-claims t = (product-below t, product.Post, behind-reads.Asked, behind-reads.Learnt)
 
 factor-turn-requires : (t : ℕ) → factor-lts.Need-turn-requires (factor-claims t) (factor-at t) factor.Post
 factor-turn-requires t c κs = c .before .pre .1 .0
@@ -140,6 +139,15 @@ factor-returns-4 t c =
           (within-sum (value row) k depth _ (m .before .if2 .left) ∙ known w row _ _ _ (c .enum-told .given .1) (m .sum .ensures .1 row i k h))),
     )
 
+-- two tables joined, row by row
+and-row : (a b row : ℕ) → bit (bitAnd a b) row ≡ (bit a row && bit b row)
+unfolding value
+and-row a b row = value-and a b row
+
+or-row : (a b row : ℕ) → bit (bitOr a b) row ≡ (bit a row || bit b row)
+unfolding value
+or-row a b row = value-or a b row
+
 -- what is left of the product from `at` on, with the value so far
 abbrev product-part : List ℕ → Pins → ℕ → ℕ → ℕ → List (List ℕ) → Taken
 product-part w p row depth k = factorOf (nameValue (namesAt w p) row) (within (nameValue (namesAt w p) row) k depth)
@@ -162,43 +170,43 @@ product-loop-holds t c =
 product-factor-requires : (t : ℕ) → product-lts.Need-factor-requires (product-claims t) (product-at t) product.Post product-Inv-loop product-μ-loop
 product-factor-requires t c κs = (omega (arith, c .before .before .pre .0), (c .loop .inv .1, c .before .before .pre .1 .1))
 
-product-returns : (t : ℕ) → product-lts.Need-returns (product-claims t) (product-at t) product.Post product-Inv-loop product-μ-loop
+product-returns-2 : (t : ℕ) → product-lts.Need-returns-2 (product-claims t) (product-at t) product.Post product-Inv-loop product-μ-loop
 unfolding productOf
-product-returns t c =
-    let s = c .before .before .before .before .before .before .before .before .before in
+product-returns-2 t c =
+    let s = c .before .before .before .before .before .before .before .before in
     let w = s .args .w .now in
-    let l = c .before .before .before .before .before .before .before .loop in
-    let g = c .before .before .before .before .u .given in
+    let l = c .before .before .before .before .before .before .loop in
+    let g = c .before .before .before .u .given in
     let no = behind-no w _ 42 _ (c .before .behind .ensures) (c .if1 .taken) in
-    let e = ends _ _ _ _ _ (g .1) (c .before .before .before .before .before .before .factor .ensures .0) in (
+    let e = ends _ _ _ _ _ (g .1) (c .before .before .before .before .before .factor .ensures .0) in (
       (omega (arith, l .inv .0, e .0), e .1),
-      λ row i k h. ap (λ (x : Bool). some (x, restAt w (g .0 .1 .0))) (c .before .before .both .ensures row i)
-          ∙ sym (chain-end 42 _&&_ (product-part w (s .args .p) row (s .args .depth) k) w k true (s .args .from) (bit (l .v) row) (l .at) (l .inv .1) (l .inv .2 row i k h) (bit (g .0 .0) row) (g .0 .1 .0) (known w row _ _ _ (g .1) (c .before .before .before .before .before .before .factor .ensures .1 row i k h)) no),
+      λ row i k h. ap (λ (x : Bool). some (x, restAt w (g .0 .1 .0))) (and-row (l .v) (g .0 .0) row)
+          ∙ sym (chain-end 42 _&&_ (product-part w (s .args .p) row (s .args .depth) k) w k true (s .args .from) (bit (l .v) row) (l .at) (l .inv .1) (l .inv .2 row i k h) (bit (g .0 .0) row) (g .0 .1 .0) (known w row _ _ _ (g .1) (c .before .before .before .before .before .factor .ensures .1 row i k h)) no),
     )
 
 product-loop-less : (t : ℕ) → product-lts.Need-loop-less (product-claims t) (product-at t) product.Post product-Inv-loop product-μ-loop
 product-loop-less t c =
-    let y = behind-yes (c .before .before .before .before .before .before .before .before .before .args .w .now) _ 42 _ (c .before .behind .ensures) (c .if1 .left) in
-    let e = ends _ _ _ _ _ (c .before .before .before .before .u .given .1) (c .before .before .before .before .before .before .factor .ensures .0) in
+    let y = behind-yes (c .before .before .before .before .before .before .before .before .args .w .now) _ 42 _ (c .before .behind .ensures) (c .if1 .left) in
+    let e = ends _ _ _ _ _ (c .before .before .before .u .given .1) (c .before .before .before .before .before .factor .ensures .0) in
     omega arith
 
 product-loop-again : (t : ℕ) → product-lts.Need-loop-again (product-claims t) (product-at t) product.Post product-Inv-loop product-μ-loop
 product-loop-again t c =
-    let s = c .before .before .before .before .before .before .before .before .before in
+    let s = c .before .before .before .before .before .before .before .before in
     let w = s .args .w .now in
-    let l = c .before .before .before .before .before .before .before .loop in
-    let g = c .before .before .before .before .u .given in
+    let l = c .before .before .before .before .before .before .loop in
+    let g = c .before .before .before .u .given in
     let y = behind-yes w _ 42 _ (c .before .behind .ensures) (c .if1 .left) in
-    let e = ends _ _ _ _ _ (g .1) (c .before .before .before .before .before .before .factor .ensures .0) in (
+    let e = ends _ _ _ _ _ (g .1) (c .before .before .before .before .before .factor .ensures .0) in (
       omega (arith, l .inv .0, e .0, y .2),
       y .3,
-      λ row i k h. subst (λ (x : Bool). product-Chained w (s .args .p) row (s .args .depth) k (s .args .from) x (c .before .behind .result)) (sym (c .before .before .both .ensures row i))
-          (chain-on 42 _&&_ (product-part w (s .args .p) row (s .args .depth) k) w k true (s .args .from) (bit (l .v) row) (l .at) (l .inv .1) (l .inv .2 row i k h) (bit (g .0 .0) row) (g .0 .1 .0) (known w row _ _ _ (g .1) (c .before .before .before .before .before .before .factor .ensures .1 row i k h)) (c .before .behind .result) (y .0) (y .1) (omega (arith, e .0, y .2))),
+      λ row i k h. subst (λ (x : Bool). product-Chained w (s .args .p) row (s .args .depth) k (s .args .from) x (c .before .behind .result)) (sym (and-row (l .v) (g .0 .0) row))
+          (chain-on 42 _&&_ (product-part w (s .args .p) row (s .args .depth) k) w k true (s .args .from) (bit (l .v) row) (l .at) (l .inv .1) (l .inv .2 row i k h) (bit (g .0 .0) row) (g .0 .1 .0) (known w row _ _ _ (g .1) (c .before .before .before .before .before .factor .ensures .1 row i k h)) (c .before .behind .result) (y .0) (y .1) (omega (arith, e .0, y .2))),
     )
 
-product-returns-2 : (t : ℕ) → product-lts.Need-returns-2 (product-claims t) (product-at t) product.Post product-Inv-loop product-μ-loop
+product-returns : (t : ℕ) → product-lts.Need-returns (product-claims t) (product-at t) product.Post product-Inv-loop product-μ-loop
 unfolding productOf
-product-returns-2 t c =
+product-returns t c =
     let s = c .before .before .before .before .before in
     let w = s .args .w .now in
     let l = c .before .before .before .loop in
@@ -226,43 +234,43 @@ sum-loop-holds t c =
 sum-product-requires : (t : ℕ) → sum-lts.Need-product-requires (sum-claims t) (sum-at t) sum.Post sum-Inv-loop sum-μ-loop
 sum-product-requires t c κs = (omega (arith, c .before .before .pre .0), (c .loop .inv .1, c .before .before .pre .1 .1))
 
-sum-returns : (t : ℕ) → sum-lts.Need-returns (sum-claims t) (sum-at t) sum.Post sum-Inv-loop sum-μ-loop
+sum-returns-2 : (t : ℕ) → sum-lts.Need-returns-2 (sum-claims t) (sum-at t) sum.Post sum-Inv-loop sum-μ-loop
 unfolding sumOf
-sum-returns t c =
-    let s = c .before .before .before .before .before .before .before .before .before in
+sum-returns-2 t c =
+    let s = c .before .before .before .before .before .before .before .before in
     let w = s .args .w .now in
-    let l = c .before .before .before .before .before .before .before .loop in
-    let g = c .before .before .before .before .u .given in
+    let l = c .before .before .before .before .before .before .loop in
+    let g = c .before .before .before .u .given in
     let no = behind-no w _ 43 _ (c .before .behind .ensures) (c .if1 .taken) in
-    let e = ends _ _ _ _ _ (g .1) (c .before .before .before .before .before .before .product .ensures .0) in (
+    let e = ends _ _ _ _ _ (g .1) (c .before .before .before .before .before .product .ensures .0) in (
       (omega (arith, l .inv .0, e .0), e .1),
-      λ row i k h. ap (λ (x : Bool). some (x, restAt w (g .0 .1 .0))) (c .before .before .either .ensures row i)
-          ∙ sym (chain-end 43 _||_ (sum-part w (s .args .p) row (s .args .depth) k) w k false (s .args .from) (bit (l .v) row) (l .at) (l .inv .1) (l .inv .2 row i k h) (bit (g .0 .0) row) (g .0 .1 .0) (known w row _ _ _ (g .1) (c .before .before .before .before .before .before .product .ensures .1 row i k h)) no),
+      λ row i k h. ap (λ (x : Bool). some (x, restAt w (g .0 .1 .0))) (or-row (l .v) (g .0 .0) row)
+          ∙ sym (chain-end 43 _||_ (sum-part w (s .args .p) row (s .args .depth) k) w k false (s .args .from) (bit (l .v) row) (l .at) (l .inv .1) (l .inv .2 row i k h) (bit (g .0 .0) row) (g .0 .1 .0) (known w row _ _ _ (g .1) (c .before .before .before .before .before .product .ensures .1 row i k h)) no),
     )
 
 sum-loop-less : (t : ℕ) → sum-lts.Need-loop-less (sum-claims t) (sum-at t) sum.Post sum-Inv-loop sum-μ-loop
 sum-loop-less t c =
-    let y = behind-yes (c .before .before .before .before .before .before .before .before .before .args .w .now) _ 43 _ (c .before .behind .ensures) (c .if1 .left) in
-    let e = ends _ _ _ _ _ (c .before .before .before .before .u .given .1) (c .before .before .before .before .before .before .product .ensures .0) in
+    let y = behind-yes (c .before .before .before .before .before .before .before .before .args .w .now) _ 43 _ (c .before .behind .ensures) (c .if1 .left) in
+    let e = ends _ _ _ _ _ (c .before .before .before .u .given .1) (c .before .before .before .before .before .product .ensures .0) in
     omega arith
 
 sum-loop-again : (t : ℕ) → sum-lts.Need-loop-again (sum-claims t) (sum-at t) sum.Post sum-Inv-loop sum-μ-loop
 sum-loop-again t c =
-    let s = c .before .before .before .before .before .before .before .before .before in
+    let s = c .before .before .before .before .before .before .before .before in
     let w = s .args .w .now in
-    let l = c .before .before .before .before .before .before .before .loop in
-    let g = c .before .before .before .before .u .given in
+    let l = c .before .before .before .before .before .before .loop in
+    let g = c .before .before .before .u .given in
     let y = behind-yes w _ 43 _ (c .before .behind .ensures) (c .if1 .left) in
-    let e = ends _ _ _ _ _ (g .1) (c .before .before .before .before .before .before .product .ensures .0) in (
+    let e = ends _ _ _ _ _ (g .1) (c .before .before .before .before .before .product .ensures .0) in (
       omega (arith, l .inv .0, e .0, y .2),
       y .3,
-      λ row i k h. subst (λ (x : Bool). sum-Chained w (s .args .p) row (s .args .depth) k (s .args .from) x (c .before .behind .result)) (sym (c .before .before .either .ensures row i))
-          (chain-on 43 _||_ (sum-part w (s .args .p) row (s .args .depth) k) w k false (s .args .from) (bit (l .v) row) (l .at) (l .inv .1) (l .inv .2 row i k h) (bit (g .0 .0) row) (g .0 .1 .0) (known w row _ _ _ (g .1) (c .before .before .before .before .before .before .product .ensures .1 row i k h)) (c .before .behind .result) (y .0) (y .1) (omega (arith, e .0, y .2))),
+      λ row i k h. subst (λ (x : Bool). sum-Chained w (s .args .p) row (s .args .depth) k (s .args .from) x (c .before .behind .result)) (sym (or-row (l .v) (g .0 .0) row))
+          (chain-on 43 _||_ (sum-part w (s .args .p) row (s .args .depth) k) w k false (s .args .from) (bit (l .v) row) (l .at) (l .inv .1) (l .inv .2 row i k h) (bit (g .0 .0) row) (g .0 .1 .0) (known w row _ _ _ (g .1) (c .before .before .before .before .before .product .ensures .1 row i k h)) (c .before .behind .result) (y .0) (y .1) (omega (arith, e .0, y .2))),
     )
 
-sum-returns-2 : (t : ℕ) → sum-lts.Need-returns-2 (sum-claims t) (sum-at t) sum.Post sum-Inv-loop sum-μ-loop
+sum-returns : (t : ℕ) → sum-lts.Need-returns (sum-claims t) (sum-at t) sum.Post sum-Inv-loop sum-μ-loop
 unfolding sumOf
-sum-returns-2 t c =
+sum-returns t c =
     let s = c .before .before .before .before .before in
     let w = s .args .w .now in
     let l = c .before .before .before .loop in
@@ -275,8 +283,7 @@ pub +factor+product+sum-spec : {M : Type 1} → statement M
     (factor-name-requires t) (factor-returns t) (factor-returns-2 t) (λ c. search needs) (factor-sum-requires t) (λ c. search needs)
     (factor-close-requires t) (λ c. search needs) (factor-returns-3 t) (factor-returns-4 t))
     (λ t. product-lts.spec (product-claims t) (product-at t) product.Post product-Inv-loop product-μ-loop (product-loop-holds t)
-    (product-factor-requires t) (λ c. search needs) (λ c κs. search needs) (λ c κs. search needs) (product-returns t)
-    (product-loop-less t) (product-loop-again t) (λ c. search needs) (product-returns-2 t))
+    (product-factor-requires t) (λ c. search needs) (λ c. search needs) (product-returns t) (λ c κs. search needs)
+    (product-returns-2 t) (product-loop-less t) (product-loop-again t))
     λ t. sum-lts.spec (sum-claims t) (sum-at t) sum.Post sum-Inv-loop sum-μ-loop (sum-loop-holds t) (sum-product-requires t)
-    (λ c. search needs) (λ c κs. search needs) (λ c κs. search needs) (sum-returns t) (sum-loop-less t) (sum-loop-again t)
-    (λ c. search needs) (sum-returns-2 t)
+    (λ c. search needs) (λ c. search needs) (sum-returns t) (λ c κs. search needs) (sum-returns-2 t) (sum-loop-less t) (sum-loop-again t)

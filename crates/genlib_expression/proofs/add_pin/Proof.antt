@@ -1,9 +1,9 @@
 -- `genlib_expression::add_pin` meets its contract, by whether the token is a pin.
-use Rattle.base.specs.{_≡_, sym, subst, _∙_, true, false, arith, ℕ, _≤_, _<_, lt-ltb, le-ltb, List, needs}
-use Rattle.model.specs.{isPin}
+use Rattle.base.specs.{_≡_, sym, subst, _∙_, true, false, ⊎-elim, arith, ℕ, _≤_, _<_, lt-ltb, le-ltb, List, needs}
+use Rattle.model.specs.{isPin, addPins}
 use Rattle.genlib_expression.specs.declared.Pins.{Pins}
 use Rattle.genlib_expression.specs.declared.Token.{Token}
-use Rattle.genlib_expression.specs.{part, namesAt, withPin, addPin, Listed}
+use Rattle.genlib_expression.specs.{part, partsAt, namesAt, withPin, addPin, Listed}
 use Rattle.genlib_expression.proofs.Pinning.{pin-word, add-one-pin, add-no-pin, add-none}
 use Rattle.genlib_expression.proofs.add_pin.Statement.{statement}
 use Rattle.genlib_expression.proofs.add_pin.Tie as tie
@@ -40,17 +40,18 @@ returns c =
 
 returns-2 : tie.Need-returns-2
 returns-2 c =
-    let s = c .before .before .before .before .before in
-    let e = add-no-pin (s .args .w .now) (s .args .t) (namesAt (s .args .w .now) (s .args .p)) (c .before .before .before .if1 .taken) (sym (c .before .is-pin .ensures) ∙ c .if2 .left) in
-    (s .pre .1, record { few = λ h. sym e; many = λ h. absurd (omega (arith, s .pre .0)) }, other (s .args .w .now) (s .args .p) (s .args .t) (c .before .before .before .if1 .taken) (sym (c .before .is-pin .ensures) ∙ c .if2 .left))
-
-returns-3 : tie.Need-returns-3
-returns-3 c =
     let s = c .before .before in
-    let e = add-none (s .args .w .now) (s .args .t) (namesAt (s .args .w .now) (s .args .p)) (c .if1 .left) in
-    (s .pre .1, record { few = λ h. sym e; many = λ h. absurd (omega (arith, s .pre .0)) }, none (s .args .w .now) (s .args .p) (s .args .t) (c .if1 .left))
+    let w = s .args .w .now in
+    let t = s .args .t in
+    let p = s .args .p in
+    let as-was : addPins (namesAt w p) (partsAt w t) ≡ namesAt w p → Listed w (addPins (namesAt w p) (partsAt w t)) p =
+    λ e. record { few = λ h. sym e; many = λ h. absurd (omega (arith, s .pre .0)) } in
+    ⊎-elim
+    (λ y. let no = sym (y .2 .ensures) ∙ y .3 .left in (s .pre .1, as-was (add-no-pin w t (namesAt w p) (y .0 .taken) no), other w p t (y .0 .taken) no))
+    (λ y. (s .pre .1, as-was (add-none w t (namesAt w p) (y .left)), none w p t (y .left)))
+    (c .if1 .came)
 
 pub add-pin-spec : {M : Type 1} → statement M
 add-pin-spec = tie.close (tie.spec
     (λ c. search needs) (λ c. search needs) part-is-pin-end (λ c κs. search needs) (λ c. search needs) (λ c. search needs) part-with-pin-end
-    with-pin-requires returns returns-2 returns-3)
+    with-pin-requires returns returns-2)

@@ -1,7 +1,7 @@
 -- `genlib_expression::close` meets its contract, by the bracket that stands there or not.
 use Rattle.base.specs.{needs, sym, _∙_, arith}
 use Rattle.genlib_expression.proofs.Tokens.{behind-yes, behind-no}
-use Rattle.genlib_expression.proofs.Values.{close-yes, close-no, quoted-is}
+use Rattle.genlib_expression.proofs.Values.{close-yes, close-no, quoted-is, in-phase-row}
 use Rattle.genlib_expression.proofs.close.Statement.{statement}
 use Rattle.genlib_expression.proofs.close.Tie as tie
 
@@ -17,7 +17,7 @@ returns-2 c =
     let b = c .before .before .before in
     let y = behind-yes _ _ _ _ (b .behind .ensures) (c .before .before .if1 .left) in (
       (omega (arith, q .ensures .0, y .2), q .ensures .1),
-      λ row h. quoted-is (b .before .before .args .w .now) row (c .differ .result) (q .result .at) _ _ _ _ (c .differ .ensures row h) (q .ensures .2) ∙ sym (close-yes _ _ _ (y .0) (y .1)),
+      λ row h. quoted-is (b .before .before .args .w .now) row (c .in-phase .result) (q .result .at) _ _ _ _ (in-phase-row _ _ _ row (c .in-phase .ensures) (omega arith) h) (q .ensures .2) ∙ sym (close-yes _ _ _ (y .0) (y .1)),
     )
 
 pub close-spec : {M : Type 1} → statement M

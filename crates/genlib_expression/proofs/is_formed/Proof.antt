@@ -1,8 +1,8 @@
 -- `genlib_expression::is_formed` meets its contract. The invariant: the tokens that are left take the state at hand to where all tokens take the first; the measure is what is left of the line.
-use Rattle.base.specs.{_≡_, refl, sym, ap, _∙_, arith, _-_, _≤_, length, needs}
+use Rattle.base.specs.{_≡_, refl, sym, ap, _∙_, arith, _-_, _≤_, false, ⊎-elim, length, needs}
 use Rattle.model.specs.{scan, isDone, formed}
 use Rattle.model.specs.declared.Scan.{Scan}
-use Rattle.model.specs.declared.Scan.the-variants.{Due}
+use Rattle.model.specs.declared.Scan.the-variants.{Due, After, Done, Broken}
 use Rattle.genlib_expression.specs.{restAt, depthOf}
 use Rattle.genlib_expression.proofs.Walk.{step, nothing-left}
 use Rattle.genlib_expression.proofs.Scanning.{scan-turn, scan-depth}
@@ -35,9 +35,22 @@ loop-again c =
     )
 
 returns : tie.Need-returns Inv-loop μ-loop
-unfolding formed scan
-returns c = c .is-done .ensures ∙ sym (ap isDone (c .before .before .loop .inv .2 ∙ ap (scan (c .before .before .loop .s)) (nothing-left _ _ (c .before .loop-test .left))))
+unfolding formed scan isDone
+returns c =
+    let e = c .before .before in
+    let l = e .before .loop in
+    sym (ap isDone (l .inv .2 ∙ ap (scan (l .s)) (nothing-left _ _ (e .loop-test .left)) ∙ c .enum-told .given .1))
+
+returns-2 : tie.Need-returns-2 Inv-loop μ-loop
+unfolding formed scan isDone
+returns-2 c = go (c .before .before .loop .s) refl ∙ sym (ap isDone (c .before .before .loop .inv .2 ∙ ap (scan (c .before .before .loop .s)) (nothing-left _ _ (c .before .loop-test .left))))
+  where
+    go : (s : Scan) → c .before .before .loop .s ≡ s → false ≡ isDone (c .before .before .loop .s)
+    go (Due d) e = sym (ap isDone e)
+    go (After d) e = sym (ap isDone e)
+    go Broken e = sym (ap isDone e)
+    go Done e = absurd (⊎-elim (λ y. omega (arith, rw e at y)) (⊎-elim (λ y. omega (arith, rw e at y)) (λ y. omega (arith, rw e at y))) (c .match .keys2))
 
 pub is-formed-spec : {M : Type 1} → statement M
 is-formed-spec = tie.close (tie.spec
-    Inv-loop μ-loop loop-holds (λ c κs. search needs) scan-at-requires loop-less loop-again (λ c κs. search needs) returns)
+    Inv-loop μ-loop loop-holds (λ c κs. search needs) scan-at-requires loop-less loop-again (λ c. search needs) returns returns-2)

@@ -4,7 +4,7 @@ use Rattle.model.specs.{flip, isWord, nameValue, quoted}
 use Rattle.model.specs.GenlibFormula.{named}
 use Rattle.genlib_expression.specs.declared.Token.{Token}
 use Rattle.genlib_expression.specs.{tokenAt, restAt, namesAt, part}
-use Rattle.genlib_expression.proofs.Values.{token-from, token-to, here, name-yes, name-no, quoted-is}
+use Rattle.genlib_expression.proofs.Values.{token-from, token-to, here, name-yes, name-no, quoted-is, in-phase-row}
 use Rattle.genlib_expression.proofs.name.Statement.{statement}
 use Rattle.genlib_expression.proofs.name.Tie as tie
 
@@ -39,7 +39,7 @@ returns c =
     let t = b .before .before .before .next-token in
     let y : (value : List ℕ → Bool) → _ = λ value. is-name w (s .args .at) (s .pre .0) (t .result) (t .ensures) value (s .args .odd) (sym (b .before .is-word .ensures) ∙ b .if1 .taken) in (
       (omega (arith, q .ensures .0, y (λ x. true) .1), q .ensures .1),
-      λ row h. quoted-is w row (c .differ .result) (q .result .at) _ _ _ _ (c .differ .ensures row h ∙ ap (flip (q .result .value)) (c .before .before .name-value .ensures row h)) (q .ensures .2)
+      λ row h. quoted-is w row (c .in-phase .result) (q .result .at) _ _ _ _ (in-phase-row _ _ _ row (c .in-phase .ensures) (omega arith) h ∙ ap (flip (q .result .value)) (c .before .before .name-value .ensures row h)) (q .ensures .2)
           ∙ sym (y (nameValue (namesAt w (s .args .p)) row) .0),
     )
 

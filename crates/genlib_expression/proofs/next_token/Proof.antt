@@ -4,7 +4,7 @@ use Rattle.genlib_expression.proofs.next_token.Statement.{statement}
 use Rattle.genlib_expression.proofs.next_token.Tie as tie
 
 returns : tie.Need-returns
-returns c = rw (c .token-end .ensures, c .before .skip .ensures)
+returns c = rw (c .token-end .ensures, c .before .span-end .ensures)
 
 pub next-token-spec : {M : Type 1} → statement M
 next-token-spec = tie.close (tie.spec (λ c κs. search needs) (λ c κs. search needs) returns)

@@ -1,10 +1,12 @@
 -- `genlib_expression::table` meets its contract, row by row.
-use Rattle.base.specs.{_≡_, refl, ap, _∙_, Bool, true, false, _&&_, arith, zero-add, ℕ, _^_, _≤_, _<_, bitAnd, and-le-l, ltb, pow-mono}
+use Rattle.base.specs.{_≡_, refl, sym, ap, _∙_, Bool, true, false, _&&_, arith, zero-add, ℕ, _^_, _≤_, _<_, bitAnd, and-le-l, ltb, pow-mono}
 use Rattle.base.specs.{ltb-true, ltb-false, needs}
-use Rattle.model.specs.{bit, value, rowBits}
+use Rattle.model.specs.{bit, value, valueTaken, rowBits}
+use Rattle.model.specs.GenlibFormula.{valueOf}
 use Rattle.model.proofs.{rows-most, rows-less, row-bit, row-none}
 use Rattle.base_truth.proofs.{tables-same, value-and}
 use Rattle.base_text.proofs.{and-true, and-false}
+use Rattle.genlib_expression.proofs.Values.{known, no-row}
 use Rattle.genlib_expression.proofs.table.Statement.{statement}
 use Rattle.genlib_expression.proofs.table.Tie as tie
 
@@ -29,10 +31,25 @@ module _ (f : ℕ → Bool) (t n : ℕ) (small : n ≤ 16) (is : (row : ℕ) →
   masked h = tables-same (bitAnd t (rowBits (λ r. true) 0 n)) (rowBits f 0 n) h below (λ row k. value-and t (rowBits (λ r. true) 0 n) row ∙ row-of row k)
 
 returns : tie.Need-returns
+unfolding valueOf valueTaken
 returns c =
-    let s = c .before .before .before in
-    let v = c .before .row-values in
-    ap (bitAnd (v .result)) (c .rows .ensures) ∙ masked _ (v .result) (2 ^ s .args .p .n) (rows-most _ (s .pre .1)) (v .ensures) (omega (arith, and-le-l (v .result) (rowBits (λ r. true) 0 (2 ^ s .args .p .n))))
+    let g = c .before .before .v .given in
+    let m = c .before .before .before .before in
+    let s = m .before .before in
+    let n = 2 ^ s .args .p .n in
+    let v = g .0 .0 in
+    ap (bitAnd v) (c .rows .ensures)
+    ∙ masked _ v n (rows-most _ (s .pre .1)) (λ row h. sym (ap valueTaken (known _ row _ _ _ (g .1) (m .sum .ensures .1 row h 65537 (omega arith))))) (omega (arith, and-le-l v (rowBits (λ row. true) 0 n)))
+
+returns-2 : tie.Need-returns-2
+unfolding valueOf valueTaken
+returns-2 c =
+    let m = c .before .before in
+    let s = m .before .before in
+    let n = 2 ^ s .args .p .n in
+    let none : 0 ≡ bitAnd 0 (rowBits (λ row. true) 0 n) = omega (arith, and-le-l 0 (rowBits (λ row. true) 0 n)) in
+    none ∙ masked _ 0 n (rows-most _ (s .pre .1)) (λ row h. no-row row ∙ sym (ap valueTaken (known _ row _ _ _ (c .enum-told .given .1) (m .sum .ensures .1 row h 65537 (omega arith))))) (omega arith)
 
 pub table-spec : {M : Type 1} → statement M
-table-spec = tie.close (tie.spec (λ c κs. search needs) (λ c κs. search needs) returns)
+table-spec = tie.close (tie.spec
+    (λ c κs. search needs) (λ c. search needs) (λ c κs. search needs) (λ c. search needs) returns returns-2)

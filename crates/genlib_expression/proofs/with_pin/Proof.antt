@@ -1,5 +1,5 @@
 -- `genlib_expression::with_pin` meets its contract, by whether the pin is known and there is room.
-use Rattle.base.specs.{_≡_, sym, ap, _∙_, arith, ℕ, _≤_, _<_, lt-ltb, le-ltb, ltb, List, [], _∷_, _++_, length, length-set, length-append}
+use Rattle.base.specs.{_≡_, sym, ap, _∙_, arith, ℕ, _+_, _≤_, _<_, lt-ltb, le-ltb, ltb, List, [], _∷_, _++_, length, length-set, length-append}
 use Rattle.base.specs.{needs}
 use Rattle.model.specs.{indexOf}
 use Rattle.genlib_expression.specs.declared.Pins.{Pins}
@@ -26,30 +26,40 @@ module _ (w : List ℕ) (p : Pins) (from : ℕ) (t : List ℕ) (i : ℕ) (is : i
 returns : tie.Need-returns
 returns c =
     let s = c .before .before .before .before in
-    (s .pre .1, record { few = λ h. sym (with-known _ _ _ _ (c .before .index .ensures .0) (c .if1 .taken)); many = λ h. absurd (omega (arith, s .pre .0)) }, known (s .args .w .now) (s .args .p) (s .args .from) (s .args .t .now) _ (c .before .index .ensures .0) (c .if1 .taken))
+    let i = c .before .index .ensures .0 in
+    let a = s .args in
+    (s .pre .1, record { few = λ h. sym (with-known _ _ _ _ i (c .if1 .taken)); many = λ h. absurd (omega (arith, s .pre .0)) }, known (a .w .now) (a .t4) (a .from) (a .t .now) _ i (c .if1 .taken))
 
 returns-2 : tie.Need-returns-2
 returns-2 c =
-    let s = c .before .before .before .before .before .before in
-    let w = s .args .w .now in
-    let p = s .args .p in
-    let e = c .push-pin .ensures in (
-      ap (λ (x : Pins). length (x .at)) e ∙ length-set (p .at) (p .n) _ ∙ s .pre .1,
+    let s = c .before .before .before .before .before in
+    let i = c .before .before .index .ensures .0 in
+    let a = s .args in
+    let w = a .w .now in
+    let p = a .t4 in (
+      length-set (p .at) (p .n) _ ∙ s .pre .1,
       record {
-        few = λ h. ap (namesAt w) e ∙ names-pushed w p _ (c .before .if2 .taken) (s .pre .1)
-            ∙ sym (with-new w p _ _ (c .before .before .before .index .ensures .0) (c .before .before .if1 .left) ∙ ap (λ (x : List ℕ). namesAt w p ++ (x ∷ [])) (s .pre .2));
-        many = λ h. absurd (omega (arith, ap (λ (x : Pins). x .n) e, c .before .if2 .taken));
+        few = λ h. names-pushed w p _ (c .if2 .taken) (s .pre .1)
+            ∙ sym (with-new w p _ _ i (c .before .if1 .left) ∙ ap (λ (x : List ℕ). namesAt w p ++ (x ∷ [])) (s .pre .2));
+        many = λ h. absurd (omega (arith, c .if2 .taken));
       },
-      e ∙ more w p (s .args .from) (s .args .t .now) _ (c .before .before .before .index .ensures .0) (c .before .before .if1 .left) (c .before .if2 .taken),
+      more w p (a .from) (a .t .now) _ i (c .before .if1 .left) (c .if2 .taken),
     )
 
 returns-3 : tie.Need-returns-3
 returns-3 c =
-    let s = c .before .before .before .before .before .before in
-    let w = s .args .w .now in
-    let p = s .args .p in
-    let n = ap length (with-new w p _ _ (c .before .before .before .index .ensures .0) (c .before .before .if1 .left)) in
-    (s .pre .1, record { few = λ h. absurd (omega arith); many = λ h. omega (arith, n, length-append (namesAt w p) (s .args .t .now ∷ []), length-names w p, c .before .if2 .left) }, many w p (s .args .from) (s .args .t .now) _ (c .before .before .before .index .ensures .0) (c .before .before .if1 .left) (c .before .if2 .left))
+    let s = c .before .before .before .before .before in
+    let i = c .before .before .index .ensures .0 in
+    let a = s .args in
+    let w = a .w .now in
+    let p = a .t4 in
+    let n = ap length (with-new w p _ _ i (c .before .if1 .left)) in
+    let five : p .n + 1 ≡ 5 = omega (arith, s .pre .0, c .if2 .left) in (
+      s .pre .1,
+      record { few = λ h. absurd (omega (arith, c .if2 .left)); many = λ h. omega (arith, n, length-append (namesAt w p) (a .t .now ∷ []), length-names w p, c .if2 .left) },
+      ap (λ (k : ℕ). record { n = k; at = p .at }) five ∙ many w p (a .from) (a .t .now) _ i (c .before .if1 .left) (c .if2 .left),
+    )
 
 pub with-pin-spec : {M : Type 1} → statement M
-with-pin-spec = tie.close (tie.spec (λ c κs. search needs) returns (λ c κs. search needs) returns-2 returns-3)
+with-pin-spec = tie.close (tie.spec
+    (λ c κs. search needs) returns (λ c. search needs) (λ c. search needs) (λ c. search needs) returns-2 returns-3)

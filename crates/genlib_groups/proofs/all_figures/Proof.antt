@@ -1,5 +1,5 @@
 -- `genlib_groups::all_figures` meets its contract. The invariant: all tokens are figures where all that are left are; the measure is what is left of the line.
-use Rattle.base.specs.{_≡_, refl, sym, ap, _∙_, arith, _-_, _≤_, not-true, not-false, length, needs}
+use Rattle.base.specs.{_≡_, refl, sym, ap, _∙_, arith, _-_, _≤_, ⊎-elim, not-true, not-false, length, needs}
 use Rattle.model.specs.{all, isFigure}
 use Rattle.genlib_expression.specs.{restAt}
 use Rattle.genlib_expression.proofs.{step, nothing-left}
@@ -20,20 +20,29 @@ part-is-figure-end c = step _ _ (c .before .before .before .loop .inv .0) _ (c .
 
 returns : tie.Need-returns Inv-loop μ-loop
 unfolding all
-returns c = let k = step _ _ (c .before .before .before .before .before .before .loop .inv .0) _ (c .before .before .before .before .next-token .ensures) in sym (c .before .before .before .before .before .before .loop .inv .1 ∙ ap (all isFigure) (k .one (c .before .before .before .if1 .taken)) ∙ rw (sym (c .before .is-figure .ensures) ∙ not-true _ (c .if2 .taken)))
+returns c =
+    let t = c .before .before .before in
+    let l = t .before .before .before .loop in
+    let k = step _ _ (l .inv .0) _ (t .before .next-token .ensures) in
+    sym (l .inv .1 ∙ ap (all isFigure) (k .one (t .if1 .taken)) ∙ rw (sym (c .before .is-figure .ensures) ∙ not-true _ (c .if2 .taken)))
 
 loop-less : tie.Need-loop-less Inv-loop μ-loop
-loop-less c = let k = step _ _ (c .before .before .before .before .before .before .loop .inv .0) _ (c .before .before .before .before .next-token .ensures) in omega (arith, k .later (c .before .before .before .before .before .loop-test .taken))
+loop-less c =
+    let k = step _ _ (c .before .before .before .loop .inv .0) _ (c .before .next-token .ensures) in
+    omega (arith, k .later (c .before .before .loop-test .taken))
 
 loop-again : tie.Need-loop-again Inv-loop μ-loop
 unfolding all
-loop-again c = let k = step _ _ (c .before .before .before .before .before .before .loop .inv .0) _ (c .before .before .before .before .next-token .ensures) in (k .within, c .before .before .before .before .before .before .loop .inv .1 ∙ ap (all isFigure) (k .one (c .before .before .before .if1 .taken)) ∙ rw (sym (c .before .is-figure .ensures) ∙ not-false _ (c .if2 .left)))
-
-loop-less-2 : tie.Need-loop-less-2 Inv-loop μ-loop
-loop-less-2 c = let k = step _ _ (c .before .before .before .loop .inv .0) _ (c .before .next-token .ensures) in omega (arith, k .later (c .before .before .loop-test .taken))
-
-loop-again-2 : tie.Need-loop-again-2 Inv-loop μ-loop
-loop-again-2 c = let k = step _ _ (c .before .before .before .loop .inv .0) _ (c .before .next-token .ensures) in (k .within, c .before .before .before .loop .inv .1 ∙ ap (all isFigure) (k .none (c .if1 .left) .0) ∙ sym (ap (all isFigure) (k .none (c .if1 .left) .1)))
+loop-again c =
+    let l = c .before .before .before .loop in
+    let k = step _ _ (l .inv .0) _ (c .before .next-token .ensures) in (
+      k .within,
+      l .inv .1
+          ∙ ⊎-elim
+          (λ y. ap (all isFigure) (k .one (y .0 .taken)) ∙ rw (sym (y .2 .ensures) ∙ not-false _ (y .3 .left)))
+          (λ y. ap (all isFigure) (k .none (y .left) .0) ∙ sym (ap (all isFigure) (k .none (y .left) .1)))
+          (c .if1 .came),
+    )
 
 returns-2 : tie.Need-returns-2 Inv-loop μ-loop
 unfolding all
@@ -42,4 +51,4 @@ returns-2 c = sym (c .before .loop .inv .1 ∙ ap (all isFigure) (nothing-left _
 pub all-figures-spec : {M : Type 1} → statement M
 all-figures-spec = tie.close (tie.spec
     Inv-loop μ-loop loop-holds (λ c κs. search needs) (λ c. search needs) (λ c. search needs) part-is-figure-end (λ c κs. search needs)
-    returns loop-less loop-again loop-less-2 loop-again-2 returns-2)
+    returns loop-less loop-again returns-2)

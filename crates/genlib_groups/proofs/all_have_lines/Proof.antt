@@ -26,14 +26,14 @@ loop-holds c =
 
 returns-2 : tie.Need-returns-2 Inv-loop μ-loop
 returns-2 c =
-    let i = c .before .before .before in
-    sym (i .before .loop .inv .3 ∙ pins-step _ _ _ _ (i .loop-test .taken) ∙ rw (sym (c .before .has-line-named .ensures) ∙ not-true _ (c .if2 .taken)))
+    let i = c .before .before .before .before in
+    sym (i .before .loop .inv .3 ∙ pins-step _ _ _ _ (i .loop-test .taken) ∙ rw (ap (pinHas _) (sym (c .before .before .word-at .ensures)) ∙ sym (c .before .has-line .ensures) ∙ not-true _ (c .if2 .taken)))
 
 loop-again : tie.Need-loop-again Inv-loop μ-loop
 loop-again c =
-    let i = c .before .before .before in
+    let i = c .before .before .before .before in
     let l = i .before .loop .inv in
-    (l .0, l .1, l .2, l .3 ∙ pins-step _ _ _ _ (i .loop-test .taken) ∙ rw (sym (c .before .has-line-named .ensures) ∙ not-false _ (c .if2 .left)))
+    (l .0, l .1, l .2, l .3 ∙ pins-step _ _ _ _ (i .loop-test .taken) ∙ rw (ap (pinHas _) (sym (c .before .before .word-at .ensures)) ∙ sym (c .before .has-line .ensures) ∙ not-false _ (c .if2 .left)))
 
 returns-3 : tie.Need-returns-3 Inv-loop μ-loop
 returns-3 c = sym (c .before .loop .inv .3 ∙ pins-end _ _ _ _ (c .loop-test .left))
@@ -41,4 +41,4 @@ returns-3 c = sym (c .before .loop .inv .3 ∙ pins-end _ _ _ _ (c .loop-test .l
 pub all-have-lines-spec : {M : Type 1} → statement M
 all-have-lines-spec = tie.close (tie.spec
     Inv-loop μ-loop (λ c κs. search needs) (λ c κs. search needs) (λ c. c .tokens-have-lines .ensures) loop-holds (λ c. search needs)
-    (λ c. search needs) (λ c κs. search needs) returns-2 (λ c. search needs) (λ c. search needs) loop-again returns-3)
+    (λ c. search needs) (λ c κs. search needs) (λ c κs. search needs) returns-2 (λ c. search needs) (λ c. search needs) loop-again returns-3)

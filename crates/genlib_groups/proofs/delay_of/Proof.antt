@@ -9,8 +9,11 @@ use Rattle.genlib_groups.proofs.delay_of.Tie as tie
 returns : tie.Need-returns
 unfolding delayOf andThen
 returns c =
-    let a : thousandths (getD (tokens (c .before .before .before .before .before .before .before .before .before .before .args .w .now)) 5 []) ≡ some (c .before .before .before .before .before .before .rise .given .0 .0) = value-some _ _ (sym (c .before .before .before .before .before .before .rise .given .1) ∙ c .before .before .before .before .before .before .before .before .figure-at .ensures) in
-    let b : thousandths (getD (tokens (c .before .before .before .before .before .before .before .before .before .before .args .w .now)) 7 []) ≡ some (c .before .before .fall .given .0 .0) = value-some _ _ (sym (c .before .before .fall .given .1) ∙ c .before .before .before .before .figure-at2 .ensures) in
+    let fall = c .before .before in
+    let rise = fall .before .before .before .before in
+    let ts = tokens (rise .before .before .before .before .args .w .now) in
+    let a : thousandths (getD ts 5 []) ≡ some (rise .rise .given .0 .0) = value-some _ _ (sym (rise .rise .given .1) ∙ rise .before .before .figure-at .ensures) in
+    let b : thousandths (getD ts 7 []) ≡ some (fall .fall .given .0 .0) = value-some _ _ (sym (fall .fall .given .1) ∙ fall .before .before .figure-at2 .ensures) in
     rw (a, b) (ap Is (c .larger .ensures))
 
 returns-2 : tie.Need-returns-2

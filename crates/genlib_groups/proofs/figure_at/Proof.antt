@@ -5,17 +5,8 @@ use Rattle.genlib_groups.specs.{valueIn}
 use Rattle.genlib_groups.proofs.figure_at.Statement.{statement}
 use Rattle.genlib_groups.proofs.figure_at.Tie as tie
 
-sub-figure : tie.Need-sub-figure
-sub-figure c = c .nth .ensures .ordered
-
-part-figure-start : tie.Need-part-figure-start
-part-figure-start c = c .nth .ensures .ordered
-
-part-figure-end : tie.Need-part-figure-end
-part-figure-end c = c .nth .ensures .within
-
 returns : tie.Need-returns
-returns c = c .figure .ensures ∙ ap (λ (x : List ℕ). valueIn (thousandths x)) (c .before .before .nth .ensures .bytes)
+returns c = c .figure .ensures ∙ ap (λ (x : List ℕ). valueIn (thousandths x)) (c .before .nth-bytes .ensures)
 
 pub figure-at-spec : {M : Type 1} → statement M
-figure-at-spec = tie.close (tie.spec (λ c κs. search needs) sub-figure part-figure-start part-figure-end (λ c κs. search needs) returns)
+figure-at-spec = tie.close (tie.spec (λ c κs. search needs) (λ c κs. search needs) returns)

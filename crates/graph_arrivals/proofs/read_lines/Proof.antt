@@ -1,5 +1,5 @@
 -- `graph_arrivals::read_lines` meets its contract. The invariant: what the lines from here on give with what is stored and marked is what the text gives; the measure is what is left of the text.
-use Rattle.base.specs.{needs, sym, ap, _∙_, ℕ, _-_, arith, length, set}
+use Rattle.base.specs.{needs, refl, sym, ap, _∙_, ℕ, _-_, arith, length, set}
 use Rattle.graph_arrivals.proofs.Lines.{judged-good}
 use Rattle.graph_arrivals.proofs.Turns.{SoFar, so-far-first, so-far-last, so-far-stop, so-far-more}
 use Rattle.graph_arrivals.proofs.read_lines.Statement.{statement}
@@ -13,8 +13,8 @@ abbrev μ-loop : tie.MeasureT-loop
 
 loop-holds : tie.Need-loop-holds Inv-loop μ-loop
 loop-holds c =
-    let start = c .before .before .before in
-    so-far-first (start .args .s .now) (start .args .from) (start .args .h .size) (start .args .h .inputs) (start .args .work .now) _ (start .pre) (c .no-marks .ensures)
+    let start = c .before .before in
+    so-far-first (start .args .s .now) (start .args .from) (start .args .h .size) (start .args .h .inputs) (start .args .work .now) _ (start .pre) refl
 
 judge-requires : tie.Need-judge-requires Inv-loop μ-loop
 judge-requires c κs = let f = c .before .before .loop .inv in omega (arith, f .ready .few, f .ready .room .small)
@@ -42,7 +42,7 @@ loop-again : tie.Need-loop-again Inv-loop μ-loop
 loop-again c =
     let at-store = c .before .before .before in let at-index = at-store .before .before .before in
     let at-judge = at-index .before .before in let at-loop = at-judge .before .before .before in
-    let args = at-loop .before .before .before .before .args in
+    let args = at-loop .before .before .before .args in
     so-far-more (args .s .now) (args .from) (args .h .size) (args .h .inputs) (args .work .now) (at-loop .loop .marks) (at-loop .loop .at) (at-loop .loop .work) (at-loop .loop .inv)
     (at-judge .before .before .loop-test .taken) _ _ _ (sym (at-judge .judge .ensures) ∙ at-index .index .given .1) _ _ (at-store .store-late .ensures)
     (ap (λ (i : ℕ). set (at-loop .loop .marks) i 1) (c .wide .ensures))
@@ -50,17 +50,17 @@ loop-again c =
 returns : tie.Need-returns Inv-loop μ-loop
 returns c =
     let at-number = c .before in let at-judge = at-number .before .before in let at-loop = at-judge .before .before .before in
-    let args = at-loop .before .before .before .before .args in
+    let args = at-loop .before .before .before .args in
     so-far-stop (args .s .now) (args .from) (args .h .size) (args .h .inputs) (args .work .now) (at-loop .loop .marks) (at-loop .loop .at) (at-loop .loop .work) (at-loop .loop .inv)
     (at-judge .before .before .loop-test .taken) _ (sym (at-judge .judge .ensures) ∙ at-number .number .given .1)
 
 returns-2 : tie.Need-returns-2 Inv-loop μ-loop
 returns-2 c =
-    let at-loop = c .before in let args = at-loop .before .before .before .before .args in
+    let at-loop = c .before in let args = at-loop .before .before .before .args in
     so-far-last (args .s .now) (args .from) (args .h .size) (args .h .inputs) (args .work .now) (at-loop .loop .marks) (at-loop .loop .at) (at-loop .loop .work) (at-loop .loop .inv) (c .loop-test .left)
 
 pub read-lines-spec : {M : Type 1} → statement M
 read-lines-spec = tie.close (tie.spec
-    Inv-loop μ-loop (λ c κs. search needs) loop-holds judge-requires (λ c. search needs) store-late-requires (λ c κs. search needs)
+    Inv-loop μ-loop loop-holds judge-requires (λ c. search needs) store-late-requires (λ c κs. search needs)
     array-write-marks loop-less loop-again (λ c. search needs) (λ c. c .before .before .before .before .before .before .loop .inv .long)
     returns (λ c. c .before .loop .inv .long) returns-2)

@@ -1,12 +1,17 @@
 -- `graph_loading::store_line` meets its contract: each return knows which line is due.
-use Rattle.base.specs.{lt-ltb, le-ltb, needs}
-use Rattle.graph_loading.specs.{storedLine}
+use Rattle.base.specs.{ap, _∙_, List, ℕ, _+_, _/_, lt-ltb, le-ltb, needs}
+use Rattle.graph_placing.specs.{putPlaced}
+use Rattle.graph_loading.specs.{storedInput, storedLine}
 use Rattle.graph_loading.proofs.store_line.Statement.{statement}
 use Rattle.graph_loading.proofs.store_line.Tie as tie
 
 returns : tie.Need-returns
-unfolding storedLine
-returns c = rw (lt-ltb _ _ (c .before .before .before .before .before .if1 .taken)) (c .before .before .store-input .ensures)
+unfolding storedLine storedInput
+returns c =
+    let at-place-at = c .before .before in let at-store-node = at-place-at .before .before .before .before .before in
+    let at-if1 = at-store-node .before .before .before in let a = at-if1 .before .before .before .args in
+    rw (lt-ltb _ _ (at-if1 .if1 .taken))
+    (at-place-at .place-at .ensures ∙ ap (λ (x : List ℕ). putPlaced x (a .h .size) (a .k + 1) (a .l .first / 2)) (at-store-node .store-node .ensures))
 
 returns-2 : tie.Need-returns-2
 unfolding storedLine
@@ -18,9 +23,9 @@ returns-3 : tie.Need-returns-3
 unfolding storedLine
 returns-3 c =
     let at-store-node = c .before .before in let at-if2 = at-store-node .before .before .before in
-    rw (le-ltb _ _ (at-if2 .before .before .if1 .left), le-ltb _ _ (at-if2 .if2 .left)) (at-store-node .store-node .ensures)
+    rw (le-ltb _ _ (at-if2 .before .before .if1 .left), le-ltb _ _ (at-if2 .if2 .left)) (at-store-node .store-node2 .ensures)
 
 pub store-line-spec : {M : Type 1} → statement M
 store-line-spec = tie.close (tie.spec
-    (λ c κs. search needs) (λ c. search needs) (λ c κs. search needs) (λ c κs. search needs) (λ c. search needs) returns (λ c. search needs)
-    returns-2 (λ c. search needs) returns-3)
+    (λ c κs. search needs) (λ c. search needs) (λ c κs. search needs) (λ c. search needs) (λ c κs. search needs) (λ c κs. search needs)
+    (λ c. search needs) returns (λ c. search needs) returns-2 (λ c. search needs) returns-3)

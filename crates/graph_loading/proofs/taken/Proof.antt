@@ -7,4 +7,4 @@ use Rattle.graph_loading.proofs.taken.Tie as tie
 pub taken-spec : {M : Type 1} → statement M
 unfolding isTaken
 taken-spec = tie.close (tie.spec
-    (λ c. rw (eq-eqb _ _ (c .if1 .taken))) (λ c κs. search needs) (λ c. rw (ne-eqb _ _ (c .before .if1 .left), c .kind .ensures)))
+    (λ c κs. search needs) (λ c. rw (ne-eqb _ _ (c .before .if1 .taken), c .kind .ensures)) (λ c. rw (eq-eqb _ _ (c .if1 .left))))

@@ -5,11 +5,11 @@ use Rattle.graph_placing.specs.{isWaiting}
 use Rattle.graph_placing.proofs.waits.Statement.{statement}
 use Rattle.graph_placing.proofs.waits.Tie as tie
 
-returns-2 : tie.Need-returns-2
+returns : tie.Need-returns
 unfolding isWaiting
-returns-2 c = rw (sym (c .before .before .kind .ensures), eq-eqb _ andKind (c .before .if1 .left), c .place .ensures)
+returns c = rw (sym (c .before .before .kind .ensures), eq-eqb _ andKind (c .before .if1 .taken), c .place .ensures)
 
 pub waits-spec : {M : Type 1} → statement M
 unfolding isWaiting
 waits-spec = tie.close (tie.spec
-    (λ c κs. search needs) (λ c. rw (sym (c .before .kind .ensures), ne-eqb _ andKind (c .if1 .taken))) (λ c κs. search needs) returns-2)
+    (λ c κs. search needs) (λ c κs. search needs) returns (λ c. rw (sym (c .before .kind .ensures), ne-eqb _ andKind (c .if1 .left))))

@@ -48,5 +48,5 @@ returns-5 c =
 pub header-spec : {M : Type 1} → statement M
 header-spec = tie.close (tie.spec
     (λ c κs. search needs) (λ c. search needs) returns (λ c κs. search needs) returns-2
-    (λ c κs. limits-sum _ (sym (c .before .in-limits .ensures) ∙ not-false _ (c .if2 .left))) (λ c. search needs) returns-3 returns-4
+    (λ c κs. limits-sum _ (sym (c .before .in-limits .ensures) ∙ not-false _ (c .if2 .left))) returns-3 (λ c. search needs) returns-4
     returns-5)

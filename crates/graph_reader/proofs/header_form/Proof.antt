@@ -19,5 +19,5 @@ returns-2 c =
 pub header-form-spec : {M : Type 1} → statement M
 unfolding formAt
 header-form-spec = tie.close (tie.spec
-    (λ c κs. search needs) (λ c. search needs) (λ c κs. search needs) (λ c κs. search needs) (λ c. search needs) returns returns-2
+    (λ c κs. search needs) (λ c. search needs) (λ c κs. search needs) (λ c κs. search needs) returns (λ c. search needs) returns-2
     (λ c. rw (sym (c .before .before .tag .ensures) ∙ c .enum-told .given .1)))

@@ -29,4 +29,4 @@ returns-2 c =
     (r .0, (r .1 ∙ sym (words-ascii (args .work .now) (args .s .now) (args .h) (at-if1 .if1 .left)), verdict-ruled _ (readGraph (args .s .now) (args .h)) (r .0)))
 
 pub load-spec : {M : Type 1} → statement M
-load-spec = tie.close (tie.spec load-binary-requires load-ascii-requires (λ c. search needs) returns (λ c. search needs) returns-2)
+load-spec = tie.close (tie.spec load-binary-requires (λ c. search needs) returns load-ascii-requires (λ c. search needs) returns-2)

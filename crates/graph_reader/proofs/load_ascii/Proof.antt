@@ -41,4 +41,4 @@ returns-3 c =
 pub load-ascii-spec : {M : Type 1} → statement M
 load-ascii-spec = tie.close (tie.spec
     (λ c κs. fit-room _ _ (c .before .before .before .pre .0)) read-lines-requires (λ c. search needs) all-known-requires
-    check-lines-requires (λ c. search needs) (λ c. search needs) returns (λ c. search needs) returns-2 (λ c. search needs) returns-3)
+    (λ c. search needs) returns check-lines-requires (λ c. search needs) (λ c. search needs) returns-2 (λ c. search needs) returns-3)

@@ -1,6 +1,9 @@
--- `mapper::cut_graph` meets its contract: the cuts, then the cover, or 16.
-use Rattle.base.specs.{needs}
-use Rattle.mapper.proofs.Turns.{told-as, timed-asks, cuts-cut, cuts-go, cuts-stop}
+-- `mapper::cut_graph` meets its contract: the cuts, the choice and the marking, each from what the one before left, or 16 or 17.
+use Rattle.base.specs.{_∙_, needs}
+use Rattle.cover_choice.proofs.{choose-asked}
+use Rattle.mapper.specs.{allOf}
+use Rattle.mapper.proofs.Turns.{told-as, timed-asks, cuts-cut, cuts-go, cuts-stop, chosen-outputs, chosen-asks, cover-mapped, cover-timeable}
+use Rattle.mapper.proofs.Turns.{cover-goes, cover-stops}
 use Rattle.mapper.proofs.cut_graph.Statement.{statement}
 use Rattle.mapper.proofs.cut_graph.Tie as tie
 
@@ -9,31 +12,83 @@ enumerate-requires c κs =
     let s = c .before .before .before .before .before in
     timed-asks (s .args .ranged) (s .args .work .now) (s .args .lib) (s .args .codes .now) (s .args .h) (s .pre .0 .0) (s .pre .0 .1)
 
-cover-graph-requires : tie.Need-cover-graph-requires
-cover-graph-requires c κs =
-    let e = c .before .before in
+choose-requires : tie.Need-choose-requires
+choose-requires c κs =
+    let e = c .before in
     let r = e .before .before .before .before in
     let s = r .before .before .before .before .before .before in
-    let p = s .pre .0 .1 in
-    ((s .pre .0 .0, cuts-cut (s .args .ranged) _ _ _ _ _ p _ (r .enumerate .ensures .0) (e .enum-told .given .1) _ (r .enumerate .ensures .1)), s .pre .1)
+    let a = s .args in
+    let cut = cuts-cut (a .ranged) _ _ _ _ _ (s .pre .0 .1) _ (r .enumerate .ensures .0) (e .enum-told .given .1) _ (r .enumerate .ensures .1) in
+    let k = choose-asked (r .enumerate .last .0) (allOf (a .lib) (a .codes .now)) (a .h) (s .pre .0 .0) (cut .given .header) (cut .held) (a .sheet .now) (s .pre .1) (cut .unchosen) in
+    (cut .given .library .read .usable, k .0, k .1)
+
+uncovered-requires : tie.Need-uncovered-requires
+uncovered-requires c κs =
+    let y = c .before .before .before in
+    let e = y .before .before in
+    let r = e .before .before .before .before in
+    let s = r .before .before .before .before .before .before in
+    let a = s .args in
+    let cut = cuts-cut (a .ranged) _ _ _ _ _ (s .pre .0 .1) _ (r .enumerate .ensures .0) (e .enum-told .given .1) _ (r .enumerate .ensures .1) in
+    chosen-outputs (a .ranged) (r .enumerate .last .0) (a .lib) (a .codes .now) (a .h) (s .pre .0 .0) cut (y .choose .last .0) (y .choose .ensures)
+
+mark-requires : tie.Need-mark-requires
+mark-requires c κs =
+    let y = c .before .before .before .before .before .before .before in
+    let e = y .before .before in
+    let r = e .before .before .before .before in
+    let s = r .before .before .before .before .before .before in
+    let cut = cuts-cut (s .args .ranged) _ _ _ _ _ (s .pre .0 .1) _ (r .enumerate .ensures .0) (e .enum-told .given .1) _ (r .enumerate .ensures .1) in
+    chosen-asks (s .args .ranged) _ _ _ _ _ cut _ (y .choose .ensures)
+
+print-requires : tie.Need-print-requires
+print-requires c κs =
+    let z = c .before .before .before .before in
+    let u = z .before .before .before .before in
+    let y = u .before .before .before .before in
+    let e = y .before .before in
+    let r = e .before .before .before .before in
+    let s = r .before .before .before .before .before .before in
+    let ranged = s .args .ranged in
+    let cut = cuts-cut ranged _ _ _ _ _ (s .pre .0 .1) _ (r .enumerate .ensures .0) (e .enum-told .given .1) _ (r .enumerate .ensures .1) in (
+      s .pre .0 .0,
+      cover-mapped ranged _ _ _ _ _ cut _ (y .choose .ensures) _ (u .uncovered .ensures) (z .before .before .enum-told2 .given .1) _ (z .mark .ensures),
+      cover-timeable ranged _ _ _ _ _ cut _ (y .choose .ensures) _ (u .uncovered .ensures) _ (z .mark .ensures),
+    )
 
 returns : tie.Need-returns
 returns c =
-    let g = c .before .before .before .before in
-    let e = g .before .before .before in
-    let q = e .before .before .before .before in
-    let r = q .enumerate in
-    let ranged = q .before .before .before .before .before .before .args .ranged in
-    λ k p.
-    told-as (cuts-go ranged _ _ _ _ k p _ (r .ensures .0) (e .enum-told .given .1) _)
-    (g .cover-graph .ensures k (cuts-cut ranged _ _ _ _ k p _ (r .ensures .0) (e .enum-told .given .1) _ (r .ensures .1)))
+    let p = c .before .before .before .before in
+    let z = p .before .before .before .before .before in
+    let u = z .before .before .before .before in
+    let q = u .before .before .before .before in
+    let y = q .choose .ensures in
+    let e = q .before .before in
+    let r = e .before .before .before .before in
+    let ranged = r .before .before .before .before .before .before .args .ranged in
+    let a = z .before .before .enum-told2 .given .1 in
+    λ g t.
+    let cut = cuts-cut ranged _ _ _ _ g t _ (r .enumerate .ensures .0) (e .enum-told .given .1) _ (r .enumerate .ensures .1) in
+    told-as (cuts-go ranged _ _ _ _ g t _ (r .enumerate .ensures .0) (e .enum-told .given .1) _ ∙ cover-goes ranged _ _ _ _ g cut _ y _ (u .uncovered .ensures) a _)
+    (p .print .ensures g (cover-mapped ranged _ _ _ _ g cut _ y _ (u .uncovered .ensures) a _ (z .mark .ensures)) (cover-timeable ranged _ _ _ _ g cut _ y _ (u .uncovered .ensures) _ (z .mark .ensures)))
 
 returns-2 : tie.Need-returns-2
-returns-2 c = λ g p.
-    let r = c .before .before .before .before .before .enumerate in
-    cuts-stop _ _ _ _ _ g p _ (r .ensures .0) _ _ (c .before .number .given .1) _
+returns-2 c =
+    let u = c .before .before .before in
+    let y = u .before .before .before .before in
+    let e = y .before .before in
+    let r = e .before .before .before .before in
+    let ranged = r .before .before .before .before .before .before .args .ranged in
+    λ g t.
+    let cut = cuts-cut ranged _ _ _ _ g t _ (r .enumerate .ensures .0) (e .enum-told .given .1) _ (r .enumerate .ensures .1) in
+    told-as (cuts-go ranged _ _ _ _ g t _ (r .enumerate .ensures .0) (e .enum-told .given .1) _)
+    (cover-stops ranged _ _ _ _ g cut _ (y .choose .ensures) _ (u .uncovered .ensures) _ _ (c .before .number .given .1) _)
+
+returns-3 : tie.Need-returns-3
+returns-3 c = λ g t.
+    let r = c .before .before .before .before .before in
+    cuts-stop _ _ _ _ _ g t _ (r .enumerate .ensures .0) _ _ (c .before .number2 .given .1) _
 
 pub cut-graph-spec : {M : Type 1} → statement M
 cut-graph-spec = tie.close (tie.spec
-    enumerate-requires (λ c. search needs) cover-graph-requires (λ c. search needs) (λ c. search needs) (λ c. search needs) returns
-    (λ c. search needs) returns-2)
+    enumerate-requires (λ c. search needs) choose-requires uncovered-requires (λ c. search needs) mark-requires print-requires (λ c. search needs) (λ c. search needs) (λ c. search needs) (λ c. search needs) returns (λ c. search needs) returns-2 (λ c. search needs) returns-3)

@@ -11,8 +11,8 @@ returns c = let p = c .before .before .before .before in rw (p .before .before .
 
 map-header-requires : tie.Need-map-header-requires
 map-header-requires c κs =
-    let n = c .before .before .before .before in
-    let s = n .before .before .before .before .before .before in
+    let n = c .before .before .before in
+    let s = n .before .before .before .before .before .before .before in
     (plain-ok (s .args .lib) (s .pre), blank-listed (s .args .lib) (s .pre) (n .no-sheet .ensures))
 
 returns-2 : tie.Need-returns-2
@@ -25,5 +25,4 @@ returns-2 c =
 
 pub map-cells-spec : {M : Type 1} → statement M
 map-cells-spec = tie.close (tie.spec
-    (λ c κs. search needs) (λ c. search needs) (λ c. search needs) returns (λ c κs. search needs) (λ c. search needs) (λ c. search needs)
-    (λ c. search needs) map-header-requires (λ c. search needs) (λ c. search needs) returns-2)
+    (λ c κs. search needs) (λ c. search needs) (λ c. search needs) returns (λ c. search needs) (λ c. search needs) (λ c κs. search needs) (λ c. search needs) map-header-requires (λ c. search needs) (λ c. search needs) returns-2)

@@ -31,30 +31,30 @@ returns c =
     let many = by-length (cellsOf (a .lib)) (pairCodes (cellsOf (a .lib))) in
     pairs-stop (a .ranged) (a .lib) (a .graph .now) (a .arrivals .now) (a .work .now) (a .text .now) (omega (arith, all, many, f .form .ensures .ends, s .pre .usable .whole, c .if1 .taken))
 
-slice-aggregate-map-header : tie.Need-slice-aggregate-map-header
-slice-aggregate-map-header c = let f = c .before .before .before .before .before in omega (arith, ap length (codes-are f), f .form .ensures .ends)
+slice-aggregate-codes : tie.Need-slice-aggregate-codes
+slice-aggregate-codes c = let f = c .before .before .before .before in omega (arith, ap length (codes-are f), f .form .ensures .ends)
 
 map-header-requires : tie.Need-map-header-requires
 map-header-requires c κs =
-    let n = c .before .before .before .before in
-    let f = n .before .before .before .before in
+    let n = c .before .before .before in
+    let i = n .before .before in
+    let f = i .before .before .before in
     let s = f .before .before .before .before .before .before in
-    let ok = subst (LibraryOk (s .args .lib)) (sym (codes-are f)) (joined-ok (s .args .lib) (s .pre) (omega (arith, f .form .ensures .ends, n .before .if1 .left))) in
+    let ok = subst (LibraryOk (s .args .lib)) (sym (codes-are f)) (joined-ok (s .args .lib) (s .pre) (omega (arith, f .form .ensures .ends, i .if1 .left))) in
     (ok, blank-joined (s .args .lib) _ ok (n .no-paired-sheet .ensures))
 
 returns-2 : tie.Need-returns-2
 returns-2 c =
     let h = c .before .before .before .before .before in
-    let e = h .before .before .before .before .before .before in
-    let f = e .before .before .before in
+    let i = h .before .before .before .before .before .before in
+    let f = i .before .before .before in
     let s = f .before .before .before .before .before .before in
     let a = s .args in
-    let ok = joined-ok (a .lib) (s .pre) (omega (arith, f .form .ensures .ends, e .if1 .left)) in
+    let ok = joined-ok (a .lib) (s .pre) (omega (arith, f .form .ensures .ends, i .if1 .left)) in
     left-as (cells-go (a .ranged) (a .lib) (a .graph .now) (a .arrivals .now) (a .work .now) (a .text .now) true (pairCodes (cellsOf (a .lib))) (with-all (a .lib) (joinable-of (a .lib) (s .pre))) (all-few (a .lib) (pairCodes (cellsOf (a .lib))) ok)
     ∙ ap (λ (ks : List ℕ). headerFor (a .ranged) (a .lib) ks (a .graph .now) (a .arrivals .now) (length (a .work .now)) (length (a .text .now))) (sym (codes-are f)))
     (h .map-header .ensures)
 
 pub map-pairs-spec : {M : Type 1} → statement M
 map-pairs-spec = tie.close (tie.spec
-    (λ c. search needs) form-requires add-if1 returns (λ c κs. search needs) (λ c. search needs) slice-aggregate-map-header
-    (λ c. search needs) map-header-requires (λ c. search needs) (λ c. search needs) returns-2)
+    (λ c. search needs) form-requires add-if1 returns (λ c. search needs) slice-aggregate-codes (λ c κs. search needs) (λ c. search needs) map-header-requires (λ c. search needs) (λ c. search needs) returns-2)

@@ -34,32 +34,32 @@ returns c =
     two-early true (a .ranged) (a .lib) (pairCodes (cellsOf (a .lib))) (with-all (a .lib) (joinable-of (a .lib) (s .pre))) x y (a .work .now) (a .t1 .now) (a .t2 .now) _
     (omega (arith, many, f .form .ensures .ends, s .pre .usable .whole, c .before .if1 .taken)) (c .both .ensures)
 
-slice-aggregate-map-first : tie.Need-slice-aggregate-map-first
-slice-aggregate-map-first c = let f = c .before .before .before .before .before in omega (arith, ap length (codes-are f), f .form .ensures .ends)
+slice-aggregate-ks : tie.Need-slice-aggregate-ks
+slice-aggregate-ks c = let f = c .before .before .before .before in omega (arith, ap length (codes-are f), f .form .ensures .ends)
 
-map-first-requires : tie.Need-map-first-requires
-map-first-requires c κs =
-    let n = c .before .before .before .before .before in
-    let f = n .before .before .before .before in
+map-headers-requires : tie.Need-map-headers-requires
+map-headers-requires c κs =
+    let n = c .before .before .before .before in
+    let i = n .before .before in
+    let f = i .before .before .before in
     let s = f .before .before .before .before .before .before .before .before .before in
-    let ok = subst (LibraryOk (s .args .lib)) (sym (codes-are f)) (joined-ok (s .args .lib) (s .pre) (omega (arith, f .form .ensures .ends, n .before .if1 .left))) in
+    let ok = subst (LibraryOk (s .args .lib)) (sym (codes-are f)) (joined-ok (s .args .lib) (s .pre) (omega (arith, f .form .ensures .ends, i .if1 .left))) in
     (ok, blank-joined (s .args .lib) _ ok (n .no-paired-sheet .ensures))
 
 returns-2 : tie.Need-returns-2
 returns-2 c =
     let h = c .before .before .before .before .before .before .before in
-    let e = h .before .before .before .before .before .before .before in
-    let f = e .before .before .before in
+    let i = h .before .before .before .before .before .before .before in
+    let f = i .before .before .before in
     let s = f .before .before .before .before .before .before .before .before .before in
     let a = s .args in
     let x = channelOf (a .g1 .now) (a .a1 .now) (a .t1 .now) in
     let y = channelOf (a .g2 .now) (a .a2 .now) (a .t2 .now) in
-    let ok = joined-ok (a .lib) (s .pre) (omega (arith, f .form .ensures .ends, e .if1 .left)) in
+    let ok = joined-ok (a .lib) (s .pre) (omega (arith, f .form .ensures .ends, i .if1 .left)) in
     two-done true (a .ranged) (a .lib) (pairCodes (cellsOf (a .lib))) (with-all (a .lib) (joinable-of (a .lib) (s .pre))) x y (a .work .now) (a .t1 .now) (a .t2 .now) _
     (all-few (a .lib) (pairCodes (cellsOf (a .lib))) ok) _ _ _
-    (subst (λ (ks : List ℕ). PairLeft (a .ranged) (a .lib) ks x y (firstFor (length (a .work .now)) x y) (a .work .now) (a .t1 .now) (a .t2 .now) (h .map-first .result) (h .map-first .last .1 .1 .1 .1 .1 .1 .1 .1 .0) (h .map-first .last .1 .1 .1 .1 .1 .1 .1 .1 .1 .0) (h .map-first .last .1 .1 .1 .1 .1 .1 .1 .1 .1 .1 .0)) (codes-are f) (h .map-first .ensures))
+    (subst (λ (ks : List ℕ). PairLeft (a .ranged) (a .lib) ks x y (firstFor (length (a .work .now)) x y) (a .work .now) (a .t1 .now) (a .t2 .now) (h .map-headers .result) (h .map-headers .last .1 .1 .1 .1 .1 .1 .1 .1 .0) (h .map-headers .last .1 .1 .1 .1 .1 .1 .1 .1 .1 .0) (h .map-headers .last .1 .1 .1 .1 .1 .1 .1 .1 .1 .1 .0)) (codes-are f) (h .map-headers .ensures))
 
 pub map-pairs-spec : {M : Type 1} → statement M
 map-pairs-spec = tie.close (tie.spec
-    (λ c. search needs) form-requires add-if1 (λ c κs. search needs) returns (λ c κs. search needs) (λ c. search needs)
-    slice-aggregate-map-first (λ c. search needs) map-first-requires (λ c. search needs) (λ c. search needs) (λ c. search needs) returns-2)
+    (λ c. search needs) form-requires add-if1 (λ c κs. search needs) returns (λ c. search needs) slice-aggregate-ks (λ c κs. search needs) (λ c. search needs) map-headers-requires (λ c. search needs) (λ c. search needs) (λ c. search needs) returns-2)

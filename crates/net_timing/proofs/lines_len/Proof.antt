@@ -1,5 +1,6 @@
 -- `net_timing::lines_len` meets its contract. The invariant: what is counted and what is left make the whole, at most 43 bytes for each output. The measure is the number of outputs left.
-use Rattle.base.specs.{_≡_, ap, ℕ, _+_, _-_, _*_, _≤_, arith, needs, length, length-append}
+use Rattle.base.specs.{_≡_, sym, ap, subst, ℕ, _+_, _-_, _*_, _/_, _≤_, arith, length, length-append}
+use Rattle.base_words.proofs.{room-need}
 use Rattle.net_timing.specs.{linesFrom}
 use Rattle.net_timing.proofs.Counting.{line-length, lines-next, lines-none}
 use Rattle.net_timing.proofs.lines_len.Statement.{statement}
@@ -18,13 +19,26 @@ loop-holds c =
     let e : a .outputs - 0 ≡ a .outputs = omega arith in
     omega (arith, ap (λ (k : ℕ). length (linesFrom (a .work .now) (a .m) 0 k)) e)
 
+output-requires : tie.Need-output-requires Inv-loop μ-loop
+output-requires c κs = (c .before .before .before .pre .0 .room, omega arith)
+
+low-requires : tie.Need-low-requires Inv-loop μ-loop
+low-requires c κs =
+    let l = c .before .before in
+    let s = l .before .before in
+    (room-need _ _ _ (s .pre .0 .room), subst (λ (x : ℕ). x / 2 ≤ s .args .m) (sym (c .output .ensures)) (s .pre .0 .within (l .loop .i) (omega arith)))
+
+phase-requires : tie.Need-phase-requires Inv-loop μ-loop
+phase-requires c κs = low-requires (c .before) κs
+
 loop-again : tie.Need-loop-again Inv-loop μ-loop
 loop-again c =
     let high = c .before in
-    let l = high .before .before .before in
+    let out = high .before .before in
+    let l = out .before .before in
     let a = l .before .before .args in
     let next = lines-next (a .work .now) (a .m) (a .outputs) (l .loop .i) (omega arith) in
-    let here = rw (← high .before .output-low .ensures, ← high .output-high .ensures) at next in
+    let here = rw (← out .output .ensures, ← high .before .low .ensures, ← high .phase .ensures) at next in
     omega (arith, simp (length-append, line-length) at (ap length here))
 
 returns : tie.Need-returns Inv-loop μ-loop
@@ -35,5 +49,5 @@ returns c =
 
 pub lines-len-spec : {M : Type 1} → statement M
 lines-len-spec = tie.close (tie.spec
-    Inv-loop μ-loop loop-holds (λ c κs. search needs) (λ c κs. search needs) (λ c. omega arith) (λ c κs. tt) (λ c. omega arith)
+    Inv-loop μ-loop loop-holds output-requires low-requires phase-requires (λ c. omega arith) (λ c κs. tt) (λ c. omega arith)
     (λ c. omega arith) (λ c. omega arith) loop-again returns)

@@ -1,5 +1,5 @@
 -- `net_timing::match_low` meets its contract: the leaves, the pins and the delays that are read are those of the match.
-use Rattle.base.specs.{_≡_, sym, ap, subst, _∙_, List, ℕ, _*_, _≤_, arith, length, drop, getD-drop, needs}
+use Rattle.base.specs.{_≡_, sym, ap, subst, _∙_, List, ℕ, _*_, _≤_, arith, length, drop, getD, getD-drop, needs}
 use Rattle.model.specs.{cellAt, fedNets}
 use Rattle.model.specs.declared.Cut.{Cut}
 use Rattle.base_words.specs.{cutOf}
@@ -17,13 +17,19 @@ load-cut-requires c κs =
     let s = c .before in
     (s .pre .1 .room, s .pre .2, omega (arith, s .pre .0 .2 .cut, s .pre .1 .few (s .args .v) (s .pre .2)))
 
+cast-count : tie.Need-cast-count
+cast-count c =
+    let s = c .before .before .before .before in
+    let k : ℕ = s .args .x .cell in
+    omega (arith, s .pre .0 .3 .listed k (s .pre .0 .2 .cell), s .pre .0 .1 .pins k)
+
 pins-low-requires : tie.Need-pins-low-requires
 pins-low-requires c κs =
-    let k = c .before .before .before in
+    let k = c .before .before in
     let s = k .before .before in
     let a = s .args in
     let cells = s .pre .0 .0 in
-    let e : c .wide .result ≡ cellAt cells (a .x .cell) .pins = c .wide .ensures ∙ s .pre .0 .3 .listed (a .x .cell) (s .pre .0 .2 .cell) in (
+    let e : getD (a .pins .now) (a .x .cell) 0 ≡ cellAt cells (a .x .cell) .pins = s .pre .0 .3 .listed (a .x .cell) (s .pre .0 .2 .cell) in (
       s .pre .1 .room,
       subst (λ (n : ℕ). PinsIn (k .load-cut .result .leaves) (a .m) (a .x .order) n) (sym e)
           (subst (λ (y : Cut). PinsIn (y .leaves) (a .m) (a .x .order) (cellAt cells (a .x .cell) .pins)) (sym (k .load-cut .ensures))
@@ -34,14 +40,13 @@ pins-low-requires c κs =
 returns : tie.Need-returns
 unfolding matchLow
 returns c cells ok i pins lows =
-    let t = c .before in
-    let k = t .before .before .before in
+    let k = c .before .before .before in
     let s = k .before .before in
     let a = s .args in
     let n : ℕ = cellAt cells (a .x .cell) .pins in
     let places : List ℕ = placesOf (a .x .order) in
     let leaves : List ℕ = cutOf (a .work .now) (a .m) (a .v) (a .x .cut) .leaves in
-    let e : t .wide .result ≡ n = t .wide .ensures ∙ pins .listed (a .x .cell) (i .cell) in
+    let e : getD (a .pins .now) (a .x .cell) 0 ≡ n = pins .listed (a .x .cell) (i .cell) in
     let table : List ℕ = drop (4 * a .x .cell) (a .lows .now) in
     let four : n ≤ 4 = ok .pins (a .x .cell) in
     let long : n ≤ length places = omega (arith, places-four (a .x .order) (i .order)) in
@@ -54,4 +59,4 @@ returns c cells ok i pins lows =
 
 pub match-low-spec : {M : Type 1} → statement M
 match-low-spec = tie.close (tie.spec
-    load-cut-requires (λ c. search needs) (λ c. search needs) (λ c κs. search needs) (λ c. search needs) pins-low-requires returns)
+    load-cut-requires (λ c. search needs) (λ c. search needs) cast-count (λ c. search needs) pins-low-requires returns)

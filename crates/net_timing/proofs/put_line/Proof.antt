@@ -1,9 +1,9 @@
--- `net_timing::put_line` meets its contract: the keyword, the output's own name and the two arrivals.
+-- `net_timing::put_line` meets its contract: the keyword, the output's own name, a space and an arrival, twice, and the end of the line.
 use Rattle.base.specs.{_≤_, arith, needs, length}
 use Rattle.model.specs.{text}
+use Rattle.base_text.proofs.{as-wrote}
 use Rattle.net_writer.proofs.{then}
 use Rattle.net_timing.specs.{lineText}
-use Rattle.net_timing.proofs.Counting.{times-length}
 use Rattle.net_timing.proofs.put_line.Statement.{statement}
 use Rattle.net_timing.proofs.put_line.Tie as tie
 
@@ -11,12 +11,17 @@ returns : tie.Need-returns
 unfolding lineText text
 returns c =
     let p = c .before .before in
-    let name = p .before .before .before .before in
+    let high = p .before .before .before .before in
+    let space = high .before .before .before .before in
+    let low = space .before .before .before .before in
+    let first = low .before .before .before .before in
+    let name = first .before .before .before .before in
     let keyword = name .before .before .before .before in
-    let a = keyword .before .before .before .before .args in
-    let h : p .put-times .result ≤ length (p .put-times .last .0) = omega (arith, times-length (a .low) (a .high)) in
-    then h (keyword .put-bytes .ensures) (then h (name .put-out .ensures) (p .put-times .ensures))
+    let h : p .put-byte3 .result ≤ length (p .put-byte3 .last .0) = omega arith in
+    then h (keyword .put-bytes .ensures) (then h (name .put-out .ensures) (then h (first .put-byte .ensures) (then h (as-wrote (low .put-number .ensures))
+    (then h (space .put-byte2 .ensures) (then h (as-wrote (high .put-number2 .ensures)) (p .put-byte3 .ensures))))))
 
 pub put-line-spec : {M : Type 1} → statement M
 put-line-spec = tie.close (tie.spec
-    (λ c. search needs) (λ c κs. omega arith) (λ c κs. omega arith) (λ c κs. omega arith) (λ c. search needs) returns)
+    (λ c. search needs) (λ c κs. omega arith) (λ c κs. omega arith) (λ c κs. omega arith) (λ c κs. omega arith) (λ c κs. omega arith)
+    (λ c κs. omega arith) (λ c κs. omega arith) (λ c. search needs) returns)

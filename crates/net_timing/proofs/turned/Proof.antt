@@ -1,13 +1,12 @@
 -- `net_timing::turned` meets its contract: an inverter to map with, or what the phase has of its own.
-use Rattle.base.specs.{_≡_, ap, subst, _∙_, ℕ, _+_, _*_, arith, getD, needs}
+use Rattle.base.specs.{_≡_, ap, subst, _∙_, ℕ, _+_, _*_, _<_, arith, getD, needs}
 use Rattle.net_timing.specs.{after, turnedLow, InverterIn}
 use Rattle.net_timing.proofs.turned.Statement.{statement}
 use Rattle.net_timing.proofs.turned.Tie as tie
 
-inverter-low-requires : tie.Need-inverter-low-requires
-inverter-low-requires c κs =
-    let s = c .before .before .before in
-    subst (InverterIn (s .pre .0)) (c .before .s .given .1) (s .pre .1) .1
+-- an inverter is one of the numbers
+few : (c : tie.After-known-told) → c .before .s .given .0 .0 < 256
+few c = let s = c .before .before .before in subst (InverterIn (s .pre .0)) (c .before .s .given .1) (s .pre .1) .1
 
 returns : tie.Need-returns
 unfolding turnedLow
@@ -18,8 +17,7 @@ returns c cells i lows =
     let h = subst (InverterIn cells) (k .s .given .1) i .0 in
     let z : 4 * n ≡ 4 * n + 0 = omega arith in
     rw (k .s .given .1)
-    (c .later .ensures
-    ∙ ap (after (s .args .other)) (c .before .inverter-low .ensures ∙ ap (λ (y : ℕ). getD (s .args .lows .now) y 0) z ∙ lows .listed n 0 h (omega arith)))
+    (c .later .ensures ∙ ap (after (s .args .other)) (ap (λ (y : ℕ). getD (s .args .lows .now) y 0) z ∙ lows .listed n 0 h (omega arith)))
 
 returns-2 : tie.Need-returns-2
 unfolding turnedLow
@@ -35,5 +33,5 @@ returns-4 c cells i lows = rw (c .enum-told3 .given .1)
 
 pub turned-spec : {M : Type 1} → statement M
 turned-spec = tie.close (tie.spec
-    (λ c. search needs) inverter-low-requires (λ c κs. search needs) (λ c. search needs) (λ c. search needs) (λ c. search needs) returns
-    returns-2 returns-3 returns-4)
+    (λ c. search needs) (λ c. omega (arith, few c)) (λ c. omega (arith, few c)) (λ c. omega (arith, few c)) (λ c κs. search needs)
+    (λ c. search needs) (λ c. search needs) (λ c. search needs) returns returns-2 returns-3 returns-4)

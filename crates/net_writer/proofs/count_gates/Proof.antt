@@ -18,19 +18,19 @@ abbrev μ-loop : tie.MeasureT-loop
 
 loop-holds : tie.Need-loop-holds Inv-loop μ-loop
 loop-holds c =
-    let a = c .before .before .before .before .args in
+    let a = c .before .before .before .args in
     let k = comes (omega arith) (c .gate-from .ensures) in
     let e : 2 * (a .m + 1) - 0 ≡ 2 * (a .m + 1) = omega arith in (
       k .high,
-      rw (c .before .no-tally .ensures) (record { length = omega arith; gates = omega arith; area = omega arith }),
-      rw (c .before .no-tally .ensures, ← k .same (a .book .now), e),
+      record { length = omega arith; gates = omega arith; area = omega arith },
+      rw (← k .same (a .book .now), e),
     )
 
 loop-again : tie.Need-loop-again Inv-loop μ-loop
 loop-again c =
     let d = c .before .before in
     let l = d .before .before in
-    let s = l .before .before .before .before .before in
+    let s = l .before .before .before .before in
     let w = s .args .work .now in
     let book = s .args .book .now in
     let t = c .before .count-driver in
@@ -47,7 +47,7 @@ loop-again c =
 returns : tie.Need-returns Inv-loop μ-loop
 returns c =
     let l = c .before .loop in
-    let a = c .before .before .before .before .before .before .args in
+    let a = c .before .before .before .before .before .args in
     let none = gates-none (a .work .now) (a .book .now) (a .m) (2 * (a .m + 1)) (l .l) (c .loop-test .left) in (
       sym (tally-none (l .t)) ∙ ap (tallied (l .t)) (sym none) ∙ l .inv .2,
       record { length = omega arith; gates = omega arith; area = omega arith },
@@ -55,6 +55,6 @@ returns c =
 
 pub count-gates-spec : {M : Type 1} → statement M
 count-gates-spec = tie.close (tie.spec
-    Inv-loop μ-loop (λ c. omega arith) (λ c. omega arith) (λ c κs. tt) (λ c κs. search needs) loop-holds (λ c κs. search needs)
+    Inv-loop μ-loop (λ c. omega arith) (λ c. omega arith) (λ c κs. search needs) loop-holds (λ c κs. search needs)
     (λ c κs. search needs) (λ c κs. search needs) (λ c. omega (arith, comes (omega arith) (c .gate-after .ensures) .low)) loop-again
     returns)

@@ -1,46 +1,56 @@
--- `net_writer::put_pins` meets its contract. The invariant: the words of the first j pins are written. The measure is the number of pins left.
-use Rattle.base.specs.{_≡_, refl, ap, _+_, _-_, _≤_, arith, needs, length, take, drop, length-append}
-use Rattle.base_text.proofs.{Partly, begin, step, kept, end}
-use Rattle.net_writer.specs.{netWords}
-use Rattle.net_writer.proofs.Counting.{pins-next, pins-none}
-use Rattle.net_writer.proofs.Behind.{left}
+-- `net_writer::put_pins` meets its contract: pin by pin.
+use Rattle.base.specs.{_≡_, ℕ, _+_, _≤_, ap, arith, needs, length, length-append}
+use Rattle.net_writer.specs.{pinPart}
+use Rattle.net_writer.proofs.Counting.{pin-parts}
+use Rattle.net_writer.proofs.Behind.{then, reads}
 use Rattle.net_writer.proofs.put_pins.Statement.{statement}
 use Rattle.net_writer.proofs.put_pins.Tie as tie
 
-abbrev Inv-loop : tie.InvT-loop
-Inv-loop out₀ at count nets next₀ j₀ out next j =
-    (j ≤ count) × Partly out₀ out at next (netWords 65 (take count nets)) (netWords (65 + j) (drop j (take count nets)))
+module _ (s : tie.Start) where
+  four : length (s .args .nets) ≡ 4
+  four = search needs
 
-abbrev μ-loop : tie.MeasureT-loop
-μ-loop out₀ at count nets next₀ j₀ out next j = count - j
+  part : ℕ → ℕ
+  part j = length (pinPart (s .args .nets) (s .args .count) j)
 
-put-pin-requires : tie.Need-put-pin-requires Inv-loop μ-loop
-put-pin-requires c κs =
-    let l = c .before .before in
-    let s = l .before .before in
-    let four : length (s .args .t3) ≡ 4 = search needs in
-    let next = pins-next (s .args .t3) (s .args .count) four (s .pre .0) (l .loop .j) (omega arith) in
-    omega (arith, left (s .pre .1) (l .loop .inv .1), simp length-append at (ap length next))
+  room : s .args .at + (part 0 + (part 1 + (part 2 + part 3))) ≤ length (s .args .out .now)
+  unfolding part
+  room = omega (arith, s .pre .1, simp length-append at (ap length (pin-parts (s .args .nets) (s .args .count) four (s .pre .0))))
 
-loop-again : tie.Need-loop-again Inv-loop μ-loop
-loop-again c =
-    let l = c .before .before .before .before .before in
-    let s = l .before .before in
-    let four : length (s .args .t3) ≡ 4 = search needs in
-    let next = pins-next (s .args .t3) (s .args .count) four (s .pre .0) (l .loop .j) (omega arith) in
-    (omega arith, step (s .pre .1) (l .loop .inv .1) _ _ _ _ next (c .before .before .put-pin .ensures))
+put-pin-of-requires : tie.Need-put-pin-of-requires
+unfolding part
+put-pin-of-requires c κs = let s = c .before .before in (omega arith, s .pre .0, omega (arith, room s))
 
-same-length : tie.Need-same-length Inv-loop μ-loop
-same-length c = let l = c .before in kept (l .before .before .pre .1) (l .loop .inv .1)
+put-pin-of-requires-2 : tie.Need-put-pin-of-requires-2
+unfolding part
+put-pin-of-requires-2 c κs = let s = c .before .before .before .before .before .before in (omega arith, s .pre .0, omega (arith, room s))
 
-returns : tie.Need-returns Inv-loop μ-loop
+put-pin-of-requires-3 : tie.Need-put-pin-of-requires-3
+unfolding part
+put-pin-of-requires-3 c κs =
+    let second = c .before .before .before in
+    let s = second .before .before .before .before .before .before .before in
+    (omega arith, s .pre .0, omega (arith, room s))
+
+put-pin-of-requires-4 : tie.Need-put-pin-of-requires-4
+unfolding part
+put-pin-of-requires-4 c κs =
+    let third = c .before .before .before in
+    let second = third .before .before .before .before in
+    let s = second .before .before .before .before .before .before .before in
+    (omega arith, s .pre .0, omega (arith, room s))
+
+returns : tie.Need-returns
+unfolding part
 returns c =
-    let l = c .before in
-    let s = l .before .before in
-    let four : length (s .args .t3) ≡ 4 = search needs in
-    end (s .pre .1) (l .loop .inv .1) (pins-none (s .args .t3) (s .args .count) four (s .pre .0) (l .loop .j) (c .loop-test .left))
+    let d = c .before .before in
+    let third = d .before .before .before .before in
+    let second = third .before .before .before .before in
+    let first = second .before .before .before .before in
+    let s = first .before .before .before in
+    let h : d .put-pin-of4 .result ≤ length (d .put-pin-of4 .last .0) = omega (arith, room s) in
+    reads (pin-parts (s .args .nets) (s .args .count) (four s) (s .pre .0))
+    (then h (first .put-pin-of .ensures) (then h (second .put-pin-of2 .ensures) (then h (third .put-pin-of3 .ensures) (d .put-pin-of4 .ensures))))
 
 pub put-pins-spec : {M : Type 1} → statement M
-put-pins-spec = tie.close (tie.spec
-    Inv-loop μ-loop (λ c. (omega arith, begin (c .before .args .out .now) (c .before .args .at) refl)) (λ c. omega arith) (λ c. omega arith)
-    (λ c. omega arith) (λ c. omega arith) put-pin-requires (λ c. omega arith) (λ c. omega arith) loop-again same-length returns)
+put-pins-spec = tie.close (tie.spec put-pin-of-requires put-pin-of-requires-2 put-pin-of-requires-3 put-pin-of-requires-4 (λ c. search needs) returns)

@@ -15,7 +15,7 @@ returns : tie.Need-returns Inv-loop μ-loop
 returns c =
     let s = c .before .before .before .before in
     let e = sym (c .before .before .before .loop .inv ∙ end-here (c .before .before .before .before .args .s .now) (c .before .before .before .loop .at) (c .before .before .loop-test .taken) (c .if1 .taken)) in
-    (e, omega (arith, e, end-within (s .args .s .now) (s .args .from) (s .pre) .0), omega (arith, e, end-within (s .args .s .now) (s .args .from) (s .pre) .1))
+    (e, omega (arith, e, end-within (s .args .s .now) (s .args .from) .0), omega (arith, e, end-within (s .args .s .now) (s .args .from) .1))
 
 loop-again : tie.Need-loop-again Inv-loop μ-loop
 loop-again c = c .before .before .before .loop .inv ∙ end-on (c .before .before .before .before .args .s .now) (c .before .before .before .loop .at) (c .before .before .loop-test .taken) (c .if1 .left)
@@ -24,7 +24,7 @@ returns-2 : tie.Need-returns-2 Inv-loop μ-loop
 returns-2 c =
     let s = c .before .before in
     let e = sym (c .before .loop .inv ∙ end-past (c .before .before .args .s .now) (c .before .loop .at) (c .loop-test .left)) in
-    (e, omega (arith, e, end-within (s .args .s .now) (s .args .from) (s .pre) .0), omega (arith, e, end-within (s .args .s .now) (s .args .from) (s .pre) .1))
+    (e, omega (arith, e, end-within (s .args .s .now) (s .args .from) .0), omega (arith, e, end-within (s .args .s .now) (s .args .from) .1))
 
 pub end-spec : {M : Type 1} → statement M
 end-spec = tie.close (tie.spec

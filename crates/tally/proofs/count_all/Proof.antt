@@ -12,4 +12,4 @@ abbrev μ-loop : tie.MeasureT-loop
 pub count-all-spec : {M : Type 1} → statement M
 count-all-spec = tie.close (tie.spec
     Inv-loop μ-loop (λ c. refl) (λ c κs. search needs) (λ c. search needs) (λ c. search needs) (λ c. search needs) (λ c. omega arith)
-    (λ c. omega arith) (λ c. search needs) (λ c. search needs) (λ c. search needs))
+    (λ c. omega arith) (λ c. search needs) (λ c κs. search needs) (λ c. search needs) (λ c. search needs))

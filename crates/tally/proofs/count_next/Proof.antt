@@ -22,10 +22,11 @@ array-share-prefix-name c =
 
 slice-aggregate-count-file : tie.Need-slice-aggregate-count-file
 slice-aggregate-count-file c =
-    let p = c .before .before .before .before .before .before .put-number in
+    let number = c .before .before .before .before .before .before in
+    let p = number .put-number in
     let q = c .before .before .put-bytes in
     let long : length (q .last .0) ≡ 16 = search needs in
-    sym (length-take-le (q .result) (q .last .0) (omega (arith, p .ensures .0, q .ensures .ends, ten-digits (c .before .before .before .before .before .before .before .before .before .before .args .k) (search needs))))
+    sym (length-take-le (q .result) (q .last .0) (omega (arith, p .ensures .0, q .ensures .ends, ten-digits (number .before .before .before .before .args .k) (search needs))))
 
 pub count-next-spec : {M : Type 1} → statement M
 count-next-spec = tie.close (tie.spec

@@ -12,8 +12,9 @@ slice-reshare-prefix-put c =
 
 slice-aggregate-put : tie.Need-slice-aggregate-put
 slice-aggregate-put c =
-    let r = c .before .before .before .before .before .before .report in
-    let a = c .before .before .before .before .before .before .before .before .before .before .args in
+    let told = c .before .before .before .before .before .before in
+    let r = told .report in
+    let a = told .before .before .before .before .args in
     let h = report-within (a .t) (a .cells .now) (length (a .text .now)) (c .before .before .n .given .0 .0) (sym (c .before .before .n .given .1) ∙ r .ensures .0) in
     omega (arith, length-take (c .before .before .n .given .0 .0) (r .last .1 .1 .0))
 

@@ -1,5 +1,5 @@
 -- `tally_counting::count` meets its contract: 1, the library's, then 28 and 29.
-use Rattle.base.specs.{arith, _≡_, sym, ap, subst, _∙_, Bool, List, needs}
+use Rattle.base.specs.{_≡_, sym, ap, subst, _∙_, ⊎-elim, Bool, List, ltb-true, ltb-false, needs}
 use Rattle.model.specs.{Read, rulingOf, verdictRuling, cellsOf, readLibrary, isRanged, countText, countedAnswer}
 use Rattle.model.specs.declared.Cell.{Cell}
 use Rattle.model.specs.declared.Library.{Library}
@@ -20,23 +20,23 @@ both t r q e = (e, counted-ruled t r q e)
 returns : tie.Need-returns
 returns c =
     let a = c .before .before .before .before .args in
-    both (a .t) _ (countText (a .t) (a .cells .now) (a .netlist .now)) (c .refused .ensures ∙ sym (ap (countedAnswer (a .t)) (count-long (a .t) (a .cells .now) (a .netlist .now) (omega arith))))
-
-returns-2 : tie.Need-returns-2
-returns-2 c =
-    let a = c .before .before .before .before .before .args in
-    both (a .t) _ (countText (a .t) (a .cells .now) (a .netlist .now)) (c .refused2 .ensures ∙ sym (ap (countedAnswer (a .t)) (count-long-too (a .t) (a .cells .now) (a .netlist .now) (omega arith))))
+    both (a .t) _ (countText (a .t) (a .cells .now) (a .netlist .now)) (c .refused .ensures
+    ∙ sym (ap (countedAnswer (a .t)) (⊎-elim
+    (λ y. count-long (a .t) (a .cells .now) (a .netlist .now) (y .taken))
+    (λ y. count-long-too (a .t) (a .cells .now) (a .netlist .now) (ltb-true _ _ (y .1 .taken)))
+    (c .before .if1 .came))))
 
 count-in-requires : tie.Need-count-in-requires
 count-in-requires c κs =
     let a = c .before .before .before .before .before .before .before .before .before .args in
     let r = c .before .before .before .before .read in
     let o = accepted (readLibrary (a .cells .now)) (r .result) (r .ensures .0) (c .before .enum-told .given .1) in
-    (omega arith, subst Listed (sym (o .isLibrary)) (listed (a .cells .now) (o .cells) (o .isRead)), subst Blank (sym (o .isLibrary)) (blanks (a .cells .now) (o .cells) (o .isRead)))
+    (ltb-false _ _ (c .before .before .before .before .before .if2 .left), subst Listed (sym (o .isLibrary)) (listed (a .cells .now) (o .cells) (o .isRead)), subst Blank (sym (o .isLibrary)) (blanks (a .cells .now) (o .cells) (o .isRead)))
 
-returns-3 : tie.Need-returns-3
-returns-3 c =
-    let p = c .before .before .before .before .before .before .before .before .before in let a = p .before .args in
+returns-2 : tie.Need-returns-2
+returns-2 c =
+    let p = c .before .before .before .before .before .before in
+    let a = p .before .before .before .before .args in
     let r = c .before .before .before .before .before .read in
     let o = accepted (readLibrary (a .cells .now)) (r .result) (r .ensures .0) (c .before .before .enum-told .given .1) in
     both (a .t) _ (countText (a .t) (a .cells .now) (a .netlist .now)) (
@@ -44,17 +44,18 @@ returns-3 c =
     ∙ ap (λ (b : Bool). countedAnswer (a .t) (countRead (a .t) b (cellsOf (r .result .library)) (a .netlist .now))) (c .before .is-ranged .ensures)
     ∙ ap (λ (l : Library). countedAnswer (a .t) (countRead (a .t) (isRanged (a .cells .now)) (cellsOf l) (a .netlist .now))) (o .isLibrary)
     ∙ ap (λ (cs : List Cell). countedAnswer (a .t) (countRead (a .t) (isRanged (a .cells .now)) cs (a .netlist .now))) (cells-back (o .cells))
-    ∙ sym (ap (countedAnswer (a .t)) (count-read (a .t) (a .cells .now) (a .netlist .now) (omega arith) (omega arith) (o .cells) (o .isRead))))
+    ∙ sym (ap (countedAnswer (a .t)) (count-read (a .t) (a .cells .now) (a .netlist .now) (p .before .if1 .left) (ltb-false _ _ (p .if2 .left)) (o .cells) (o .isRead))))
 
-returns-4 : tie.Need-returns-4
-returns-4 c =
-    let p = c .before .before .before .before .before .before .before .before .before in let a = p .before .args in
+returns-3 : tie.Need-returns-3
+returns-3 c =
+    let p = c .before .before .before .before .before .before in
+    let a = p .before .before .before .before .args in
     let r = c .before .before .before .before .before .read in
     both (a .t) _ (countText (a .t) (a .cells .now) (a .netlist .now)) (
-    c .refused3 .ensures
-    ∙ sym (ap (countedAnswer (a .t)) (count-refused (a .t) (a .cells .now) (a .netlist .now) (omega arith) (omega arith) _ _ (turned-back (readLibrary (a .cells .now)) (r .result) (r .ensures .0) _ _ (c .before .before .verdict .given .1)))))
+    c .refused2 .ensures
+    ∙ sym (ap (countedAnswer (a .t)) (count-refused (a .t) (a .cells .now) (a .netlist .now) (p .before .if1 .left) (ltb-false _ _ (p .if2 .left)) _ _ (turned-back (readLibrary (a .cells .now)) (r .result) (r .ensures .0) _ _ (c .before .before .verdict .given .1)))))
 
 pub count-spec : {M : Type 1} → statement M
 count-spec = tie.close (tie.spec
-    (λ c κs. search needs) returns (λ c κs. search needs) returns-2 (λ c κs. search needs) (λ c. search needs) (λ c κs. search needs)
-    count-in-requires (λ c. search needs) (λ c κs. search needs) returns-3 returns-4)
+    (λ c κs. search needs) returns (λ c κs. search needs) (λ c. search needs) (λ c κs. search needs) count-in-requires (λ c. search needs)
+    (λ c κs. search needs) returns-2 returns-3)

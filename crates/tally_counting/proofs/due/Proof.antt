@@ -1,52 +1,65 @@
 -- `tally_counting::due` meets its contract: by the line at the place.
-use Rattle.base.specs.{arith, sym, _∙_, _-_, needs}
+use Rattle.base.specs.{arith, sym, _∙_, ⊎-elim, _-_, _≤_, _∷_, [], length, not-true, not-false, needs}
+use Rattle.model.specs.{dueLines}
 use Rattle.tally_counting.specs.{formTest}
-use Rattle.tally_counting.proofs.DueLines.{ten-line, span-bounds, part-short, due-yes, due-no, due-out}
+use Rattle.tally_counting.proofs.DueLines.{ten-line, span-bounds, part-short, due-yes, due-no, due-out, read-on, read-off}
 use Rattle.tally_counting.proofs.due.Statement.{statement}
 use Rattle.tally_counting.proofs.due.Tie as tie
-
-add-if1 : tie.Need-add-if1
-add-if1 c =
-    let a = c .before .before .args in
-    let b = span-bounds (a .s .now) (a .at) (omega arith) (c .line .result) (c .line .ensures) in omega arith
 
 returns : tie.Need-returns
 returns c =
     let a = c .before .before .before .args in
-    (due-out (a .s .now) (a .at) (omega arith) (c .before .line .result) (c .before .line .ensures) (formTest (a .form)) (c .if1 .taken), omega arith)
+    (sym (read-off (a .s .now) (a .r) (dueLines (length (a .s .now)) (formTest (a .form) ∷ [])) (not-true _ (c .if1 .taken))), omega arith)
+
+-- the line at the place
+line : (c : tie.After-line) → let a = c .before .before .before .before .args in (a .r .at ≤ c .line .result .stop) × (c .line .result .stop ≤ length (a .s .now))
+line c = let a = c .before .before .before .before .args in span-bounds (a .s .now) (a .r .at) (omega arith) (c .line .result) (c .line .ensures)
+
+add-if2 : tie.Need-add-if2
+add-if2 c = let b = line c in omega arith
 
 sub-has-form : tie.Need-sub-has-form
-sub-has-form c =
-    let a = c .before .before .before .args in
-    let b = span-bounds (a .s .now) (a .at) (omega arith) (c .before .line .result) (c .before .line .ensures) in omega arith
+sub-has-form c = let b = line (c .before) in omega arith
 
 part-has-form-start : tie.Need-part-has-form-start
-part-has-form-start c =
-    let a = c .before .before .before .args in
-    let b = span-bounds (a .s .now) (a .at) (omega arith) (c .before .line .result) (c .before .line .ensures) in omega arith
+part-has-form-start c = let b = line (c .before) in omega arith
 
 part-has-form-end : tie.Need-part-has-form-end
-part-has-form-end c =
-    let a = c .before .before .before .args in
-    let b = span-bounds (a .s .now) (a .at) (omega arith) (c .before .line .result) (c .before .line .ensures) in omega arith
+part-has-form-end c = let b = line (c .before) in omega arith
 
 has-form-requires : tie.Need-has-form-requires
 has-form-requires c κs =
-    let a = c .before .before .before .before .args in
-    omega (arith, part-short (c .before .before .line .result .stop - a .at) (a .at) (a .s .now))
+    let l = c .before .before in
+    let a = l .before .before .before .before .args in
+    omega (arith, part-short (l .line .result .stop - a .r .at) (a .r .at) (a .s .now))
 
 returns-2 : tie.Need-returns-2
 returns-2 c =
-    let a = c .before .before .before .before .before .before .args in let l = c .before .before .before .before .line in
-    let t = ten-line (a .s .now) (a .at) (omega arith) (l .result) (l .ensures) (omega arith) in
-    (due-yes (a .s .now) (a .at) (omega arith) (l .result) (l .ensures) (formTest (a .form)) t (sym (c .before .has-form .ensures) ∙ c .if2 .taken), t .within)
+    let l = c .before in
+    let a = l .before .before .before .before .args in
+    let s = a .s .now in
+    let at = a .r .at in
+    let f = formTest (a .form) in
+    let on = sym (read-on s (a .r) (dueLines (length s) (f ∷ [])) (not-false _ (l .before .if1 .left))) in
+    ⊎-elim
+    (λ y. (due-out s at (omega arith) (l .line .result) (l .line .ensures) f (y .taken) ∙ on, omega arith))
+    (λ y. (due-no s at (omega arith) (l .line .result) (l .line .ensures) f (ten-line s at (omega arith) (l .line .result) (l .line .ensures) (y .0 .left)) (sym (y .2 .ensures) ∙ not-true _ (y .3 .taken)) ∙ on, omega arith))
+    (c .if2 .came)
 
 returns-3 : tie.Need-returns-3
 returns-3 c =
-    let a = c .before .before .before .before .before .before .args in let l = c .before .before .before .before .line in
-    let t = ten-line (a .s .now) (a .at) (omega arith) (l .result) (l .ensures) (omega arith) in
-    (due-no (a .s .now) (a .at) (omega arith) (l .result) (l .ensures) (formTest (a .form)) t (sym (c .before .has-form .ensures) ∙ c .if2 .left), omega arith)
+    let t = c .before .before .before in
+    let l = t .before in
+    let a = l .before .before .before .before .args in
+    let s = a .s .now in
+    let at = a .r .at in
+    let f = formTest (a .form) in
+    let ten = ten-line s at (omega arith) (l .line .result) (l .line .ensures) (t .if2 .left) in (
+      due-yes s at (omega arith) (l .line .result) (l .line .ensures) f ten (sym (c .before .has-form .ensures) ∙ not-false _ (c .if3 .left))
+          ∙ sym (read-on s (a .r) (dueLines (length s) (f ∷ [])) (not-false _ (l .before .if1 .left))),
+      ten .within,
+    )
 
 pub due-spec : {M : Type 1} → statement M
 due-spec = tie.close (tie.spec
-    (λ c κs. search needs) add-if1 returns sub-has-form part-has-form-start part-has-form-end has-form-requires returns-2 returns-3)
+    returns (λ c κs. search needs) add-if2 sub-has-form part-has-form-start part-has-form-end has-form-requires returns-2 returns-3)

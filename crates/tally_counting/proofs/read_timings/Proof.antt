@@ -25,8 +25,8 @@ unfolding formTest
 loop-again c =
     let a = c .before .before .before .before .before .args in
     let p = c .before .before .loop in (
-      c .then-due .ensures .1,
-      p .inv .1 ∙ timings-step (length (a .s .now)) (readIn (a .s .now) (p .r)) (p .k) (c .before .before .before .if1 .n) (readIn (a .s .now) (c .then-due .result)) (omega arith) (c .then-due .ensures .0),
+      c .due .ensures .1,
+      p .inv .1 ∙ timings-step (length (a .s .now)) (readIn (a .s .now) (p .r)) (p .k) (c .before .before .before .if1 .n) (readIn (a .s .now) (c .due .result)) (omega arith) (c .due .ensures .0),
     )
 
 returns : tie.Need-returns Inv-loop μ-loop

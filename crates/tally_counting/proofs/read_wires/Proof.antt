@@ -20,8 +20,8 @@ unfolding formTest
 loop-again c =
     let a = c .before .before .before .before .before .args in
     let p = c .before .before .before .loop in (
-      c .then-due2 .ensures .1,
-      p .inv .1 ∙ wires-step (length (a .s .now)) (readIn (a .s .now) (p .r)) (p .k) (a .outs) (readIn (a .s .now) (c .before .then-due .result)) (readIn (a .s .now) (c .then-due2 .result)) (omega arith) (c .before .then-due .ensures .0) (c .then-due2 .ensures .0),
+      c .due2 .ensures .1,
+      p .inv .1 ∙ wires-step (length (a .s .now)) (readIn (a .s .now) (p .r)) (p .k) (a .outs) (readIn (a .s .now) (c .before .due .result)) (readIn (a .s .now) (c .due2 .result)) (omega arith) (c .before .due .ensures .0) (c .due2 .ensures .0),
     )
 
 returns : tie.Need-returns Inv-loop μ-loop
@@ -31,5 +31,5 @@ returns c =
 
 pub read-wires-spec : {M : Type 1} → statement M
 read-wires-spec = tie.close (tie.spec
-    Inv-loop μ-loop loop-holds (λ c κs. (omega arith, omega arith)) (λ c κs. (c .then-due .ensures .1, omega arith)) (λ c. omega arith)
+    Inv-loop μ-loop loop-holds (λ c κs. (omega arith, omega arith)) (λ c κs. (c .due .ensures .1, omega arith)) (λ c. omega arith)
     (λ c. omega arith) loop-again returns)

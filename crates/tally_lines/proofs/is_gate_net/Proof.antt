@@ -9,4 +9,4 @@ returns-2 c = c .is-inner-net .ensures ∙ gate-second _ (sym (c .before .before
 
 pub is-gate-net-spec : {M : Type 1} → statement M
 is-gate-net-spec = tie.close (tie.spec
-    (λ c κs. search needs) (λ c. gate-first _ (sym (c .before .is-phase-net .ensures) ∙ c .if1 .taken)) (λ c κs. search needs) returns-2)
+    (λ c κs. search needs) (λ c κs. search needs) (λ c. c .if1 .taken ∙ gate-first _ (sym (c .before .is-phase-net .ensures) ∙ c .if1 .taken)) returns-2)

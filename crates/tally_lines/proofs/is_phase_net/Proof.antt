@@ -9,4 +9,4 @@ returns-2 c = c .is-label2 .ensures ∙ phase-second _ (sym (c .before .before .
 
 pub is-phase-net-spec : {M : Type 1} → statement M
 is-phase-net-spec = tie.close (tie.spec
-    (λ c κs. search needs) (λ c. phase-first _ (sym (c .before .is-label .ensures) ∙ c .if1 .taken)) (λ c κs. search needs) returns-2)
+    (λ c κs. search needs) (λ c κs. search needs) (λ c. c .if1 .taken ∙ phase-first _ (sym (c .before .is-label .ensures) ∙ c .if1 .taken)) returns-2)

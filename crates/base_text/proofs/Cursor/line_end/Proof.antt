@@ -5,8 +5,8 @@ use Rattle.base_text.proofs.Words.{some-end, end-fits}
 use Rattle.base_text.proofs.Cursor.line_end.Statement.{statement}
 use Rattle.base_text.proofs.Cursor.line_end.Tie as tie
 
-add-t7 : tie.Need-add-t7
-add-t7 c =
+add-t6 : tie.Need-add-t6
+add-t6 c =
     let a = c .before .before .before .args in
     omega (arith, c .before .ends-at .ensures, end-fits (a .s .now) (a .self .at) (λ e. c .if1 .left (c .before .ends-at .ensures ∙ e)))
 
@@ -19,4 +19,4 @@ unfolding lineEndAt
 returns-2 c = rw (some-end _ (λ e. c .if1 .left (c .before .ends-at .ensures ∙ e)), sym (c .before .ends-at .ensures))
 
 pub line-end-spec : {M : Type 1} → statement M
-line-end-spec = tie.close (tie.spec (λ c κs. search needs) add-t7 returns returns-2)
+line-end-spec = tie.close (tie.spec (λ c κs. search needs) returns add-t6 returns-2)
