@@ -9,7 +9,6 @@ use std::{
 
 fn main() {
     println!("cargo:rerun-if-env-changed=MAPPER_LIB_DIR");
-    println!("cargo:rerun-if-env-changed=PATH");
     println!("cargo:rerun-if-changed=build.rs");
     let folder = match env::var_os("MAPPER_LIB_DIR") {
         Some(folder) => given(PathBuf::from(folder)),
@@ -31,6 +30,7 @@ fn given(folder: PathBuf) -> PathBuf {
 fn proved() -> PathBuf {
     let root = Path::new(&env::var_os("CARGO_MANIFEST_DIR").expect("cargo sets it")).join("../..");
     let root = root.canonicalize().expect("the repository");
+    println!("cargo:rerun-if-env-changed=PATH");
     for source in ["crates", "crates.txt"] {
         println!("cargo:rerun-if-changed={}", root.join(source).display());
     }
