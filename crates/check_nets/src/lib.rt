@@ -112,9 +112,123 @@ fn gather(ranks: &mut Words, wait: &Words, waiting: usize, own: u16, rank: u16) 
     m
 }
 
-// The whole search: for each driver a start, four pins, at most one of which leads to it first, and an end. `depth` is how deep the path is, `waiting` how
-// many wait for the rank of their part, `last` the last number given, `rank` the next rank and `start` the next driver to start from. A driver that has no
-// rank yet has in its place the lowest number that a pin led to, and in `own` the one that it was given.
+// How deep the path is, how many wait for the rank of their part, the last number given, and the next rank. No text has so many drivers that a number
+// is out of range: a test of it spares a proof.
+struct Search {
+    depth: usize,
+    waiting: usize,
+    last: u16,
+    rank: u16,
+}
+
+// A driver that the search comes to first goes on the path. Until it has a rank, its place has the lowest number that a pin led to, and `own` its own one.
+fn enter(ranks: &mut Words, own: &mut Words, path: &mut Words, s: Search, y: usize) -> Search {
+    let depth = s.depth;
+    if y >= DRIVERS {
+        return s;
+    }
+    if depth >= DRIVERS {
+        return s;
+    }
+    if s.last >= 30000 {
+        return s;
+    }
+    if ranks[y] != 0 {
+        return s;
+    }
+    let last = s.last + 1;
+    ranks[y] = last;
+    own[y] = last;
+    path[depth] = y as u16;
+    Search {
+        depth: depth + 1,
+        waiting: s.waiting,
+        last,
+        rank: s.rank,
+    }
+}
+
+// The end of the path, its pins passed, leaves it: it waits, or, where no pin led below it, its part is complete.
+fn leave(ranks: &mut Words, own: &Words, wait: &mut Words, s: Search, top: usize) -> Search {
+    let waiting = s.waiting;
+    if top >= DRIVERS {
+        return s;
+    }
+    if waiting >= DRIVERS {
+        return s;
+    }
+    if s.depth == 0 {
+        return s;
+    }
+    if s.rank == 0 {
+        return s;
+    }
+    if ranks[top] < own[top] {
+        wait[waiting] = top as u16;
+        return Search {
+            depth: s.depth - 1,
+            waiting: waiting + 1,
+            last: s.last,
+            rank: s.rank,
+        };
+    }
+    let left = gather(ranks, wait, waiting, own[top], s.rank);
+    ranks[top] = s.rank;
+    Search {
+        depth: s.depth - 1,
+        waiting: left,
+        last: s.last,
+        rank: s.rank - 1,
+    }
+}
+
+// The driver at pin j of the path's end, if the search has not come to it. Else the pin is passed; a driver on the path lowers the number.
+fn pass(refs: &Refs, ranks: &mut Words, passed: &mut Marks, top: usize, j: u8) -> usize
+    requires { ⌜ (top < 10923) × (j < 4) ⌝ }
+{
+    let x = check_order::pin(refs, 4 * top + j as usize);
+    if x >= 12 {
+        let y = x - 12;
+        if y >= DRIVERS {
+            return y;
+        }
+        let r = ranks[y];
+        if r == 0 {
+            return y;
+        }
+        if r < ranks[top] {
+            ranks[top] = r;
+        }
+    }
+    passed[top] = j + 1;
+    DRIVERS
+}
+
+// A step from the path's end: over its next pin, or from it.
+fn go_on(
+    refs: &Refs,
+    ranks: &mut Words,
+    own: &mut Words,
+    path: &mut Words,
+    passed: &mut Marks,
+    wait: &mut Words,
+    s: Search,
+) -> Search
+    requires { ⌜ (0 < s .depth) × (s .depth ≤ 10923) ⌝ }
+{
+    let top = check_order::listed(path, s.depth - 1);
+    if top >= DRIVERS {
+        return s;
+    }
+    let j = passed[top];
+    if j >= 4 {
+        return leave(ranks, own, wait, s, top);
+    }
+    let y = pass(refs, ranks, passed, top, j);
+    enter(ranks, own, path, s, y)
+}
+
+// The whole search: for each driver a start, four pins, at most one of which leads to it first, and an end. `start` is the next driver to start from.
 fn rank(refs: &Refs, n: usize, ranks: &mut Words)
     requires { ⌜ n ≤ 10923 ⌝ }
 {
@@ -122,78 +236,27 @@ fn rank(refs: &Refs, n: usize, ranks: &mut Words)
     let mut path = [0u16; DRIVERS];
     let mut passed = [0u8; DRIVERS];
     let mut wait = [0u16; DRIVERS];
-    let mut depth = 0;
-    let mut waiting = 0;
-    let mut last: u16 = 0;
-    let mut rank: u16 = 65535;
+    let mut s = Search {
+        depth: 0,
+        waiting: 0,
+        last: 0,
+        rank: 65535,
+    };
     let mut start = 0;
     let mut steps = 7 * n;
     while steps > 0 {
         steps -= 1;
-        // No text has so many drivers: the tests spare a proof of it.
-        if depth >= DRIVERS {
+        if s.depth > DRIVERS {
             return;
         }
-        if waiting >= DRIVERS {
-            return;
-        }
-        if last >= 30000 {
-            return;
-        }
-        if rank == 0 {
-            return;
-        }
-        let mut y = start;
-        if depth == 0 {
+        if s.depth > 0 {
+            s = go_on(refs, ranks, &mut own, &mut path, &mut passed, &mut wait, s);
+        } else {
             if start >= n {
                 return;
             }
+            s = enter(ranks, &mut own, &mut path, s, start);
             start += 1;
-        } else {
-            let top = check_order::listed(&path, depth - 1);
-            if top >= DRIVERS {
-                return;
-            }
-            let j = passed[top];
-            if j >= 4 {
-                // All its pins are passed: it waits, or, where no pin led below it, its part is complete.
-                depth -= 1;
-                if ranks[top] < own[top] {
-                    wait[waiting] = top as u16;
-                    waiting += 1;
-                    continue;
-                }
-                waiting = gather(ranks, &wait, waiting, own[top], rank);
-                ranks[top] = rank;
-                rank -= 1;
-                continue;
-            }
-            let x = check_order::pin(refs, 4 * top + j as usize);
-            if x < 12 {
-                passed[top] = j + 1;
-                continue;
-            }
-            y = x - 12;
-            if y >= DRIVERS {
-                return;
-            }
-            let r = ranks[y];
-            if r != 0 {
-                // What feeds the pin was on the path: it lowers the number.
-                if r < ranks[top] {
-                    ranks[top] = r;
-                }
-                passed[top] = j + 1;
-                continue;
-            }
-        }
-        // A driver that the search comes to first.
-        if y < DRIVERS && ranks[y] == 0 {
-            last += 1;
-            ranks[y] = last;
-            own[y] = last;
-            path[depth] = y as u16;
-            depth += 1;
         }
     }
 }

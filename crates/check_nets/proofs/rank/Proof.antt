@@ -4,11 +4,12 @@ use Rattle.check_nets.proofs.rank.Statement.{statement}
 use Rattle.check_nets.proofs.rank.Tie as tie
 
 abbrev Inv-loop : tie.InvT-loop
-Inv-loop refs n ranks₀ own₀ path₀ passed₀ wait₀ depth₀ waiting₀ last₀ rank₀ start₀ steps₀ ranks own path passed wait depth waiting last rank start steps = Unit {0}
+Inv-loop refs n ranks₀ own₀ path₀ passed₀ wait₀ s₀ start₀ steps₀ ranks own path passed wait s start steps = Unit {0}
 
 abbrev μ-loop : tie.MeasureT-loop
-μ-loop refs n ranks₀ own₀ path₀ passed₀ wait₀ depth₀ waiting₀ last₀ rank₀ start₀ steps₀ ranks own path passed wait depth waiting last rank start steps = steps
+μ-loop refs n ranks₀ own₀ path₀ passed₀ wait₀ s₀ start₀ steps₀ ranks own path passed wait s start steps = steps
 
 pub rank-spec : {M : Type 1} → statement M
 rank-spec = tie.close (tie.spec
-    Inv-loop μ-loop (λ c. search needs) (λ c. tt) (λ c. search needs) (λ c. tt) (λ c. tt) (λ c. tt) (λ c. tt) (λ c. tt) (λ c. search needs) (λ c. search needs) (λ c κs. search needs) (λ c. tt) (λ c. search needs) (λ c. search needs) (λ c. search needs) (λ c. search needs) (λ c. search needs) (λ c. search needs) (λ c. search needs) (λ c. search needs) (λ c. search needs) (λ c. search needs) (λ c. search needs) (λ c. tt) (λ c. search needs) (λ c. search needs) (λ c κs. search needs) (λ c. search needs) (λ c. search needs) (λ c. search needs) (λ c. search needs) (λ c. tt) (λ c. search needs) (λ c. search needs) (λ c. search needs) (λ c κs. search needs) (λ c. search needs) (λ c. search needs) (λ c. search needs) (λ c. tt) (λ c. tt) (λ c. search needs) (λ c. search needs) (λ c. search needs) (λ c. search needs) (λ c. search needs) (λ c. search needs) (λ c. search needs) (λ c. search needs) (λ c. search needs) (λ c. tt) (λ c. search needs) (λ c. search needs) (λ c. search needs) (λ c. search needs) (λ c. search needs) (λ c. search needs) (λ c. search needs) (λ c. search needs) (λ c. search needs) (λ c. search needs) (λ c. search needs) (λ c. search needs) (λ c. tt) (λ c. search needs) (λ c. tt) (λ c. tt))
+    Inv-loop μ-loop (λ c. search needs) (λ c. tt) (λ c. search needs) (λ c. tt) (λ c κs. search needs) (λ c. search needs) (λ c. tt)
+    (λ c. tt) (λ c κs. search needs) (λ c. search needs) (λ c. search needs) (λ c. tt) (λ c. tt))
