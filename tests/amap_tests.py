@@ -42,7 +42,7 @@ def check(what, good, told=""):
 
 
 def run(*words, program="amap", **more):
-    more = {"capture_output": True, "text": True, "timeout": 60, **more}
+    more = {"capture_output": True, "text": True, "timeout": 300, **more}
     return subprocess.run([BIN / program, *words], **more)
 
 
@@ -53,6 +53,7 @@ def is_(what, ran, status, out="", err=""):
 
 def put(path, text):
     path.write_bytes(text if isinstance(text, bytes) else text.encode())
+    return path
 
 
 def build():
