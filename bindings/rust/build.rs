@@ -1,5 +1,5 @@
 //! Has `rt` prove the call and write the static library, whenever a source or the kit has changed: `rt` proves what is not proved, and no archive is linked
-//! that is older than its sources. MAPPER_LIB_DIR names the folder of an archive that is taken as it is.
+//! that is older than its sources. ARRAYMAP_LIB_DIR names the folder of an archive that is taken as it is.
 
 use std::{
     env,
@@ -8,20 +8,20 @@ use std::{
 };
 
 fn main() {
-    println!("cargo:rerun-if-env-changed=MAPPER_LIB_DIR");
+    println!("cargo:rerun-if-env-changed=ARRAYMAP_LIB_DIR");
     println!("cargo:rerun-if-changed=build.rs");
-    let folder = match env::var_os("MAPPER_LIB_DIR") {
+    let folder = match env::var_os("ARRAYMAP_LIB_DIR") {
         Some(folder) => given(PathBuf::from(folder)),
         None => proved(),
     };
     println!("cargo:rustc-link-search=native={}", folder.display());
-    println!("cargo:rustc-link-lib=static=capi");
+    println!("cargo:rustc-link-lib=static=arraymap");
 }
 
 /// A folder with an archive, which is taken as it is.
 fn given(folder: PathBuf) -> PathBuf {
-    let library = folder.join("libcapi.a");
-    assert!(library.exists(), "there is no {}: MAPPER_LIB_DIR names the folder of libcapi.a", library.display());
+    let library = folder.join("libarraymap.a");
+    assert!(library.exists(), "there is no {}: ARRAYMAP_LIB_DIR names the folder of libarraymap.a", library.display());
     println!("cargo:rerun-if-changed={}", library.display());
     folder
 }
@@ -38,12 +38,12 @@ fn proved() -> PathBuf {
         println!("cargo:rerun-if-changed={}", kit.display());
     }
     // `check` proves as many crates at a time as there are processors, `staticlib` one.
-    for words in [["check", "capi"], ["staticlib", "capi"]] {
+    for words in [["check", "arraymap"], ["staticlib", "arraymap"]] {
         let asked = format!("`rt {}`", words.join(" "));
         // What it prints is cargo's to show: with -vv as it comes, and else where it fails.
         let status = Command::new("rt").args(words).current_dir(&root).status();
         let status = status.unwrap_or_else(|error| {
-            panic!("{asked} cannot be run: {error}; it proves the library, or MAPPER_LIB_DIR names the folder of one")
+            panic!("{asked} cannot be run: {error}; it proves the library, or ARRAYMAP_LIB_DIR names the folder of one")
         });
         assert!(status.success(), "{asked} failed: the library is not proved, and nothing is built of it");
     }

@@ -1,7 +1,7 @@
-/* What include/mapper.h says of every array of every call, from C: null is one of no elements, texts that are only read may share memory, the texts can be
+/* What include/arraymap.h says of every array of every call, from C: null is one of no elements, texts that are only read may share memory, the texts can be
  * constants that nobody may write, and the macros' lengths are enough. The same from Rust is in tests/calls.rs.
- * gcc -Iinclude tests/other/calls.c target/staticlib/libcapi.a */
-#include "mapper.h"
+ * gcc -Iinclude tests/other/calls.c target/staticlib/libarraymap.a */
+#include "arraymap.h"
 #include <stdio.h>
 #include <stdlib.h>
 #include <string.h>
@@ -14,7 +14,7 @@
 #define CELLS "cell pins table area d0 d1 d2 d3\ninv 1 0001 1 10 0 0 0\nnand2 2 0007 2 20 20 0 0\n"
 
 enum { N = sizeof NETLIST - 1, G = sizeof GRAPH - 1, L = sizeof LATE - 1, C = sizeof CELLS - 1, ALL = N + G + L + C };
-enum { WORDS = MAPPER_CHECK_WORDS(3, 1, 16), BYTES = MAPPER_TEXT_PAIRS(3, 1) };
+enum { WORDS = ARRAYMAP_CHECK_WORDS(3, 1, 16), BYTES = ARRAYMAP_TEXT_PAIRS(3, 1) };
 
 /* What follows the last AND line and `.end` is not read: each text begins in the one before it. */
 static const uint8_t all[] = NETLIST GRAPH LATE CELLS;
@@ -23,7 +23,7 @@ static const uint8_t genlib[] = "GATE inv 1 O=!a;\nPIN * INV 1 999 1 0 1 0\n";
 
 static uint16_t work[2 * WORDS];
 static uint8_t text[BYTES], second[BYTES];
-static uint64_t tally[MAPPER_TALLY];
+static uint64_t tally[ARRAYMAP_TALLY];
 
 static int tried, failed;
 
@@ -39,98 +39,98 @@ static void is(int line, uint64_t number, uint64_t value, uint64_t wanted, uint6
 
 #define IS(answer, wanted, place)                                                                                                                    \
     do {                                                                                                                                             \
-        MapperAnswer a = answer;                                                                                                                     \
+        ArraymapAnswer a = answer;                                                                                                                     \
         is(__LINE__, a.number, a.value, wanted, place);                                                                                              \
     } while (0)
 
 #define BOTH(answers, wanted1, place1, wanted2, place2)                                                                                              \
     do {                                                                                                                                             \
-        MapperTwo a = answers;                                                                                                                       \
+        ArraymapTwo a = answers;                                                                                                                       \
         is(__LINE__, a.first.number, a.first.value, wanted1, place1);                                                                                \
         is(__LINE__, a.second.number, a.second.value, wanted2, place2);                                                                              \
     } while (0)
 
 #define FINDS(checked, wanted, number, place)                                                                                                        \
     do {                                                                                                                                             \
-        MapperChecked a = checked;                                                                                                                   \
+        ArraymapChecked a = checked;                                                                                                                   \
         is(__LINE__, a.verdict, 0, wanted, 0);                                                                                                       \
         is(__LINE__, a.first, a.second, number, place);                                                                                              \
     } while (0)
 
-typedef MapperAnswer Map(const uint8_t *, size_t, const uint8_t *, size_t, const uint8_t *, size_t, uint16_t *, size_t, uint8_t *, size_t);
-typedef MapperTwo MapTwo(const uint8_t *, size_t, const uint8_t *, size_t, const uint8_t *, size_t, const uint8_t *, size_t, const uint8_t *, size_t,
+typedef ArraymapAnswer Map(const uint8_t *, size_t, const uint8_t *, size_t, const uint8_t *, size_t, uint16_t *, size_t, uint8_t *, size_t);
+typedef ArraymapTwo MapTwo(const uint8_t *, size_t, const uint8_t *, size_t, const uint8_t *, size_t, const uint8_t *, size_t, const uint8_t *, size_t,
                          uint16_t *, size_t, uint8_t *, size_t, uint8_t *, size_t);
 
 static void one_graph(Map *map, size_t length)
 {
-    IS(map(NULL, 0, graph, G, late, L, work, WORDS, text, BYTES), MAPPER_NAMES_LINE, 0);
-    IS(map(cells, C, NULL, 0, late, L, work, WORDS, text, BYTES), MAPPER_HEADER_FORM, 0);
-    IS(map(cells, C, graph, G, NULL, 0, work, WORDS, text, BYTES), MAPPER_MAPPED, length);
-    IS(map(cells, C, graph, G, late, L, NULL, 0, text, BYTES), MAPPER_WORK_SHORT, 0);
-    IS(map(cells, C, graph, G, late, L, work, WORDS, NULL, 0), MAPPER_TEXT_SHORT, length);
-    IS(map(NULL, 0, NULL, 0, NULL, 0, NULL, 0, NULL, 0), MAPPER_NAMES_LINE, 0);
+    IS(map(NULL, 0, graph, G, late, L, work, WORDS, text, BYTES), ARRAYMAP_NAMES_LINE, 0);
+    IS(map(cells, C, NULL, 0, late, L, work, WORDS, text, BYTES), ARRAYMAP_HEADER_FORM, 0);
+    IS(map(cells, C, graph, G, NULL, 0, work, WORDS, text, BYTES), ARRAYMAP_MAPPED, length);
+    IS(map(cells, C, graph, G, late, L, NULL, 0, text, BYTES), ARRAYMAP_WORK_SHORT, 0);
+    IS(map(cells, C, graph, G, late, L, work, WORDS, NULL, 0), ARRAYMAP_TEXT_SHORT, length);
+    IS(map(NULL, 0, NULL, 0, NULL, 0, NULL, 0, NULL, 0), ARRAYMAP_NAMES_LINE, 0);
     /* The graph's text has the arrivals and the cells in it. */
-    MapperAnswer a = map(cells, C, graph, G + L + C, late, L, work, MAPPER_WORDS(3, 1), text, length);
-    is(__LINE__, a.number, a.arrival, MAPPER_MAPPED, 35);
-    IS(map(cells, C, cells, C, cells, C, work, WORDS, text, BYTES), MAPPER_HEADER_FORM, 0);
-    IS(map(cells, C, graph, G, graph, G, work, WORDS, text, BYTES), MAPPER_ARRIVAL_FORM, 0);
-    IS(map(all, ALL, all, ALL, all, ALL, work, WORDS, text, BYTES), MAPPER_NAMES_LINE, 0);
+    ArraymapAnswer a = map(cells, C, graph, G + L + C, late, L, work, ARRAYMAP_WORDS(3, 1), text, length);
+    is(__LINE__, a.number, a.arrival, ARRAYMAP_MAPPED, 35);
+    IS(map(cells, C, cells, C, cells, C, work, WORDS, text, BYTES), ARRAYMAP_HEADER_FORM, 0);
+    IS(map(cells, C, graph, G, graph, G, work, WORDS, text, BYTES), ARRAYMAP_ARRIVAL_FORM, 0);
+    IS(map(all, ALL, all, ALL, all, ALL, work, WORDS, text, BYTES), ARRAYMAP_NAMES_LINE, 0);
 }
 
 static void two_graphs(MapTwo *map, size_t length)
 {
-    BOTH(map(NULL, 0, NULL, 0, NULL, 0, NULL, 0, NULL, 0, NULL, 0, NULL, 0, NULL, 0), MAPPER_NAMES_LINE, 0, MAPPER_NAMES_LINE, 0);
-    BOTH(map(cells, C, NULL, 0, NULL, 0, graph, G, NULL, 0, work, WORDS, text, BYTES, second, BYTES), MAPPER_HEADER_FORM, 0, MAPPER_HEADER_FORM, 0);
-    BOTH(map(cells, C, graph, G, late, L, NULL, 0, late, L, work, WORDS, text, BYTES, second, BYTES), MAPPER_HEADER_FORM, 0, MAPPER_HEADER_FORM, 0);
-    BOTH(map(cells, C, graph, G, late, L, graph, G, late, L, NULL, 0, text, BYTES, second, BYTES), MAPPER_WORK_SHORT, 0, MAPPER_WORK_SHORT, 0);
-    BOTH(map(cells, C, graph, G, NULL, 0, graph, G, late, L, work, 2 * WORDS, NULL, 0, second, BYTES), MAPPER_TEXT_SHORT, length, MAPPER_MAPPED, length);
-    BOTH(map(cells, C, graph, G, late, L, graph, G, NULL, 0, work, 2 * WORDS, text, BYTES, NULL, 0), MAPPER_MAPPED, length, MAPPER_TEXT_SHORT, length);
+    BOTH(map(NULL, 0, NULL, 0, NULL, 0, NULL, 0, NULL, 0, NULL, 0, NULL, 0, NULL, 0), ARRAYMAP_NAMES_LINE, 0, ARRAYMAP_NAMES_LINE, 0);
+    BOTH(map(cells, C, NULL, 0, NULL, 0, graph, G, NULL, 0, work, WORDS, text, BYTES, second, BYTES), ARRAYMAP_HEADER_FORM, 0, ARRAYMAP_HEADER_FORM, 0);
+    BOTH(map(cells, C, graph, G, late, L, NULL, 0, late, L, work, WORDS, text, BYTES, second, BYTES), ARRAYMAP_HEADER_FORM, 0, ARRAYMAP_HEADER_FORM, 0);
+    BOTH(map(cells, C, graph, G, late, L, graph, G, late, L, NULL, 0, text, BYTES, second, BYTES), ARRAYMAP_WORK_SHORT, 0, ARRAYMAP_WORK_SHORT, 0);
+    BOTH(map(cells, C, graph, G, NULL, 0, graph, G, late, L, work, 2 * WORDS, NULL, 0, second, BYTES), ARRAYMAP_TEXT_SHORT, length, ARRAYMAP_MAPPED, length);
+    BOTH(map(cells, C, graph, G, late, L, graph, G, NULL, 0, work, 2 * WORDS, text, BYTES, NULL, 0), ARRAYMAP_MAPPED, length, ARRAYMAP_TEXT_SHORT, length);
     /* One graph and one arrivals text for both channels. */
-    BOTH(map(cells, C, graph, G + L + C, late, L, graph, G + L + C, late, L, work, 2 * MAPPER_WORDS(3, 1), text, length, second, length), MAPPER_MAPPED,
-         length, MAPPER_MAPPED, length);
+    BOTH(map(cells, C, graph, G + L + C, late, L, graph, G + L + C, late, L, work, 2 * ARRAYMAP_WORDS(3, 1), text, length, second, length), ARRAYMAP_MAPPED,
+         length, ARRAYMAP_MAPPED, length);
     tried++;
     if (memcmp(text, second, length) != 0) {
         failed++;
         printf("calls.c:%d: two channels of one graph differ\n", __LINE__);
     }
-    BOTH(map(all, ALL, all, ALL, all, ALL, all, ALL, all, ALL, work, WORDS, text, BYTES, second, BYTES), MAPPER_NAMES_LINE, 0, MAPPER_NAMES_LINE, 0);
+    BOTH(map(all, ALL, all, ALL, all, ALL, all, ALL, all, ALL, work, WORDS, text, BYTES, second, BYTES), ARRAYMAP_NAMES_LINE, 0, ARRAYMAP_NAMES_LINE, 0);
 }
 
 int main(void)
 {
-    one_graph(mapper_map, N);
-    one_graph(mapper_map_pairs, N + 2);
-    two_graphs(mapper_map_two, N);
-    two_graphs(mapper_map_two_pairs, N + 2);
+    one_graph(arraymap_map, N);
+    one_graph(arraymap_map_pairs, N + 2);
+    two_graphs(arraymap_map_two, N);
+    two_graphs(arraymap_map_two_pairs, N + 2);
 
-    FINDS(mapper_check(NULL, 0, graph, G, netlist, N, work, WORDS), MAPPER_REFUSED, MAPPER_NAMES_LINE, 0);
-    FINDS(mapper_check(cells, C, NULL, 0, netlist, N, work, WORDS), MAPPER_REFUSED, MAPPER_HEADER_FORM, 0);
-    FINDS(mapper_check(cells, C, graph, G, NULL, 0, work, WORDS), MAPPER_REFUSED, MAPPER_EDITED_FORM, 0);
-    FINDS(mapper_check(cells, C, graph, G, netlist, N, NULL, 0), MAPPER_REFUSED, MAPPER_WORK_SHORT, 0);
-    FINDS(mapper_check(NULL, 0, NULL, 0, NULL, 0, NULL, 0), MAPPER_REFUSED, MAPPER_NAMES_LINE, 0);
-    FINDS(mapper_check(cells, C, graph, G + L + C, netlist, N, work, MAPPER_CHECK_WORDS(3, 1, 9)), MAPPER_ACCEPTED, 0, 0);
-    FINDS(mapper_check(cells, C, graph, G + L + C, all, ALL, work, MAPPER_CHECK_WORDS(3, 1, 19)), MAPPER_ACCEPTED, 0, 0);
-    FINDS(mapper_check(cells, C, cells, C, cells, C, work, WORDS), MAPPER_REFUSED, MAPPER_HEADER_FORM, 0);
+    FINDS(arraymap_check(NULL, 0, graph, G, netlist, N, work, WORDS), ARRAYMAP_REFUSED, ARRAYMAP_NAMES_LINE, 0);
+    FINDS(arraymap_check(cells, C, NULL, 0, netlist, N, work, WORDS), ARRAYMAP_REFUSED, ARRAYMAP_HEADER_FORM, 0);
+    FINDS(arraymap_check(cells, C, graph, G, NULL, 0, work, WORDS), ARRAYMAP_REFUSED, ARRAYMAP_EDITED_FORM, 0);
+    FINDS(arraymap_check(cells, C, graph, G, netlist, N, NULL, 0), ARRAYMAP_REFUSED, ARRAYMAP_WORK_SHORT, 0);
+    FINDS(arraymap_check(NULL, 0, NULL, 0, NULL, 0, NULL, 0), ARRAYMAP_REFUSED, ARRAYMAP_NAMES_LINE, 0);
+    FINDS(arraymap_check(cells, C, graph, G + L + C, netlist, N, work, ARRAYMAP_CHECK_WORDS(3, 1, 9)), ARRAYMAP_ACCEPTED, 0, 0);
+    FINDS(arraymap_check(cells, C, graph, G + L + C, all, ALL, work, ARRAYMAP_CHECK_WORDS(3, 1, 19)), ARRAYMAP_ACCEPTED, 0, 0);
+    FINDS(arraymap_check(cells, C, cells, C, cells, C, work, WORDS), ARRAYMAP_REFUSED, ARRAYMAP_HEADER_FORM, 0);
 
-    IS(mapper_cells(NULL, 0, text, BYTES), MAPPER_MAPPED, 33);
-    IS(mapper_cells(NULL, 0, NULL, 0), MAPPER_TEXT_SHORT, 33);
-    IS(mapper_cells(genlib, sizeof genlib - 1, NULL, 0), MAPPER_TEXT_SHORT, 60);
+    IS(arraymap_cells(NULL, 0, text, BYTES), ARRAYMAP_MAPPED, 33);
+    IS(arraymap_cells(NULL, 0, NULL, 0), ARRAYMAP_TEXT_SHORT, 33);
+    IS(arraymap_cells(genlib, sizeof genlib - 1, NULL, 0), ARRAYMAP_TEXT_SHORT, 60);
 
-    IS(mapper_count(NULL, 0, netlist, N, tally, MAPPER_TALLY), MAPPER_NAMES_LINE, 0);
-    IS(mapper_count(cells, C, NULL, 0, tally, MAPPER_TALLY), MAPPER_NETLIST_LINE, 0);
-    IS(mapper_count(cells, C, netlist, N, NULL, 0), MAPPER_TALLY_FULL, 64);
-    IS(mapper_count(NULL, 0, NULL, 0, NULL, 0), MAPPER_NAMES_LINE, 0);
-    IS(mapper_count(cells, C, cells, C, tally, MAPPER_TALLY), MAPPER_NETLIST_LINE, 0);
-    IS(mapper_count(cells, C, all, ALL, tally, MAPPER_TALLY), MAPPER_NETLIST_LINE, N);
-    IS(mapper_count(cells, C, netlist, N, tally, MAPPER_TALLY), MAPPER_MAPPED, 0);
+    IS(arraymap_count(NULL, 0, netlist, N, tally, ARRAYMAP_TALLY), ARRAYMAP_NAMES_LINE, 0);
+    IS(arraymap_count(cells, C, NULL, 0, tally, ARRAYMAP_TALLY), ARRAYMAP_NETLIST_LINE, 0);
+    IS(arraymap_count(cells, C, netlist, N, NULL, 0), ARRAYMAP_TALLY_FULL, 64);
+    IS(arraymap_count(NULL, 0, NULL, 0, NULL, 0), ARRAYMAP_NAMES_LINE, 0);
+    IS(arraymap_count(cells, C, cells, C, tally, ARRAYMAP_TALLY), ARRAYMAP_NETLIST_LINE, 0);
+    IS(arraymap_count(cells, C, all, ALL, tally, ARRAYMAP_TALLY), ARRAYMAP_NETLIST_LINE, N);
+    IS(arraymap_count(cells, C, netlist, N, tally, ARRAYMAP_TALLY), ARRAYMAP_MAPPED, 0);
 
-    IS(mapper_report(NULL, 0, tally, MAPPER_TALLY, text, BYTES), MAPPER_NAMES_LINE, 0);
-    IS(mapper_report(cells, C, NULL, 0, text, BYTES), MAPPER_TALLY_FULL, 64);
-    IS(mapper_report(cells, C, tally, MAPPER_TALLY, NULL, 0), MAPPER_TEXT_SHORT, 34);
-    IS(mapper_report(NULL, 0, NULL, 0, NULL, 0), MAPPER_NAMES_LINE, 0);
-    IS(mapper_report(cells, C, tally, MAPPER_TALLY, text, 34), MAPPER_MAPPED, 34);
+    IS(arraymap_report(NULL, 0, tally, ARRAYMAP_TALLY, text, BYTES), ARRAYMAP_NAMES_LINE, 0);
+    IS(arraymap_report(cells, C, NULL, 0, text, BYTES), ARRAYMAP_TALLY_FULL, 64);
+    IS(arraymap_report(cells, C, tally, ARRAYMAP_TALLY, NULL, 0), ARRAYMAP_TEXT_SHORT, 34);
+    IS(arraymap_report(NULL, 0, NULL, 0, NULL, 0), ARRAYMAP_NAMES_LINE, 0);
+    IS(arraymap_report(cells, C, tally, ARRAYMAP_TALLY, text, 34), ARRAYMAP_MAPPED, 34);
     /* The tally's own bytes as the cells: they are no names line. */
-    IS(mapper_report((const uint8_t *)tally, sizeof tally, tally, MAPPER_TALLY, text, BYTES), MAPPER_NAMES_LINE, 0);
+    IS(arraymap_report((const uint8_t *)tally, sizeof tally, tally, ARRAYMAP_TALLY, text, BYTES), ARRAYMAP_NAMES_LINE, 0);
 
     if (failed)
         return 1;

@@ -3,33 +3,33 @@
 //! ```
 //! let cells = b"cell pins table area d0 d1 d2 d3\ninv 1 0001 1 10 0 0 0\nnand2 2 0007 2 20 20 0 0\n";
 //! let graph = b"aag 3 2 0 1 1\n2\n4\n6\n6 2 4\n";
-//! let netlist = mapper::map(cells, graph, b"")?;
-//! assert_eq!(netlist.figures, mapper::Figures { gates: 2, area: 3, arrival: 30 });
+//! let netlist = arraymap::map(cells, graph, b"")?;
+//! assert_eq!(netlist.figures, arraymap::Figures { gates: 2, area: 3, arrival: 30 });
 //! assert!(netlist.text.starts_with(".model top\n"));
-//! let late = mapper::map(cells, graph, b"input arrival\n1 5\n")?;
+//! let late = arraymap::map(cells, graph, b"input arrival\n1 5\n")?;
 //! assert_eq!(late.figures.arrival, 35);
-//! let paired = mapper::map_pairs(cells, graph, b"")?;
+//! let paired = arraymap::map_pairs(cells, graph, b"")?;
 //! assert!(paired.text.contains(".gate nand2 A=p1 B=p2 O=sp3\n.gate inv A=sp3 O=p3\n"));
 //! let edited = netlist.text.replace("nand2 A=p1 B=p2", "nand2 A=p2 B=p2");
-//! assert_eq!(mapper::check(cells, graph, edited.as_bytes())?, mapper::Checked::Differs { setting: 2, output: 0 });
-//! # Ok::<(), mapper::Refusal>(())
+//! assert_eq!(arraymap::check(cells, graph, edited.as_bytes())?, arraymap::Checked::Differs { setting: 2, output: 0 });
+//! # Ok::<(), arraymap::Refusal>(())
 //! ```
 //!
-//! What the call answers and leaves in the memory that it is lent is proved (crates/capi of the repository); docs/GUIDE.md has the texts, the
+//! What the call answers and leaves in the memory that it is lent is proved (crates/arraymap of the repository); docs/GUIDE.md has the texts, the
 //! netlist and every refusal. Calls on memory of their own are safe from several threads at once. Texts may share memory, and may be empty.
 //!
 //! 1.5 MB of stack are enough for every call, and a thread of the standard library has 2 MB. On x86-64 a call takes up to
 //!
 //! | Function | Call in C | Stack |
 //! |---|---|--:|
-//! | [`map`], [`map_in`] | `mapper_map` | 1,150 KB |
-//! | [`map_pairs`], [`map_pairs_in`] | `mapper_map_pairs` | 1,150 KB |
-//! | [`map_two`] | `mapper_map_two` | 1,150 KB |
-//! | [`map_two_pairs`] | `mapper_map_two_pairs` | 1,150 KB |
-//! | [`check`], [`check_in`] | `mapper_check` | 1,050 KB |
-//! | [`cells`] | `mapper_cells` | 6 KB |
-//! | [`Tally::count`] | `mapper_count` | 16 KB |
-//! | [`Tally::report`] | `mapper_report` | 14 KB |
+//! | [`map`], [`map_in`] | `arraymap_map` | 1,150 KB |
+//! | [`map_pairs`], [`map_pairs_in`] | `arraymap_map_pairs` | 1,150 KB |
+//! | [`map_two`] | `arraymap_map_two` | 1,150 KB |
+//! | [`map_two_pairs`] | `arraymap_map_two_pairs` | 1,150 KB |
+//! | [`check`], [`check_in`] | `arraymap_check` | 1,050 KB |
+//! | [`cells`] | `arraymap_cells` | 6 KB |
+//! | [`Tally::count`] | `arraymap_count` | 16 KB |
+//! | [`Tally::report`] | `arraymap_report` | 14 KB |
 
 mod raw;
 mod refusal;

@@ -1,4 +1,4 @@
-//! The calls of the static library, as include/mapper.h has them.
+//! The calls of the static library, as include/arraymap.h has them.
 
 /// The five values that a call answers, on success and after a refusal.
 #[repr(C)]
@@ -41,7 +41,7 @@ pub struct Channel<'a> {
 }
 
 extern "C" {
-    fn mapper_map(
+    fn arraymap_map(
         cells: *const u8,
         cells_len: usize,
         graph: *const u8,
@@ -54,7 +54,7 @@ extern "C" {
         text_len: usize,
     ) -> Answer;
 
-    fn mapper_map_pairs(
+    fn arraymap_map_pairs(
         cells: *const u8,
         cells_len: usize,
         graph: *const u8,
@@ -67,9 +67,9 @@ extern "C" {
         text_len: usize,
     ) -> Answer;
 
-    fn mapper_cells(genlib: *const u8, genlib_len: usize, text: *mut u8, text_len: usize) -> Answer;
+    fn arraymap_cells(genlib: *const u8, genlib_len: usize, text: *mut u8, text_len: usize) -> Answer;
 
-    fn mapper_count(
+    fn arraymap_count(
         cells: *const u8,
         cells_len: usize,
         netlist: *const u8,
@@ -78,7 +78,7 @@ extern "C" {
         tally_len: usize,
     ) -> Answer;
 
-    fn mapper_report(
+    fn arraymap_report(
         cells: *const u8,
         cells_len: usize,
         tally: *const u64,
@@ -87,7 +87,7 @@ extern "C" {
         text_len: usize,
     ) -> Answer;
 
-    fn mapper_map_two(
+    fn arraymap_map_two(
         cells: *const u8,
         cells_len: usize,
         graph1: *const u8,
@@ -106,7 +106,7 @@ extern "C" {
         text2_len: usize,
     ) -> AnswerTwo;
 
-    fn mapper_map_two_pairs(
+    fn arraymap_map_two_pairs(
         cells: *const u8,
         cells_len: usize,
         graph1: *const u8,
@@ -125,7 +125,7 @@ extern "C" {
         text2_len: usize,
     ) -> AnswerTwo;
 
-    fn mapper_check(
+    fn arraymap_check(
         cells: *const u8,
         cells_len: usize,
         graph: *const u8,
@@ -155,7 +155,7 @@ pub(crate) fn call_by(
     work: &mut [u16],
     text: &mut [u8],
 ) -> Answer {
-    let map = if pairs { mapper_map_pairs } else { mapper_map };
+    let map = if pairs { arraymap_map_pairs } else { arraymap_map };
     // Each pointer comes with the length of its own slice; the two that are written overlap nothing.
     unsafe {
         map(
@@ -176,28 +176,28 @@ pub(crate) fn call_by(
 /// The reading of a genlib text, answered as C has it; the figures are 0.
 pub fn call_cells(genlib: &[u8], text: &mut [u8]) -> Answer {
     // As above.
-    unsafe { mapper_cells(genlib.as_ptr(), genlib.len(), text.as_mut_ptr(), text.len()) }
+    unsafe { arraymap_cells(genlib.as_ptr(), genlib.len(), text.as_mut_ptr(), text.len()) }
 }
 
 /// A netlist counted into a tally, answered as C has it; the figures are 0.
 pub fn call_count(cells: &[u8], netlist: &[u8], tally: &mut [u64]) -> Answer {
     // As above.
     unsafe {
-        mapper_count(cells.as_ptr(), cells.len(), netlist.as_ptr(), netlist.len(), tally.as_mut_ptr(), tally.len())
+        arraymap_count(cells.as_ptr(), cells.len(), netlist.as_ptr(), netlist.len(), tally.as_mut_ptr(), tally.len())
     }
 }
 
 /// The report of a tally, answered as C has it; the figures are 0.
 pub fn call_report(cells: &[u8], tally: &[u64], text: &mut [u8]) -> Answer {
     // As above.
-    unsafe { mapper_report(cells.as_ptr(), cells.len(), tally.as_ptr(), tally.len(), text.as_mut_ptr(), text.len()) }
+    unsafe { arraymap_report(cells.as_ptr(), cells.len(), tally.as_ptr(), tally.len(), text.as_mut_ptr(), text.len()) }
 }
 
 /// A netlist checked against its graph, answered as C has it.
 pub fn call_check(cells: &[u8], graph: &[u8], netlist: &[u8], work: &mut [u16]) -> AnswerChecked {
     // As above, of the one that is written.
     unsafe {
-        mapper_check(
+        arraymap_check(
             cells.as_ptr(),
             cells.len(),
             graph.as_ptr(),
@@ -241,7 +241,7 @@ pub(crate) fn call_two_by(
     work: &mut [u16],
     [text1, text2]: [&mut [u8]; 2],
 ) -> AnswerTwo {
-    let map = if pairs { mapper_map_two_pairs } else { mapper_map_two };
+    let map = if pairs { arraymap_map_two_pairs } else { arraymap_map_two };
     // As above, of the three that are written.
     unsafe {
         map(

@@ -1,6 +1,6 @@
 //! The calls from Rust: answers, lent memory, refusals in words, threads and the stack that a thread needs.
 
-use mapper::{
+use arraymap::{
     bytes_enough, bytes_enough_pairs, call_two_pairs, check, check_in, map, map_in, map_pairs, map_pairs_in, map_two,
     map_two_pairs, words_needed, words_to_check, Channel, Checked, Figures, Place, Refusal, Tally,
 };
@@ -16,7 +16,7 @@ const NETLIST: &str = ".model top\n.inputs p1 p2\n.outputs o0\n.gate inv A=m3 O=
 const PAIRED: &str = ".model top\n.inputs p1 p2\n.outputs o0\n.gate nand2 A=p1 B=p2 O=sp3\n.gate inv A=sp3 O=p3\n.names p3 o0\n1 1\n.end\n\
                       # gates 2 area 3 arrival 30\n";
 
-/// What include/mapper.h says a thread needs.
+/// What include/arraymap.h says a thread needs.
 const STACK: usize = 1_500_000;
 
 /// ANDs in a chain, each over the one before and one of four inputs in turn: the walk over a cone goes through all of them.
@@ -181,7 +181,7 @@ fn pairs_over_lent_memory() {
 fn two_channels_with_pairs_and_without() {
     let (one, late) =
         (Channel { graph: GRAPH, arrivals: b"" }, Channel { graph: TWIN, arrivals: b"input arrival\n0 5\n" });
-    let texts = |two: [Result<mapper::Netlist, Refusal>; 2]| two.map(|channel| channel.unwrap().text);
+    let texts = |two: [Result<arraymap::Netlist, Refusal>; 2]| two.map(|channel| channel.unwrap().text);
     assert_eq!(texts(map_two(CELLS, one, late)), [NETLIST.into(), NETLIST.replace("arrival 30", "arrival 35")]);
     assert_eq!(texts(map_two_pairs(CELLS, one, late)), [PAIRED.into(), PAIRED.replace("arrival 30", "arrival 35")]);
     let refused = Err(Refusal { number: 30, place: 0 });

@@ -4,8 +4,8 @@ use Rattle.base.specs.{_∷_, ltb, length, take, drop, getD, drop-of-length-le,
 use Rattle.model.specs.{same, ended}
 use Rattle.base_text.specs.{pickBytes, endOf, stops, lineOf, endingOf, lineAt, pastLine, spanAt, firstIs}
 use Rattle.base_text.specs.declared.Span.{Span}
-use Rattle.base_text.proofs.Bridge.{line-stop, ending-stop}
-use Rattle.base_text.proofs.Words.{some-end}
+use Rattle.base_text.proofs.CursorReads.{line-stop, ending-stop}
+use Rattle.base_text.proofs.TextWords.{some-end}
 
 -- a line's end stands here
 pub span-stop : (s : List ℕ) (at : ℕ) → (endOf (drop at s) ≡ 0 → ⊥) → spanAt s at ≡ record { stop = at; next = at + endOf (drop at s) }

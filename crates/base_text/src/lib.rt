@@ -1,6 +1,6 @@
 // Fields, numbers and names in a text of bytes, and numbers written into one.
 // "One space separates fields"; byte 10, or bytes 13 and 10, end a line. "Every reader is a cursor that hands itself on after each number."
-// A field is what stands up to the next space, line's end or end of text; each field is judged whole, by the definition of the crate `model`.
+// A field is what stands up to the next space, line's end or end of text; each field is validated whole, by the definition of the crate `model`.
 ghost use Rattle.base.specs.{_≡_, _∷_, [], _+_, _/_, _%_, _≤_, _<_, length, getD, drop};
 ghost use Rattle.model.specs.{all, same, decimal, number, hexDigit, hexFrom, hexTable, isLetter, isNameByte, isName, nameBytes};
 ghost use Rattle.base_words.specs.{putAt};
@@ -168,7 +168,7 @@ pub fn number_of(w: &[u8]) -> Value
 
 // ---- "four lower-case hexadecimal digits"
 
-// The value of a digit of the foundry's sheet: "Write it as listed cases, digits and letters by range, so that they can tick them off." A digit's
+// The value of a digit of the foundry's match table: "Write it as listed cases, digits and letters by range, so that they can tick them off." A digit's
 // value is its distance from `0`, a letter's ten and its distance from `a`; no other byte is a digit.
 fn hex_digit(b: u8) -> Value
     ensures { λ r. ⌜ r ≡ valueOf (hexDigit b) ⌝ }

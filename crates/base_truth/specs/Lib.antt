@@ -2,5 +2,5 @@
 pub mod Variant
 pub mod Pair
 pub use Variant.{pinNet, placesOf}
-unfoldable pub use Variant.{crossed, crossedAt, leafTable, placesBelow, turned, variantTable}
+unfoldable pub use Variant.{crossed, crossedAt, leafTable, placesBelow, permuted, variantTable}
 unfoldable pub use Pair.{rootBit, rootRow}

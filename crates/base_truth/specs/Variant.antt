@@ -20,9 +20,9 @@ unfolding crossed bit
 crossedAt places mask j t = cond (bit mask j) (crossed t (getD places j 0)) t
 
 -- the same of each of four pins
-unfoldable pub turned : List ℕ → ℕ → ℕ → ℕ
+unfoldable pub permuted : List ℕ → ℕ → ℕ → ℕ
 unfolding crossedAt
-turned places mask t = crossedAt places mask 3 (crossedAt places mask 2 (crossedAt places mask 1 (crossedAt places mask 0 t)))
+permuted places mask t = crossedAt places mask 3 (crossedAt places mask 2 (crossedAt places mask 1 (crossedAt places mask 0 t)))
 
 -- "leaf number i (ascending, from 0) is bit i of the row", in all 16 rows
 unfoldable pub leafTable : ℕ → ℕ

@@ -2,7 +2,7 @@
 use model::Cell;
 ghost use Rattle.base.specs.{_≡_, ℕ, _+_, _*_, _/_, _%_, _^_, _<_, _≤_, map, true, getD};
 ghost use Rattle.model.specs.{bit, one, below, literal, opposite, value, rowMap, phaseTable, pairTable};
-ghost use Rattle.base_truth.specs.{rootBit, rootRow, placesOf, variantTable, crossed, crossedAt, turned, leafTable, pinNet};
+ghost use Rattle.base_truth.specs.{rootBit, rootRow, placesOf, variantTable, crossed, crossedAt, permuted, leafTable, pinNet};
 
 // "A fixed table of 384 rows gives, for each order and row r, the row whose bit j is the bit of r at the order's place j".
 const ROWS: [[u8; 16]; 24] = [
@@ -36,7 +36,7 @@ const ROWS: [[u8; 16]; 24] = [
 const LEAVES: u64 = 0xff00f0f0ccccaaaa;
 
 // An entry of a table, as an index.
-fn wide(x: u8) -> usize
+fn index_of(x: u8) -> usize
     ensures { λ r. ⌜ r ≡ x ⌝ }
 {
     x as usize
@@ -106,7 +106,7 @@ pub fn first_table(pins: u16, table: u16, order: usize) -> u16
     let mut r: usize = 16;
     while r > 0 {
         r -= 1;
-        t = with_row(value_at(pins, table, wide(rs[r])), t);
+        t = with_row(value_at(pins, table, index_of(rs[r])), t);
     }
     t
 }
@@ -134,9 +134,9 @@ fn crossed_at(order: usize, mask: usize, j: usize, t: u16) -> u16
 }
 
 // The table of a cell under an order and a mask, from that of mask 0.
-pub fn turned(order: usize, mask: usize, t: u16) -> u16
+pub fn permuted(order: usize, mask: usize, t: u16) -> u16
     requires { ⌜ order < 24 ⌝ }
-    ensures { λ x. ⌜ x ≡ turned (placesOf order) mask t ⌝ }
+    ensures { λ x. ⌜ x ≡ permuted (placesOf order) mask t ⌝ }
 {
     let a = crossed_at(order, mask, 0, t);
     let b = crossed_at(order, mask, 1, a);

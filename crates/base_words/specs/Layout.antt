@@ -23,9 +23,9 @@ andKind = 3
 
 -- ---- how many
 
--- the placed variables: variable 0, the inputs and the ANDs
-abbrev pub placedOf : Header → ℕ
-placedOf h = h .inputs + h .ands + 1
+-- the ordered variables: variable 0, the inputs and the ANDs
+abbrev pub orderedCount : Header → ℕ
+orderedCount h = h .inputs + h .ands + 1
 
 -- ---- the addresses
 
@@ -40,13 +40,13 @@ leftAddr m v = m + 1 + v
 abbrev pub rightAddr : ℕ → ℕ → ℕ
 rightAddr m v = 2 * (m + 1) + v
 
--- the variable that is placed i-th
+-- the variable that is ordered i-th
 abbrev pub slotAddr : ℕ → ℕ → ℕ
 slotAddr m i = 3 * (m + 1) + i
 
--- 1 and the variable's slot, 0 while it is not placed
-abbrev pub placeAddr : ℕ → ℕ → ℕ
-placeAddr m v = 4 * (m + 1) + v
+-- 1 and the variable's slot, 0 while it is not ordered
+abbrev pub positionAddr : ℕ → ℕ → ℕ
+positionAddr m v = 4 * (m + 1) + v
 
 -- how many cuts it has
 abbrev pub countAddr : ℕ → ℕ → ℕ
@@ -57,8 +57,8 @@ abbrev pub neededAddr : ℕ → ℕ → ℕ
 neededAddr m v = 6 * (m + 1) + v
 
 -- when it arrives, of an input: "The input record gains this number"
-abbrev pub lateAddr : ℕ → ℕ → ℕ
-lateAddr m v = 7 * (m + 1) + v
+abbrev pub inputArrivalAddr : ℕ → ℕ → ℕ
+inputArrivalAddr m v = 7 * (m + 1) + v
 
 -- its phases, four words for each
 abbrev pub positiveAddr : ℕ → ℕ → ℕ
@@ -79,9 +79,9 @@ block = 5 * cutLimit
 abbrev pub functionAddr : ℕ → ℕ → ℕ → ℕ
 functionAddr m v k = (16 + block) * (m + 1) + cutLimit * v + k
 
--- once phases are chosen, these words hold the low arrivals instead, two words for each literal
-abbrev pub lowAddr : ℕ → ℕ → ℕ
-lowAddr m l = (16 + block) * (m + 1) + 2 * l
+-- once phases are chosen, these words hold the minimum arrivals instead, two words for each literal
+abbrev pub minArrivalAddr : ℕ → ℕ → ℕ
+minArrivalAddr m l = (16 + block) * (m + 1) + 2 * l
 
 -- output i's literal
 abbrev pub outputAddr : ℕ → ℕ → ℕ
@@ -103,15 +103,15 @@ listsTo m = (16 + block) * (m + 1)
 
 -- ---- enough words
 
--- for all but the outputs: "M exceeds 4,095" is turned back, and so is "Work memory has fewer than 124(M+1) + O 16-bit words"
-pub record Room (w : List ℕ) (m : ℕ) : Type 0 where
+-- for all but the outputs: "M exceeds 4,095" is refused, and so is "Work memory has fewer than 124(M+1) + O 16-bit words"
+pub record HasCapacity (w : List ℕ) (m : ℕ) : Type 0 where
   pub small : m ≤ 4095
-  pub room : outputAddr m 0 ≤ length w
+  pub capacity : outputAddr m 0 ≤ length w
 
 -- for the outputs too
-pub record RoomFor (w : List ℕ) (m outputs : ℕ) : Type 0 where
+pub record HasCapacityFor (w : List ℕ) (m outputs : ℕ) : Type 0 where
   pub small : m ≤ 4095
-  pub room : outputAddr m outputs ≤ length w
+  pub capacity : outputAddr m outputs ≤ length w
 
 -- ---- the words there
 
@@ -127,8 +127,8 @@ rightAt w m v = getD w (rightAddr m v) 0
 abbrev pub slotAt : List ℕ → ℕ → ℕ → ℕ
 slotAt w m i = getD w (slotAddr m i) 0
 
-abbrev pub placeAt : List ℕ → ℕ → ℕ → ℕ
-placeAt w m v = getD w (placeAddr m v) 0
+abbrev pub positionAt : List ℕ → ℕ → ℕ → ℕ
+positionAt w m v = getD w (positionAddr m v) 0
 
 abbrev pub countAt : List ℕ → ℕ → ℕ → ℕ
 countAt w m v = getD w (countAddr m v) 0
@@ -136,14 +136,14 @@ countAt w m v = getD w (countAddr m v) 0
 abbrev pub neededAt : List ℕ → ℕ → ℕ → ℕ
 neededAt w m v = getD w (neededAddr m v) 0
 
-abbrev pub lateAt : List ℕ → ℕ → ℕ → ℕ
-lateAt w m v = getD w (lateAddr m v) 0
+abbrev pub inputArrivalAt : List ℕ → ℕ → ℕ → ℕ
+inputArrivalAt w m v = getD w (inputArrivalAddr m v) 0
 
 abbrev pub outputAt : List ℕ → ℕ → ℕ → ℕ
 outputAt w m i = getD w (outputAddr m i) 0
 
-abbrev pub lowAt : List ℕ → ℕ → ℕ → ℕ
-lowAt w m l = getD w (lowAddr m l) 0 + getD w (lowAddr m l + 1) 0 * 65536
+abbrev pub minArrivalAt : List ℕ → ℕ → ℕ → ℕ
+minArrivalAt w m l = getD w (minArrivalAddr m l) 0 + getD w (minArrivalAddr m l + 1) 0 * 65536
 
-abbrev pub lowWords : ℕ → List ℕ
-lowWords t = t % 65536 ∷ t / 65536 ∷ []
+abbrev pub minArrivalWords : ℕ → List ℕ
+minArrivalWords t = t % 65536 ∷ t / 65536 ∷ []

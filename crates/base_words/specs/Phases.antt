@@ -1,11 +1,11 @@
 -- A phase as four words, and the needed phases of a variable as one.
 use Rattle.base.specs.{Bool, cond, not, _&&_, List, [], _∷_, _++_, ℕ, _+_, _*_, _/_, _%_, _<_, eqb, getD}
-use Rattle.model.specs.{cutLimit, varOf, negated, Phases, phaseOf, absent, isOwn}
+use Rattle.model.specs.{cutLimit, varOf, negated, Phases, phaseOf, absent, isInputSource}
 use Rattle.model.specs.declared.Match.{Match}
 use Rattle.model.specs.declared.Source.{Source}
 use Rattle.model.specs.declared.Source.the-variants.{Input, Cell as Matched, Inverter as Inverted, Nothing}
 use Rattle.model.specs.declared.Phase.{Phase}
-use Rattle.base_words.specs.Put.{putAt}
+use Rattle.base_words.specs.StoredWords.{putAt}
 use Rattle.base_words.specs.Layout.{positiveAddr, negativeAddr, neededAddr, neededAt}
 
 -- ---- a phase: the source's kind and cell in one word, its cut, order and mask in another, and the arrival's low and high halves
@@ -81,8 +81,8 @@ phaseAt w m l = phaseOf (phasesAt w m) l
 
 -- whether a source makes a gate: there is one, "inputs' own positive nets apart"
 unfoldable pub makesGate : Source → Bool
-unfolding absent isOwn
-makesGate s = not (absent s) && not (isOwn s)
+unfolding absent isInputSource
+makesGate s = not (absent s) && not (isInputSource s)
 
 -- ---- the needed phases: bit 0 the positive one, bit 1 the negative one
 

@@ -5,10 +5,11 @@ use model::Match;
 use model::Phase;
 use model::Source;
 ghost use Rattle.base.specs.{_≡_, _+_, _-_, _*_, _/_, _≤_, _<_, _∷_, [], length, getD, replicate};
-ghost use Rattle.model.specs.{cutLimit, need, absent, isOwn, isInverted};
-ghost use Rattle.base_words.specs.{putAt, zeros, placedOf, Room, RoomFor, kindAt, kindAddr, leftAt, leftAddr, rightAt, rightAddr};
-ghost use Rattle.base_words.specs.{slotAt, slotAddr, placeAt, placeAddr, countAt, countAddr, neededAt, neededAddr, lateAt, lateAddr};
-ghost use Rattle.base_words.specs.{positiveAddr, negativeAddr, cutAddr, listsFrom, outputAt, outputAddr, lowAddr, lowAt, lowWords};
+ghost use Rattle.model.specs.{cutLimit, need, absent, isInputSource, isInverted};
+ghost use Rattle.base_words.specs.{putAt, zeros, orderedCount, HasCapacity, HasCapacityFor, kindAt, kindAddr, leftAt, leftAddr, rightAt, rightAddr};
+ghost use Rattle.base_words.specs.{slotAt, slotAddr, positionAt, positionAddr, countAt, countAddr, neededAt, neededAddr, inputArrivalAt};
+ghost use Rattle.base_words.specs.{inputArrivalAddr};
+ghost use Rattle.base_words.specs.{positiveAddr, negativeAddr, cutAddr, listsFrom, outputAt, outputAddr, minArrivalAddr, minArrivalAt, minArrivalWords};
 ghost use Rattle.base_words.specs.{cutOf, functionOf, putCut, putFunctions, putNode, MatchFits, matchWord, PhaseFits, kindSource};
 ghost use Rattle.base_words.specs.{phaseWords, phaseIn, positiveAt, negativeAt, phaseAt, makesGate, isNeeded, putNeeded};
 
@@ -38,13 +39,13 @@ pub fn need_words(m: usize, outputs: usize) -> usize
     OUTPUTS * (m + 1) + outputs
 }
 
-fn wide(x: u16) -> usize
+fn index_of(x: u16) -> usize
     ensures { λ r. ⌜ r ≡ x ⌝ }
 {
     x as usize
 }
 
-fn long(x: u16) -> u32
+fn widen(x: u16) -> u32
     ensures { λ r. ⌜ r ≡ x ⌝ }
 {
     x as u32
@@ -54,7 +55,7 @@ fn word(work: &[u16], at: usize) -> usize
     requires { ⌜ at < length (now work) ⌝ }
     ensures { λ r. ⌜ r ≡ getD (now (work .entry)) at 0 ⌝ }
 {
-    wide(work[at])
+    index_of(work[at])
 }
 
 fn set_word(work: &mut [u16], at: usize, x: u16)
@@ -64,10 +65,10 @@ fn set_word(work: &mut [u16], at: usize, x: u16)
     work[at] = x;
 }
 
-// How many variables are placed.
-pub fn placed(h: Header) -> usize
-    requires { ⌜ placedOf h ≤ 4096 ⌝ }
-    ensures { λ r. ⌜ r ≡ placedOf h ⌝ }
+// How many variables are ordered.
+pub fn ordered_count(h: Header) -> usize
+    requires { ⌜ orderedCount h ≤ 4096 ⌝ }
+    ensures { λ r. ⌜ r ≡ orderedCount h ⌝ }
 {
     h.inputs + h.ands + 1
 }
@@ -76,7 +77,7 @@ pub fn placed(h: Header) -> usize
 
 // What a variable is: `UNDEFINED`, `CONSTANT`, `INPUT` or `AND`.
 pub fn kind(work: &[u16], m: usize, v: usize) -> usize
-    requires { ⌜ Room (now work) m × (v ≤ m) ⌝ }
+    requires { ⌜ HasCapacity (now work) m × (v ≤ m) ⌝ }
     ensures { λ r. ⌜ r ≡ kindAt (now (work .entry)) m v ⌝ }
 {
     word(work, v)
@@ -84,7 +85,7 @@ pub fn kind(work: &[u16], m: usize, v: usize) -> usize
 
 // The left operand's literal.
 pub fn left(work: &[u16], m: usize, v: usize) -> usize
-    requires { ⌜ Room (now work) m × (v ≤ m) ⌝ }
+    requires { ⌜ HasCapacity (now work) m × (v ≤ m) ⌝ }
     ensures { λ r. ⌜ r ≡ leftAt (now (work .entry)) m v ⌝ }
 {
     word(work, m + 1 + v)
@@ -92,31 +93,31 @@ pub fn left(work: &[u16], m: usize, v: usize) -> usize
 
 // The right operand's literal.
 pub fn right(work: &[u16], m: usize, v: usize) -> usize
-    requires { ⌜ Room (now work) m × (v ≤ m) ⌝ }
+    requires { ⌜ HasCapacity (now work) m × (v ≤ m) ⌝ }
     ensures { λ r. ⌜ r ≡ rightAt (now (work .entry)) m v ⌝ }
 {
     word(work, 2 * (m + 1) + v)
 }
 
-// The i-th placed variable.
+// The i-th ordered variable.
 pub fn slot(work: &[u16], m: usize, i: usize) -> usize
-    requires { ⌜ Room (now work) m × (i ≤ m) ⌝ }
+    requires { ⌜ HasCapacity (now work) m × (i ≤ m) ⌝ }
     ensures { λ r. ⌜ r ≡ slotAt (now (work .entry)) m i ⌝ }
 {
     word(work, 3 * (m + 1) + i)
 }
 
-// 1 and the variable's slot, 0 while it is not placed.
-pub fn place(work: &[u16], m: usize, v: usize) -> usize
-    requires { ⌜ Room (now work) m × (v ≤ m) ⌝ }
-    ensures { λ r. ⌜ r ≡ placeAt (now (work .entry)) m v ⌝ }
+// 1 and the variable's slot, 0 while it is not ordered.
+pub fn order_position(work: &[u16], m: usize, v: usize) -> usize
+    requires { ⌜ HasCapacity (now work) m × (v ≤ m) ⌝ }
+    ensures { λ r. ⌜ r ≡ positionAt (now (work .entry)) m v ⌝ }
 {
     word(work, 4 * (m + 1) + v)
 }
 
 // How many cuts a variable has.
 pub fn count(work: &[u16], m: usize, v: usize) -> usize
-    requires { ⌜ Room (now work) m × (v ≤ m) ⌝ }
+    requires { ⌜ HasCapacity (now work) m × (v ≤ m) ⌝ }
     ensures { λ r. ⌜ r ≡ countAt (now (work .entry)) m v ⌝ }
 {
     word(work, 5 * (m + 1) + v)
@@ -124,79 +125,79 @@ pub fn count(work: &[u16], m: usize, v: usize) -> usize
 
 // Bit 0: the positive phase is needed; bit 1: the negative.
 pub fn needed(work: &[u16], m: usize, v: usize) -> usize
-    requires { ⌜ Room (now work) m × (v ≤ m) ⌝ }
+    requires { ⌜ HasCapacity (now work) m × (v ≤ m) ⌝ }
     ensures { λ r. ⌜ r ≡ neededAt (now (work .entry)) m v ⌝ }
 {
     word(work, 6 * (m + 1) + v)
 }
 
 // When an input arrives.
-pub fn late(work: &[u16], m: usize, v: usize) -> u32
-    requires { ⌜ Room (now work) m × (v ≤ m) ⌝ }
-    ensures { λ r. ⌜ r ≡ lateAt (now (work .entry)) m v ⌝ }
+pub fn input_arrival(work: &[u16], m: usize, v: usize) -> u32
+    requires { ⌜ HasCapacity (now work) m × (v ≤ m) ⌝ }
+    ensures { λ r. ⌜ r ≡ inputArrivalAt (now (work .entry)) m v ⌝ }
 {
-    long(work[7 * (m + 1) + v])
+    widen(work[7 * (m + 1) + v])
 }
 
 pub fn set_kind(work: &mut [u16], m: usize, v: usize, x: usize)
-    requires { ⌜ Room (now work) m × (v ≤ m) × (x < 65536) ⌝ }
+    requires { ⌜ HasCapacity (now work) m × (v ≤ m) × (x < 65536) ⌝ }
     ensures { λ _. ⌜ now (work .exit) ≡ putAt (now (work .entry)) (kindAddr m v) (x ∷ []) ⌝ }
 {
     set_word(work, v, x as u16);
 }
 
 pub fn set_left(work: &mut [u16], m: usize, v: usize, x: usize)
-    requires { ⌜ Room (now work) m × (v ≤ m) × (x < 65536) ⌝ }
+    requires { ⌜ HasCapacity (now work) m × (v ≤ m) × (x < 65536) ⌝ }
     ensures { λ _. ⌜ now (work .exit) ≡ putAt (now (work .entry)) (leftAddr m v) (x ∷ []) ⌝ }
 {
     set_word(work, m + 1 + v, x as u16);
 }
 
 pub fn set_right(work: &mut [u16], m: usize, v: usize, x: usize)
-    requires { ⌜ Room (now work) m × (v ≤ m) × (x < 65536) ⌝ }
+    requires { ⌜ HasCapacity (now work) m × (v ≤ m) × (x < 65536) ⌝ }
     ensures { λ _. ⌜ now (work .exit) ≡ putAt (now (work .entry)) (rightAddr m v) (x ∷ []) ⌝ }
 {
     set_word(work, 2 * (m + 1) + v, x as u16);
 }
 
 pub fn set_slot(work: &mut [u16], m: usize, i: usize, x: usize)
-    requires { ⌜ Room (now work) m × (i ≤ m) × (x < 65536) ⌝ }
+    requires { ⌜ HasCapacity (now work) m × (i ≤ m) × (x < 65536) ⌝ }
     ensures { λ _. ⌜ now (work .exit) ≡ putAt (now (work .entry)) (slotAddr m i) (x ∷ []) ⌝ }
 {
     set_word(work, 3 * (m + 1) + i, x as u16);
 }
 
-pub fn set_place(work: &mut [u16], m: usize, v: usize, x: usize)
-    requires { ⌜ Room (now work) m × (v ≤ m) × (x < 65536) ⌝ }
-    ensures { λ _. ⌜ now (work .exit) ≡ putAt (now (work .entry)) (placeAddr m v) (x ∷ []) ⌝ }
+pub fn set_order_position(work: &mut [u16], m: usize, v: usize, x: usize)
+    requires { ⌜ HasCapacity (now work) m × (v ≤ m) × (x < 65536) ⌝ }
+    ensures { λ _. ⌜ now (work .exit) ≡ putAt (now (work .entry)) (positionAddr m v) (x ∷ []) ⌝ }
 {
     set_word(work, 4 * (m + 1) + v, x as u16);
 }
 
 pub fn set_count(work: &mut [u16], m: usize, v: usize, x: usize)
-    requires { ⌜ Room (now work) m × (v ≤ m) × (x ≤ cutLimit) ⌝ }
+    requires { ⌜ HasCapacity (now work) m × (v ≤ m) × (x ≤ cutLimit) ⌝ }
     ensures { λ _. ⌜ now (work .exit) ≡ putAt (now (work .entry)) (countAddr m v) (x ∷ []) ⌝ }
 {
     set_word(work, 5 * (m + 1) + v, x as u16);
 }
 
 pub fn set_needed(work: &mut [u16], m: usize, v: usize, x: usize)
-    requires { ⌜ Room (now work) m × (v ≤ m) × (x < 65536) ⌝ }
+    requires { ⌜ HasCapacity (now work) m × (v ≤ m) × (x < 65536) ⌝ }
     ensures { λ _. ⌜ now (work .exit) ≡ putAt (now (work .entry)) (neededAddr m v) (x ∷ []) ⌝ }
 {
     set_word(work, 6 * (m + 1) + v, x as u16);
 }
 
-pub fn set_late(work: &mut [u16], m: usize, v: usize, x: u16)
-    requires { ⌜ Room (now work) m × (v ≤ m) ⌝ }
-    ensures { λ _. ⌜ now (work .exit) ≡ putAt (now (work .entry)) (lateAddr m v) (x ∷ []) ⌝ }
+pub fn set_input_arrival(work: &mut [u16], m: usize, v: usize, x: u16)
+    requires { ⌜ HasCapacity (now work) m × (v ≤ m) ⌝ }
+    ensures { λ _. ⌜ now (work .exit) ≡ putAt (now (work .entry)) (inputArrivalAddr m v) (x ∷ []) ⌝ }
 {
     set_word(work, 7 * (m + 1) + v, x);
 }
 
 // What a variable is: its kind and its operands.
 pub fn store_node(work: &mut [u16], m: usize, v: usize, kind: usize, left: usize, right: usize)
-    requires { ⌜ Room (now work) m × (v ≤ m) × (kind < 65536) × (left < 65536) × (right < 65536) ⌝ }
+    requires { ⌜ HasCapacity (now work) m × (v ≤ m) × (kind < 65536) × (left < 65536) × (right < 65536) ⌝ }
     ensures { λ _. ⌜ now (work .exit) ≡ putNode (now (work .entry)) m v kind left right ⌝ }
 {
     set_kind(work, m, v, kind);
@@ -206,7 +207,7 @@ pub fn store_node(work: &mut [u16], m: usize, v: usize, kind: usize, left: usize
 
 // Whether the phase of a literal is needed.
 pub fn is_needed(work: &[u16], m: usize, l: usize) -> bool
-    requires { ⌜ Room (now work) m × (l / 2 ≤ m) ⌝ }
+    requires { ⌜ HasCapacity (now work) m × (l / 2 ≤ m) ⌝ }
     ensures { λ r. ⌜ r ≡ isNeeded (now (work .entry)) m l ⌝ }
 {
     let x = needed(work, m, l / 2);
@@ -219,7 +220,7 @@ pub fn is_needed(work: &[u16], m: usize, l: usize) -> bool
 
 // The phase of a literal is needed from now on.
 pub fn mark_needed(work: &mut [u16], m: usize, l: usize)
-    requires { ⌜ Room (now work) m × (l / 2 ≤ m) ⌝ }
+    requires { ⌜ HasCapacity (now work) m × (l / 2 ≤ m) ⌝ }
     ensures { λ _. ⌜ now (work .exit) ≡ putNeeded (now (work .entry)) m l ⌝ }
 {
     let x = needed(work, m, l / 2);
@@ -263,9 +264,9 @@ pub fn clear_all(work: &mut [u16])
     clear(work, 0, work.len());
 }
 
-// All columns zero: nothing is defined, placed, counted, needed or chosen.
+// All columns zero: nothing is defined, ordered, counted, needed or chosen.
 pub fn clear_columns(work: &mut [u16], m: usize)
-    requires { ⌜ Room (now work) m ⌝ }
+    requires { ⌜ HasCapacity (now work) m ⌝ }
     ensures { λ _. ⌜ now (work .exit) ≡ putAt (now (work .entry)) 0 (zeros (listsFrom m)) ⌝ }
 {
     clear(work, 0, 16 * (m + 1));
@@ -291,7 +292,7 @@ fn column(m: usize) -> usize
 
 // The size of cut k of variable v: "scan sizes alone".
 pub fn cut_size(work: &[u16], m: usize, v: usize, k: usize) -> usize
-    requires { ⌜ Room (now work) m × (v ≤ m) × (k < cutLimit) ⌝ }
+    requires { ⌜ HasCapacity (now work) m × (v ≤ m) × (k < cutLimit) ⌝ }
     ensures { λ r. ⌜ r ≡ cutOf (now (work .entry)) m v k .count ⌝ }
 {
     word(work, size_at(m, v, k))
@@ -299,7 +300,7 @@ pub fn cut_size(work: &[u16], m: usize, v: usize, k: usize) -> usize
 
 // Leaf i of cut k of variable v.
 pub fn leaf(work: &[u16], m: usize, v: usize, k: usize, i: usize) -> u16
-    requires { ⌜ Room (now work) m × (v ≤ m) × (k < cutLimit) × (i < 4) ⌝ }
+    requires { ⌜ HasCapacity (now work) m × (v ≤ m) × (k < cutLimit) × (i < 4) ⌝ }
     ensures { λ r. ⌜ r ≡ getD (cutOf (now (work .entry)) m v k .leaves) i 0 ⌝ }
 {
     work[size_at(m, v, k) + (i + 1) * column(m)]
@@ -307,7 +308,7 @@ pub fn leaf(work: &[u16], m: usize, v: usize, k: usize, i: usize) -> u16
 
 // Cut k of variable v.
 pub fn load_cut(work: &[u16], m: usize, v: usize, k: usize) -> Cut
-    requires { ⌜ Room (now work) m × (v ≤ m) × (k < cutLimit) ⌝ }
+    requires { ⌜ HasCapacity (now work) m × (v ≤ m) × (k < cutLimit) ⌝ }
     ensures { λ r. ⌜ r ≡ cutOf (now (work .entry)) m v k ⌝ }
 {
     let at = size_at(m, v, k);
@@ -322,7 +323,7 @@ pub fn load_cut(work: &[u16], m: usize, v: usize, k: usize) -> Cut
 
 // The five words of cut k of variable v.
 pub fn store_cut(work: &mut [u16], m: usize, v: usize, k: usize, ws: [u16; 5])
-    requires { ⌜ Room (now work) m × (v ≤ m) × (k < cutLimit) ⌝ }
+    requires { ⌜ HasCapacity (now work) m × (v ≤ m) × (k < cutLimit) ⌝ }
     ensures { λ _. ⌜ now (work .exit) ≡ putCut (now (work .entry)) m v k ws ⌝ }
 {
     let at = size_at(m, v, k);
@@ -336,35 +337,35 @@ pub fn store_cut(work: &mut [u16], m: usize, v: usize, k: usize, ws: [u16; 5])
 
 // The function of cut k of v.
 pub fn function(work: &[u16], m: usize, v: usize, k: usize) -> usize
-    requires { ⌜ Room (now work) m × (v ≤ m) × (k < cutLimit) ⌝ }
+    requires { ⌜ HasCapacity (now work) m × (v ≤ m) × (k < cutLimit) ⌝ }
     ensures { λ r. ⌜ r ≡ functionOf (now (work .entry)) m v k ⌝ }
 {
     word(work, TABLES * (m + 1) + LIMIT * v + k)
 }
 
 pub fn set_function(work: &mut [u16], m: usize, v: usize, k: usize, x: u16)
-    requires { ⌜ Room (now work) m × (v ≤ m) × (k < cutLimit) ⌝ }
+    requires { ⌜ HasCapacity (now work) m × (v ≤ m) × (k < cutLimit) ⌝ }
     ensures { λ _. ⌜ now (work .exit) ≡ putFunctions (now (work .entry)) m v k (x ∷ []) ⌝ }
 {
     set_word(work, TABLES * (m + 1) + LIMIT * v + k, x);
 }
 
-// ---- low arrivals, in the words of the functions
+// ---- minimum arrivals, in the words of the functions
 
-// The low arrival of a literal's phase.
-pub fn low(work: &[u16], m: usize, l: usize) -> u32
-    requires { ⌜ Room (now work) m × (l / 2 ≤ m) ⌝ }
-    ensures { λ r. ⌜ r ≡ lowAt (now (work .entry)) m l ⌝ }
+// The minimum arrival of a literal's phase.
+pub fn min_arrival(work: &[u16], m: usize, l: usize) -> u32
+    requires { ⌜ HasCapacity (now work) m × (l / 2 ≤ m) ⌝ }
+    ensures { λ r. ⌜ r ≡ minArrivalAt (now (work .entry)) m l ⌝ }
 {
     let at = TABLES * (m + 1) + 2 * l;
-    let low = long(work[at]);
-    let high = long(work[at + 1]);
-    low + high * 65536
+    let min_arrival = widen(work[at]);
+    let high = widen(work[at + 1]);
+    min_arrival + high * 65536
 }
 
-pub fn set_low(work: &mut [u16], m: usize, l: usize, t: u32)
-    requires { ⌜ Room (now work) m × (l / 2 ≤ m) ⌝ }
-    ensures { λ _. ⌜ now (work .exit) ≡ putAt (now (work .entry)) (lowAddr m l) (lowWords t) ⌝ }
+pub fn set_min_arrival(work: &mut [u16], m: usize, l: usize, t: u32)
+    requires { ⌜ HasCapacity (now work) m × (l / 2 ≤ m) ⌝ }
+    ensures { λ _. ⌜ now (work .exit) ≡ putAt (now (work .entry)) (minArrivalAddr m l) (minArrivalWords t) ⌝ }
 {
     let ws = [(t % 65536) as u16, (t / 65536) as u16];
     put(work, TABLES * (m + 1) + 2 * l, &ws);
@@ -423,14 +424,14 @@ fn phase_words(p: Phase) -> [u16; 4]
     requires { ⌜ PhaseFits p ⌝ }
     ensures { λ r. ⌜ r ≡ phaseWords p ⌝ }
 {
-    let low = (p.arrival % 65536) as u16;
+    let min_arrival = (p.arrival % 65536) as u16;
     let high = (p.arrival / 65536) as u16;
     let source = p.source;
     match source {
-        Source::Input => [256, 0, low, high],
-        Source::Cell(m) => [cell_word(m), match_word(m), low, high],
-        Source::Inverter(c) => [(768 + c) as u16, 0, low, high],
-        Source::Nothing => [0, 0, low, high],
+        Source::Input => [256, 0, min_arrival, high],
+        Source::Cell(m) => [cell_word(m), match_word(m), min_arrival, high],
+        Source::Inverter(c) => [(768 + c) as u16, 0, min_arrival, high],
+        Source::Nothing => [0, 0, min_arrival, high],
     }
 }
 
@@ -444,7 +445,7 @@ fn store_phase(work: &mut [u16], at: usize, p: Phase)
 
 // The positive phase of v.
 pub fn positive(work: &[u16], m: usize, v: usize) -> Phase
-    requires { ⌜ Room (now work) m × (v ≤ m) ⌝ }
+    requires { ⌜ HasCapacity (now work) m × (v ≤ m) ⌝ }
     ensures { λ r. ⌜ r ≡ positiveAt (now (work .entry)) m v ⌝ }
 {
     phase_in(work, 8 * (m + 1) + 4 * v)
@@ -452,7 +453,7 @@ pub fn positive(work: &[u16], m: usize, v: usize) -> Phase
 
 // The negative phase of v.
 pub fn negative(work: &[u16], m: usize, v: usize) -> Phase
-    requires { ⌜ Room (now work) m × (v ≤ m) ⌝ }
+    requires { ⌜ HasCapacity (now work) m × (v ≤ m) ⌝ }
     ensures { λ r. ⌜ r ≡ negativeAt (now (work .entry)) m v ⌝ }
 {
     phase_in(work, 12 * (m + 1) + 4 * v)
@@ -460,7 +461,7 @@ pub fn negative(work: &[u16], m: usize, v: usize) -> Phase
 
 // The phase of a literal.
 pub fn phase(work: &[u16], m: usize, l: usize) -> Phase
-    requires { ⌜ Room (now work) m × (l / 2 ≤ m) ⌝ }
+    requires { ⌜ HasCapacity (now work) m × (l / 2 ≤ m) ⌝ }
     ensures { λ r. ⌜ r ≡ phaseAt (now (work .entry)) m l ⌝ }
 {
     if l % 2 == 1 {
@@ -471,14 +472,14 @@ pub fn phase(work: &[u16], m: usize, l: usize) -> Phase
 }
 
 pub fn set_positive(work: &mut [u16], m: usize, v: usize, p: Phase)
-    requires { ⌜ Room (now work) m × (v ≤ m) × PhaseFits p ⌝ }
+    requires { ⌜ HasCapacity (now work) m × (v ≤ m) × PhaseFits p ⌝ }
     ensures { λ _. ⌜ now (work .exit) ≡ putAt (now (work .entry)) (positiveAddr m v) (phaseWords p) ⌝ }
 {
     store_phase(work, 8 * (m + 1) + 4 * v, p);
 }
 
 pub fn set_negative(work: &mut [u16], m: usize, v: usize, p: Phase)
-    requires { ⌜ Room (now work) m × (v ≤ m) × PhaseFits p ⌝ }
+    requires { ⌜ HasCapacity (now work) m × (v ≤ m) × PhaseFits p ⌝ }
     ensures { λ _. ⌜ now (work .exit) ≡ putAt (now (work .entry)) (negativeAddr m v) (phaseWords p) ⌝ }
 {
     store_phase(work, 12 * (m + 1) + 4 * v, p);
@@ -498,8 +499,8 @@ pub fn is_absent(p: Phase) -> bool
 }
 
 // Whether it is an input's own net.
-pub fn is_own(p: Phase) -> bool
-    ensures { λ r. ⌜ r ≡ isOwn (p .source) ⌝ }
+pub fn is_input_source(p: Phase) -> bool
+    ensures { λ r. ⌜ r ≡ isInputSource (p .source) ⌝ }
 {
     let s = p.source;
     match s {
@@ -527,21 +528,25 @@ pub fn is_inverted(p: Phase) -> bool
 pub fn makes_gate(p: Phase) -> bool
     ensures { λ r. ⌜ r ≡ makesGate (p .source) ⌝ }
 {
-    if is_absent(p) { false } else { !is_own(p) }
+    if is_absent(p) {
+        false
+    } else {
+        !is_input_source(p)
+    }
 }
 
 // ---- outputs
 
 // The literal of output i.
 pub fn output(work: &[u16], m: usize, outputs: usize, i: usize) -> usize
-    requires { ⌜ RoomFor (now work) m outputs × (i < outputs) ⌝ }
+    requires { ⌜ HasCapacityFor (now work) m outputs × (i < outputs) ⌝ }
     ensures { λ r. ⌜ r ≡ outputAt (now (work .entry)) m i ⌝ }
 {
     word(work, OUTPUTS * (m + 1) + i)
 }
 
 pub fn set_output(work: &mut [u16], m: usize, outputs: usize, i: usize, x: usize)
-    requires { ⌜ RoomFor (now work) m outputs × (i < outputs) × (x < 65536) ⌝ }
+    requires { ⌜ HasCapacityFor (now work) m outputs × (i < outputs) × (x < 65536) ⌝ }
     ensures { λ _. ⌜ now (work .exit) ≡ putAt (now (work .entry)) (outputAddr m i) (x ∷ []) ⌝ }
 {
     set_word(work, OUTPUTS * (m + 1) + i, x as u16);

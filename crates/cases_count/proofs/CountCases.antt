@@ -5,7 +5,7 @@ use Rattle.model.specs.{text, holds, fault, emptyTally, countText, reportOf}
 use Rattle.model.specs.declared.Tally.{Tally}
 use Rattle.cases.proofs.{library, listing, ranged}
 use Rattle.cases_tally.proofs.{tallied, once, with}
-use Rattle.theory_tally.specs.{CountHolds, CountFault, ReportFault}
+use Rattle.promises.specs.CountRefusals.{CountHolds, CountFault, ReportFault}
 use Rattle.theory_tally.proofs.{count-exactly, report-exactly}
 
 counts : (l : List ℕ) (t : Tally) (n : List ℕ) (u : Tally) → countText t l n ≡ holds u → CountHolds t l n u

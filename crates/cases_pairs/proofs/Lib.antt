@@ -1,3 +1,3 @@
 pub mod PairCases
 pub mod ShuffleCases
-pub mod Inhabited
+pub mod PairWitnesses

@@ -90,7 +90,7 @@ unfolding all holds counted
 counted-hold = tt
 
 pub timings-hold : T (all holds (
-    -- under the longer names line a timing line for each output is due
+    -- under the longer names line a timing line for each output is expected
     counts ranged emptyTally (listing ++ text "# timing o7 0 00\n") once
     ∷ refuses ranged emptyTally listing 29 134
     ∷ refuses library emptyTally (listing ++ text "# timing o0 20 30\n") 29 134
@@ -133,7 +133,7 @@ pub broken-lines-hold : T (all holds (
     ∷ refuses library emptyTally (with 8 "# gates 2 area 2 arrival 30\n") 29 106
     ∷ refuses library emptyTally (with 8 "# gates 02 area 3 arrival 30\n") 29 106
     ∷ refuses library emptyTally (with 8 "# gates 2 area 3 arrival\n") 29 106
-    -- an output more is due two lines more
+    -- an output more is expected two lines more
     ∷ refuses library emptyTally (with 2 ".outputs o0 o1\n") 29 104
     -- a line without its end, a line too few, a line too many, another end
     ∷ refuses library emptyTally (with 8 "# gates 2 area 3 arrival 30") 29 106
@@ -190,13 +190,13 @@ pub figures-hold : T (all holds (
 unfolding all holds library listing once tallied emptyTally five text
 figures-hold = tt
 
-pub turned-hold : T (all holds (
+pub permuted-hold : T (all holds (
     -- the gates stand before the area: each cell occurs in every netlist
     reports five (tallied (3 ∷ 14 ∷ 15 ∷ 92 ∷ 65 ∷ []) (35 ∷ 89 ∷ 79 ∷ 32 ∷ 38 ∷ []) (9 ∷ 9 ∷ 9 ∷ 9 ∷ 9 ∷ []) 9) 100 "a 3 35 9\nb 14 89 9\nc 15 79 9\nd 92 32 9\ne 65 38 9\ntotal 189 273 9\n"
     ∷ []
     ))
 unfolding all holds tallied five
-turned-hold = tt
+permuted-hold = tt
 
 pub everywhere-hold : T (all holds (
     -- "in how many netlists it occurs": each gate has the area 1

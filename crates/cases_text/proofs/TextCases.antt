@@ -17,11 +17,11 @@ graph18 = "aag 6 1 0 0 5\n2\n4 2 2\n6 4 2\n8 4 2\n10 8 6\n12 10 10\n"
 unfoldable pub graph19 : String
 graph19 = "aag 6 1 0 0 5\n2\n4 2 2\n6 4 2\n8 6 2\n10 8 8\n12 10 10\n"
 
--- variable 6 has too many cuts as well, and is placed behind variable 7
+-- variable 6 has too many cuts as well, and is ordered behind variable 7
 unfoldable pub graphLater : String
 graphLater = "aag 7 1 0 0 6\n2\n4 2 2\n6 4 2\n8 6 2\n10 8 8\n14 10 10\n12 14 14\n"
 
--- both can be placed at once, and the line of variable 7 stands first
+-- both can be ordered at once, and the line of variable 7 stands first
 unfoldable pub graphEither : String
 graphEither = "aag 7 1 0 0 6\n2\n4 2 2\n6 4 2\n8 6 2\n10 8 8\n14 10 10\n12 10 10\n"
 
@@ -96,7 +96,7 @@ pub limits-hold : T (all holds (
 unfolding all holds library with graphB graph18 graph19 graphLater graphEither cellLines listing text
 limits-hold = tt
 
-pub due-lines-hold : T (all holds (
+pub expected-lines-hold : T (all holds (
     -- 10
     lacks library "aag 4095 0 0 0 0\n" 507903 0 10 0
     ∷ lacks library graphB 496 65536 10 0
@@ -109,7 +109,7 @@ pub due-lines-hold : T (all holds (
     ∷ []
     ))
 unfolding all holds library with graphB graph18 graph19 graphLater graphEither cellLines listing text
-due-lines-hold = tt
+expected-lines-hold = tt
 
 pub literals-hold : T (all holds (
     -- 12, then 13, line by line
@@ -136,15 +136,15 @@ pub undefined-hold : T (all holds (
 unfolding all holds library with graphB graph18 graph19 graphLater graphEither cellLines listing text
 undefined-hold = tt
 
-pub unplaced-hold : T (all holds (
-    -- 15: also an AND that only waits behind a circle
+pub unordered-hold : T (all holds (
+    -- 15: also an AND that only waits behind a cycle
     refuses library "aag 3 0 0 0 3\n2 4 4\n4 6 6\n6 4 4\n" 15 1
     ∷ refuses library "aag 2 1 0 0 1\n2\n4 4 2\n" 15 2
     ∷ refuses library "aag 2 0 0 0 2\n4 2 2\n2 4 4\n" 15 1
     ∷ []
     ))
 unfolding all holds library with graphB graph18 graph19 graphLater graphEither cellLines listing text
-unplaced-hold = tt
+unordered-hold = tt
 
 pub cuts-and-covers-hold : T (all holds (
     -- 16
@@ -182,7 +182,7 @@ pub binaries-hold : T (all holds (
     printsBytes library (headB ++ (2 ∷ 2 ∷ [])) listing 2 3 30
     ∷ means (headB ++ (2 ∷ 2 ∷ [])) "aag 3 2 0 1 1\n2\n4\n6\n6 4 2\n"
     ∷ listsBytes binaryF 6 ((6 ∷ []) ∷ (3 ∷ 4 ∷ []) ∷ (4 ∷ 5 ∷ []) ∷ (1 ∷ 2 ∷ 3 ∷ []) ∷ (1 ∷ 2 ∷ 5 ∷ []) ∷ (1 ∷ 2 ∷ 3 ∷ 4 ∷ []) ∷ []) (1 ∷ 2 ∷ 3 ∷ 4 ∷ []) 0xf000
-    -- an ASCII text is its own twin
+    -- an ASCII text is its own ASCII form
     ∷ means (text "aag 7 2 0 2 1\n4\n2\n7\n0\n6 3 5\n") "aag 7 2 0 2 1\n4\n2\n7\n0\n6 3 5\n"
     -- a zero group in the first and in the second difference; what follows the last difference isn't read
     ∷ printsBytes library (headB ++ (130 ∷ 0 ∷ 2 ∷ [])) listing 2 3 30
@@ -295,7 +295,7 @@ unfolding all holds library with listing longLibrary mixedLibrary longWith longL
 long-ends-hold = tt
 
 pub lone-thirteen-hold : T (all holds (
-    -- a lone 13: in the names line, in a cell line's first, inner and last field, in the header and the due lines
+    -- a lone 13: in the names line, in a cell line's first, inner and last field, in the header and the expected lines
     refuses (text "cell pins table area d0 d1 d2 d3\r") graphB 2 0
     ∷ refuses (text "cell\r pins table area d0 d1 d2 d3\n") graphB 2 0
     ∷ refuses (text "\r\n") graphB 2 0

@@ -5,26 +5,26 @@ use Rattle.model.specs.{all, same, text, fault, holds as reads, Outcome, return
 use Rattle.cases.proofs.{library, with, listing, graphB, graphC, headB, arrives, isPrint, isGiven, isRefusal, isReturned}
 
 -- what a channel's outcome is
-pub data Due : Type 0 where
+pub data Expected : Type 0 where
   -- so many gates and this arrival
-  gives : ℕ → ℕ → Due
+  gives : ℕ → ℕ → Expected
   -- this refusal at this place
-  refuses : ℕ → ℕ → Due
+  refuses : ℕ → ℕ → Expected
 
-unfoldable pub isDue : Due → Outcome → Bool
+unfoldable pub isExpected : Expected → Outcome → Bool
 unfolding isGiven isRefusal
-isDue (gives count arrival) = isGiven count arrival
-isDue (refuses n k) = isRefusal n k
+isExpected (gives count arrival) = isGiven count arrival
+isExpected (refuses n k) = isRefusal n k
 
 -- a library, so many words, the channels, and what each comes to
 pub record TwoCase : Type 0 where
   pub call : TwoCall
-  pub first : Due
-  pub second : Due
+  pub first : Expected
+  pub second : Expected
 
 unfoldable pub twoHolds : TwoCase → Bool
-unfolding isDue mapTwo
-twoHolds x = isDue (x .first) (mapTwo (x .call) .first) && isDue (x .second) (mapTwo (x .call) .second)
+unfolding isExpected mapTwo
+twoHolds x = isExpected (x .first) (mapTwo (x .call) .first) && isExpected (x .second) (mapTwo (x .call) .second)
 
 -- a channel without late inputs, with these bytes lent
 unfoldable pub on : String → ℕ → Channel
@@ -40,7 +40,7 @@ timedOn g arrivals = record { graph = text g; arrivals = arrivals; bytes = 65536
 unfoldable pub onBytes : List ℕ → Channel
 onBytes g = record { graph = g; arrivals = []; bytes = 65536 }
 
-unfoldable pub case : List ℕ → ℕ → Channel → Channel → Due → Due → TwoCase
+unfoldable pub case : List ℕ → ℕ → Channel → Channel → Expected → Expected → TwoCase
 case l words a b x y = record { call = record { paired = false; library = l; words = words; first = a; second = b }; first = x; second = y }
 
 -- B and C need 497 words each, and the graph of I 125

@@ -1,8 +1,8 @@
--- `Bytes`: a book's bytes, and what stands in them.
--- `Codes`: pairs as numbers, and all of a library's in their order.
-pub mod Bytes
-pub mod Codes
-pub use Bytes.{bookOf, codeBytes, codeIn, codePlace, countIn, lineCell, listedBytes}
-unfoldable pub use Bytes.{cellBytes, cellFrom, nameFrom}
-pub use Codes.{Coded, Joinable, codeOf, codeOfPair, pairOfCode}
-unfoldable pub use Codes.{cellsBy, codeFor, innerCodes, pairCodes, pinCodes, rootCodes}
+-- `CellRecords`: a list of cell records's bytes, and what stands in them.
+-- `PairIds`: pairs as numbers, and all of a library's in their order.
+pub mod CellRecords
+pub mod PairIds
+pub use CellRecords.{cellRecordsOf, idBytes, idIn, idPlace, countIn, lineCell, listedBytes}
+unfoldable pub use CellRecords.{cellBytes, cellFrom, nameFrom}
+pub use PairIds.{Coded, Joinable, idOf, idOfPair, pairOfId}
+unfoldable pub use PairIds.{cellsBy, idFor, innerIds, pairIds, pinIds, rootIds}

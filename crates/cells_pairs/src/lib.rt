@@ -6,8 +6,8 @@ use model::Library;
 ghost use Rattle.base.specs.{_≡_, List, ℕ, _+_, _*_, _≤_, _<_, min, length, take, getD};
 ghost use Rattle.model.specs.{each, below, cellsOf, cellAt, joins, pairDelays};
 ghost use Rattle.base_text.specs.{Wrote};
-ghost use Rattle.cells_pairs.specs.{Joinable, Coded, codeFor, innerCodes, pinCodes, pairCodes, cellsBy, nameFrom, cellBytes};
-ghost use Rattle.cells_pairs.specs.{cellFrom, codeBytes, bookOf, countIn, lineCell, codePlace, codeIn};
+ghost use Rattle.cells_pairs.specs.{Joinable, Coded, idFor, innerIds, pinIds, pairIds, cellsBy, nameFrom, cellBytes};
+ghost use Rattle.cells_pairs.specs.{cellFrom, idBytes, cellRecordsOf, countIn, lineCell, idPlace, idIn};
 
 // The listed cells, and the numbers of the pairs, as bytes: made once for each call and lent to what runs for each gate, so that no library is
 // copied there.
@@ -22,24 +22,24 @@ pub fn name_len(len: usize) -> usize
 // ---- written
 
 // Twelve bytes a cell: the name, how many of the eight bytes are the name, the pins, the area with its low byte first.
-fn put_cell(book: &mut [u8], at: usize, c: Cell) -> usize
-    requires { ⌜ (c .pins ≤ 4) × (at + length (cellBytes c) ≤ length (now book)) ⌝ }
-    ensures { λ r. ⌜ Wrote (now (book .entry)) (now (book .exit)) at r (cellBytes c) ⌝ }
+fn put_cell(records: &mut [u8], at: usize, c: Cell) -> usize
+    requires { ⌜ (c .pins ≤ 4) × (at + length (cellBytes c) ≤ length (now records)) ⌝ }
+    ensures { λ r. ⌜ Wrote (now (records .entry)) (now (records .exit)) at r (cellBytes c) ⌝ }
 {
     let name = c.name;
-    let next = base_text::put_bytes(book, at, &name);
+    let next = base_text::put_bytes(records, at, &name);
     let figures = [
         name_len(c.len) as u8,
         c.pins as u8,
         (c.area % 256) as u8,
         (c.area / 256) as u8,
     ];
-    base_text::put_bytes(book, next, &figures)
+    base_text::put_bytes(records, next, &figures)
 }
 
-fn put_cells(book: &mut [u8], at: usize, lib: Library) -> usize
-    requires { ⌜ Joinable lib × (at + length (each cellBytes (cellsOf lib)) ≤ length (now book)) ⌝ }
-    ensures { λ r. ⌜ Wrote (now (book .entry)) (now (book .exit)) at r (each cellBytes (cellsOf lib)) ⌝ }
+fn put_cells(records: &mut [u8], at: usize, lib: Library) -> usize
+    requires { ⌜ Joinable lib × (at + length (each cellBytes (cellsOf lib)) ≤ length (now records)) ⌝ }
+    ensures { λ r. ⌜ Wrote (now (records .entry)) (now (records .exit)) at r (each cellBytes (cellsOf lib)) ⌝ }
 {
     let cells = lib.cells;
     let n = lib.n;
@@ -47,46 +47,46 @@ fn put_cells(book: &mut [u8], at: usize, lib: Library) -> usize
     let mut i: usize = 0;
     while i < n {
         let c = cells[i];
-        next = put_cell(book, next, c);
+        next = put_cell(records, next, c);
         i += 1;
     }
     next
 }
 
 // The pairs' numbers, the low byte of each first.
-fn put_codes(book: &mut [u8], at: usize, codes: &[u16]) -> usize
-    requires { ⌜ at + length (each codeBytes (now codes)) ≤ length (now book) ⌝ }
-    ensures { λ r. ⌜ Wrote (now (book .entry)) (now (book .exit)) at r (each codeBytes (now (codes .entry))) ⌝ }
+fn put_pair_ids(records: &mut [u8], at: usize, ids: &[u16]) -> usize
+    requires { ⌜ at + length (each idBytes (now ids)) ≤ length (now records) ⌝ }
+    ensures { λ r. ⌜ Wrote (now (records .entry)) (now (records .exit)) at r (each idBytes (now (ids .entry))) ⌝ }
 {
     let mut next = at;
     let mut i: usize = 0;
-    while i < codes.len() {
-        let k = codes[i];
+    while i < ids.len() {
+        let k = ids[i];
         let bytes = [(k % 256) as u8, (k / 256) as u8];
-        next = base_text::put_bytes(book, next, &bytes);
+        next = base_text::put_bytes(records, next, &bytes);
         i += 1;
     }
     next
 }
 
 // How many cells are listed, each of them, and behind them the numbers of the pairs: "Pairs follow the listed cells".
-pub fn put_book(book: &mut [u8], lib: Library, codes: &[u16]) -> usize
-    requires { ⌜ Coded lib (now codes) × (833 ≤ length (now book)) ⌝ }
-    ensures { λ r. ⌜ Wrote (now (book .entry)) (now (book .exit)) 0 r (bookOf (cellsOf lib) (now (codes .entry))) ⌝ }
+pub fn put_cell_records(records: &mut [u8], lib: Library, ids: &[u16]) -> usize
+    requires { ⌜ Coded lib (now ids) × (833 ≤ length (now records)) ⌝ }
+    ensures { λ r. ⌜ Wrote (now (records .entry)) (now (records .exit)) 0 r (cellRecordsOf (cellsOf lib) (now (ids .entry))) ⌝ }
 {
-    let first = base_text::put_byte(book, 0, lib.n as u8);
-    let at = put_cells(book, first, lib);
-    put_codes(book, at, codes)
+    let first = base_text::put_byte(records, 0, lib.n as u8);
+    let at = put_cells(records, first, lib);
+    put_pair_ids(records, at, ids)
 }
 
 // ---- read
 
 // How many cells are listed.
-pub fn count(book: &[u8]) -> usize
-    requires { ⌜ 1 ≤ length (now book) ⌝ }
-    ensures { λ r. ⌜ r ≡ countIn (now (book .entry)) ⌝ }
+pub fn count(records: &[u8]) -> usize
+    requires { ⌜ 1 ≤ length (now records) ⌝ }
+    ensures { λ r. ⌜ r ≡ countIn (now (records .entry)) ⌝ }
 {
-    byte(book[0])
+    byte(records[0])
 }
 
 fn byte(b: u8) -> usize
@@ -102,13 +102,13 @@ fn half(b: u8) -> u16
 }
 
 // The pair's number that cell number k has.
-pub fn code_at(book: &[u8], k: usize) -> usize
-    requires { ⌜ (countIn (now book) ≤ k) × (codePlace (now book) k + 2 ≤ length (now book)) ⌝ }
-    ensures { λ r. ⌜ r ≡ codeIn (now (book .entry)) k ⌝ }
+pub fn pair_id_at(records: &[u8], k: usize) -> usize
+    requires { ⌜ (countIn (now records) ≤ k) × (idPlace (now records) k + 2 ≤ length (now records)) ⌝ }
+    ensures { λ r. ⌜ r ≡ idIn (now (records .entry)) k ⌝ }
 {
-    let n = count(book);
+    let n = count(records);
     let at = 1 + 12 * n + 2 * (k - n);
-    byte(book[at]) + 256 * byte(book[at + 1])
+    byte(records[at]) + 256 * byte(records[at + 1])
 }
 
 fn name_from(w: &[u8]) -> [u8; 8]
@@ -118,7 +118,7 @@ fn name_from(w: &[u8]) -> [u8; 8]
     [w[0], w[1], w[2], w[3], w[4], w[5], w[6], w[7]]
 }
 
-// The cell of twelve bytes. Its table and delays are not in the book: no line and no figure has them.
+// The cell of twelve bytes. Its table and delays are not in the list of cell records: no line and no figure has them.
 fn cell_from(bytes: &[u8]) -> Cell
     requires { ⌜ 12 ≤ length (now bytes) ⌝ }
     ensures { λ r. ⌜ r ≡ cellFrom (now (bytes .entry)) ⌝ }
@@ -131,17 +131,17 @@ fn cell_from(bytes: &[u8]) -> Cell
         table: 0,
         area: half(bytes[10]) + 256 * half(bytes[11]),
         delays: [0; 4],
-        lows: [0; 4],
+        mins: [0; 4],
     }
 }
 
 // The cell at line k.
-pub fn cell_at(book: &[u8], k: usize) -> Cell
-    requires { ⌜ 13 + 12 * k ≤ length (now book) ⌝ }
-    ensures { λ r. ⌜ r ≡ lineCell (now (book .entry)) k ⌝ }
+pub fn cell_at(records: &[u8], k: usize) -> Cell
+    requires { ⌜ 13 + 12 * k ≤ length (now records) ⌝ }
+    ensures { λ r. ⌜ r ≡ lineCell (now (records .entry)) k ⌝ }
 {
     let at = 1 + 12 * k;
-    cell_from(&book[at..])
+    cell_from(&records[at..])
 }
 
 // "inner cell with at least one pin", "if the result has at most four pins".
@@ -153,21 +153,21 @@ fn joins(root: Cell, inner: Cell) -> bool
 }
 
 // A pair's number, written if there is such a pair.
-fn put_code(codes: &mut [u16], at: usize, root: Cell, inner: Cell, k: usize) -> usize
-    requires { ⌜ (root .pins ≤ 4) × (inner .pins ≤ 4) × (k < 4096) × (at + length (codeFor root inner k) ≤ length (now codes)) ⌝ }
-    ensures { λ r. ⌜ Wrote (now (codes .entry)) (now (codes .exit)) at r (codeFor root inner k) ⌝ }
+fn put_pair_id(ids: &mut [u16], at: usize, root: Cell, inner: Cell, k: usize) -> usize
+    requires { ⌜ (root .pins ≤ 4) × (inner .pins ≤ 4) × (k < 4096) × (at + length (idFor root inner k) ≤ length (now ids)) ⌝ }
+    ensures { λ r. ⌜ Wrote (now (ids .entry)) (now (ids .exit)) at r (idFor root inner k) ⌝ }
 {
     if joins(root, inner) {
-        codes[at] = k as u16;
+        ids[at] = k as u16;
         return at + 1;
     }
     at
 }
 
 // Those of the root at line i with pin p fed.
-fn put_inners(codes: &mut [u16], at: usize, lib: Library, i: usize, p: usize) -> usize
-    requires { ⌜ Joinable lib × (i < lib .n) × (p < 4) × (at + length (innerCodes (cellsOf lib) i p (below (length (cellsOf lib)))) ≤ length (now codes)) ⌝ }
-    ensures { λ r. ⌜ Wrote (now (codes .entry)) (now (codes .exit)) at r (innerCodes (cellsOf lib) i p (below (length (cellsOf lib)))) ⌝ }
+fn put_inners(ids: &mut [u16], at: usize, lib: Library, i: usize, p: usize) -> usize
+    requires { ⌜ Joinable lib × (i < lib .n) × (p < 4) × (at + length (innerIds (cellsOf lib) i p (below (length (cellsOf lib)))) ≤ length (now ids)) ⌝ }
+    ensures { λ r. ⌜ Wrote (now (ids .entry)) (now (ids .exit)) at r (innerIds (cellsOf lib) i p (below (length (cellsOf lib)))) ⌝ }
 {
     let cells = lib.cells;
     let n = lib.n;
@@ -176,30 +176,30 @@ fn put_inners(codes: &mut [u16], at: usize, lib: Library, i: usize, p: usize) ->
     let mut j: usize = 0;
     while j < n {
         let inner = cells[j];
-        next = put_code(codes, next, root, inner, i * 128 + p * 32 + j);
+        next = put_pair_id(ids, next, root, inner, i * 128 + p * 32 + j);
         j += 1;
     }
     next
 }
 
 // Those of the root at line i.
-fn put_pins(codes: &mut [u16], at: usize, lib: Library, i: usize, pins: usize) -> usize
-    requires { ⌜ Joinable lib × (i < lib .n) × (pins ≤ 4) × (at + length (pinCodes (cellsOf lib) i (below pins)) ≤ length (now codes)) ⌝ }
-    ensures { λ r. ⌜ Wrote (now (codes .entry)) (now (codes .exit)) at r (pinCodes (cellsOf lib) i (below pins)) ⌝ }
+fn put_pins(ids: &mut [u16], at: usize, lib: Library, i: usize, pins: usize) -> usize
+    requires { ⌜ Joinable lib × (i < lib .n) × (pins ≤ 4) × (at + length (pinIds (cellsOf lib) i (below pins)) ≤ length (now ids)) ⌝ }
+    ensures { λ r. ⌜ Wrote (now (ids .entry)) (now (ids .exit)) at r (pinIds (cellsOf lib) i (below pins)) ⌝ }
 {
     let mut next = at;
     let mut p: usize = 0;
     while p < pins {
-        next = put_inners(codes, next, lib, i, p);
+        next = put_inners(ids, next, lib, i, p);
         p += 1;
     }
     next
 }
 
 // The numbers of all pairs, by the root's line, its pin and the inner's line; how many there are.
-pub fn form(codes: &mut [u16], lib: Library) -> usize
-    requires { ⌜ Joinable lib × (length (pairCodes (cellsOf lib)) ≤ length (now codes)) ⌝ }
-    ensures { λ r. ⌜ Wrote (now (codes .entry)) (now (codes .exit)) 0 r (pairCodes (cellsOf lib)) ⌝ }
+pub fn form(ids: &mut [u16], lib: Library) -> usize
+    requires { ⌜ Joinable lib × (length (pairIds (cellsOf lib)) ≤ length (now ids)) ⌝ }
+    ensures { λ r. ⌜ Wrote (now (ids .entry)) (now (ids .exit)) 0 r (pairIds (cellsOf lib)) ⌝ }
 {
     let cells = lib.cells;
     let n = lib.n;
@@ -207,7 +207,7 @@ pub fn form(codes: &mut [u16], lib: Library) -> usize
     let mut i: usize = 0;
     while i < n {
         let root = cells[i];
-        next = put_pins(codes, next, lib, i, root.pins as usize);
+        next = put_pins(ids, next, lib, i, root.pins as usize);
         i += 1;
     }
     next
@@ -223,44 +223,44 @@ fn listed(lib: Library, k: usize) -> Cell
     cells[k]
 }
 
-fn wide(x: u16) -> usize
+fn index_of(x: u16) -> usize
     ensures { λ r. ⌜ (r ≡ x) × (r < 65536) ⌝ }
 {
     x as usize
 }
 
 // How many pins: "the root's in order, with the inner's, in order, at the fed pin's place".
-pub fn pins_of(lib: Library, codes: &[u16], k: usize) -> u16
-    requires { ⌜ Coded lib (now codes) × (k < lib .n + length (now codes)) ⌝ }
-    ensures { λ r. ⌜ r ≡ cellAt (cellsBy (cellsOf lib) (now (codes .entry))) k .pins ⌝ }
+pub fn pins_of(lib: Library, ids: &[u16], k: usize) -> u16
+    requires { ⌜ Coded lib (now ids) × (k < lib .n + length (now ids)) ⌝ }
+    ensures { λ r. ⌜ r ≡ cellAt (cellsBy (cellsOf lib) (now (ids .entry))) k .pins ⌝ }
 {
     let n = lib.n;
     if k < n {
         let c = listed(lib, k);
         return c.pins;
     }
-    let x = wide(codes[k - n]);
+    let x = index_of(ids[k - n]);
     let root = listed(lib, x / 128);
     let inner = listed(lib, x % 32);
     root.pins + inner.pins - 1
 }
 
-pub fn table_of(lib: Library, codes: &[u16], k: usize) -> u16
-    requires { ⌜ Coded lib (now codes) × (k < lib .n + length (now codes)) ⌝ }
-    ensures { λ r. ⌜ r ≡ cellAt (cellsBy (cellsOf lib) (now (codes .entry))) k .table ⌝ }
+pub fn table_of(lib: Library, ids: &[u16], k: usize) -> u16
+    requires { ⌜ Coded lib (now ids) × (k < lib .n + length (now ids)) ⌝ }
+    ensures { λ r. ⌜ r ≡ cellAt (cellsBy (cellsOf lib) (now (ids .entry))) k .table ⌝ }
 {
     let n = lib.n;
     if k < n {
         let c = listed(lib, k);
         return c.table;
     }
-    let x = wide(codes[k - n]);
+    let x = index_of(ids[k - n]);
     let root = listed(lib, x / 128);
     let inner = listed(lib, x % 32);
     base_truth::pair_table(root, x / 32 % 4, inner)
 }
 
-fn long(d: u16) -> u32
+fn widen(d: u16) -> u32
     ensures { λ r. ⌜ r ≡ d ⌝ }
 {
     d as u32
@@ -278,12 +278,12 @@ fn join_pin(pin: usize, n: usize, ds: [u16; 4], es: [u16; 4], j: usize) -> u32
     ensures { λ r. ⌜ r ≡ getD (pairDelays pin n ds es) j 0 ⌝ }
 {
     if j < pin {
-        return long(ds[j]);
+        return widen(ds[j]);
     }
     if j < pin + n {
         return sum(ds[pin], es[j - pin]);
     }
-    long(ds[j + 1 - n])
+    widen(ds[j + 1 - n])
 }
 
 // "an inner pin's delays add to the fed pin's", of all four.
@@ -302,12 +302,12 @@ fn join(pin: usize, n: usize, ds: [u16; 4], es: [u16; 4]) -> [u32; 4]
 pub fn widened(ds: [u16; 4]) -> [u32; 4]
     ensures { λ r. ⌜ r ≡ ds ⌝ }
 {
-    [long(ds[0]), long(ds[1]), long(ds[2]), long(ds[3])]
+    [widen(ds[0]), widen(ds[1]), widen(ds[2]), widen(ds[3])]
 }
 
-pub fn delays_of(lib: Library, codes: &[u16], k: usize) -> [u32; 4]
-    requires { ⌜ Coded lib (now codes) × (k < lib .n + length (now codes)) ⌝ }
-    ensures { λ r. ⌜ r ≡ cellAt (cellsBy (cellsOf lib) (now (codes .entry))) k .delays ⌝ }
+pub fn delays_of(lib: Library, ids: &[u16], k: usize) -> [u32; 4]
+    requires { ⌜ Coded lib (now ids) × (k < lib .n + length (now ids)) ⌝ }
+    ensures { λ r. ⌜ r ≡ cellAt (cellsBy (cellsOf lib) (now (ids .entry))) k .delays ⌝ }
 {
     let n = lib.n;
     if k < n {
@@ -315,7 +315,7 @@ pub fn delays_of(lib: Library, codes: &[u16], k: usize) -> [u32; 4]
         let ds = c.delays;
         return widened(ds);
     }
-    let x = wide(codes[k - n]);
+    let x = index_of(ids[k - n]);
     let root = listed(lib, x / 128);
     let inner = listed(lib, x % 32);
     let ds = root.delays;
@@ -323,20 +323,20 @@ pub fn delays_of(lib: Library, codes: &[u16], k: usize) -> [u32; 4]
     join(x / 32 % 4, inner.pins as usize, ds, es)
 }
 
-pub fn lows_of(lib: Library, codes: &[u16], k: usize) -> [u32; 4]
-    requires { ⌜ Coded lib (now codes) × (k < lib .n + length (now codes)) ⌝ }
-    ensures { λ r. ⌜ r ≡ cellAt (cellsBy (cellsOf lib) (now (codes .entry))) k .lows ⌝ }
+pub fn min_delays_of(lib: Library, ids: &[u16], k: usize) -> [u32; 4]
+    requires { ⌜ Coded lib (now ids) × (k < lib .n + length (now ids)) ⌝ }
+    ensures { λ r. ⌜ r ≡ cellAt (cellsBy (cellsOf lib) (now (ids .entry))) k .mins ⌝ }
 {
     let n = lib.n;
     if k < n {
         let c = listed(lib, k);
-        let ds = c.lows;
+        let ds = c.mins;
         return widened(ds);
     }
-    let x = wide(codes[k - n]);
+    let x = index_of(ids[k - n]);
     let root = listed(lib, x / 128);
     let inner = listed(lib, x % 32);
-    let ds = root.lows;
-    let es = inner.lows;
+    let ds = root.mins;
+    let es = inner.mins;
     join(x / 32 % 4, inner.pins as usize, ds, es)
 }

@@ -1,6 +1,6 @@
--- `Judging`: laws of what a cell line must not say. `Forms`: the form of a cell line is the crate model's. `Turns`: a turn of the reader is a line of the crate model's.
--- `First`: the names line.
-pub mod Judging
-pub mod Forms
-pub mod Turns
-pub mod First
+-- `CellValidation`: laws of what a cell line must not say. `CellLineForms`: the form of a cell line is the crate model's. `CellLineSteps`: a step of the reader is a line of the crate model's.
+-- `NamesLine`: the names line.
+pub mod CellValidation
+pub mod CellLineForms
+pub mod CellLineSteps
+pub mod NamesLine

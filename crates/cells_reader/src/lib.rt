@@ -2,9 +2,9 @@
 // "The first line is `cell pins table area d0 d1 d2 d3`; each further line gives one cell's values in that order." "A new library text has `l0` to `l3`
 // after `d3` in its names line." "Items 3 to 6 are tried line by line", and 27 "after 6 on its line".
 ghost use Rattle.base.specs.{_≡_, [], _+_, _^_, _≤_, _<_, length, take, drop, getD};
-ghost use Rattle.model.specs.{same, linesFrom, fault, rulingOf, verdictRuling, noCell, libraryOf, libraryAnswer, isClean, noLower};
+ghost use Rattle.model.specs.{same, linesFrom, fault, refusalOf, verdictRefusal, noCell, libraryOf, libraryAnswer, isClean, noLower};
 ghost use Rattle.model.specs.{readCells, readLibrary, isRanged};
-ghost use Rattle.cells_reader.specs.{delayAt, delaysAt, rangesAt, figuresAt, formAt, figuresJudged, judgedAt, lineCell};
+ghost use Rattle.cells_reader.specs.{delayAt, delaysAt, rangesAt, figuresAt, formAt, figuresValidated, validatedAt, lineCell};
 ghost use Rattle.cells_reader.specs.{added, isRepeated, delayOk, delaysOk};
 use base_text::Cursor;
 use base_text::Number;
@@ -28,7 +28,7 @@ pub struct Figures {
     pub table: u16,
     pub area: u16,
     pub delays: Delays,
-    pub lows: Delays,
+    pub mins: Delays,
 }
 
 pub enum Four {
@@ -49,7 +49,7 @@ pub enum Form {
 }
 
 // The same, or the number of the line's refusal.
-pub enum Judged {
+pub enum Validated {
     Cell(usize, Figures, Cursor),
     Refused(usize),
 }
@@ -95,7 +95,7 @@ fn read_ranges(c: Cursor, s: &[u8], ranged: bool) -> Ranges
                 return Ranges::Both(delays, delays, c0);
             }
             match read_delays(c0, s, true) {
-                Four::Read(lows, c1) => Ranges::Both(delays, lows, c1),
+                Four::Read(mins, c1) => Ranges::Both(delays, mins, c1),
                 Four::Broken => Ranges::Broken,
             }
         }
@@ -111,7 +111,7 @@ fn read_figures(end: usize, c: Cursor, s: &[u8], ranged: bool) -> Form
         Number::Value(pins, c0) => match c0.table_then(s, 32) {
             Number::Value(table, c1) => match c1.number_then(s, 32) {
                 Number::Value(area, c2) => match read_ranges(c2, s, ranged) {
-                    Ranges::Both(delays, lows, c3) => {
+                    Ranges::Both(delays, mins, c3) => {
                         if pins > 4 {
                             return Form::Broken;
                         }
@@ -120,7 +120,7 @@ fn read_figures(end: usize, c: Cursor, s: &[u8], ranged: bool) -> Form
                             table,
                             area,
                             delays,
-                            lows,
+                            mins,
                         };
                         Form::Cell(end, f, c3)
                     }
@@ -177,31 +177,31 @@ fn is_clean(f: Figures) -> bool
     ensures { λ r. ⌜ r ≡ isClean (lineCell [] f) ⌝ }
 {
     let delays = f.delays;
-    let lows = f.lows;
-    limit(f.pins) > f.table as u32 && (delays_ok(f.pins, delays) && delays_ok(f.pins, lows))
+    let mins = f.mins;
+    limit(f.pins) > f.table as u32 && (delays_ok(f.pins, delays) && delays_ok(f.pins, mins))
 }
 
 // No "lowest delay exceeds its `d`".
 fn in_range(f: Figures) -> bool
-    ensures { λ r. ⌜ r ≡ noLower (lineCell [] f .lows) (lineCell [] f .delays) ⌝ }
+    ensures { λ r. ⌜ r ≡ noLower (lineCell [] f .mins) (lineCell [] f .delays) ⌝ }
 {
     let high = f.delays;
-    let low = f.lows;
+    let low = f.mins;
     low.d0 <= high.d0 && (low.d1 <= high.d1 && (low.d2 <= high.d2 && low.d3 <= high.d3))
 }
 
 // A cell line that has its form and a name of its own: 6, and 27 "after 6 on its line".
-fn judge_figures(end: usize, f: Figures, next: Cursor) -> Judged
+fn validate_figures(end: usize, f: Figures, next: Cursor) -> Validated
     requires { ⌜ f .pins ≤ 4 ⌝ }
-    ensures { λ r. ⌜ r ≡ figuresJudged end f next ⌝ }
+    ensures { λ r. ⌜ r ≡ figuresValidated end f next ⌝ }
 {
     if !is_clean(f) {
-        return Judged::Refused(6);
+        return Validated::Refused(6);
     }
     if !in_range(f) {
-        return Judged::Refused(27);
+        return Validated::Refused(27);
     }
-    Judged::Cell(end, f, next)
+    Validated::Cell(end, f, next)
 }
 
 // ---- names
@@ -244,7 +244,7 @@ fn empty() -> Library
         table: 0,
         area: 0,
         delays: [0; 4],
-        lows: [0; 4],
+        mins: [0; 4],
     };
     let cells = [c; 32];
     Library { n: 0, cells }
@@ -262,7 +262,7 @@ fn cell_of(w: &[u8], f: Figures) -> Cell
         table: f.table,
         area: f.area,
         delays: [f.delays.d0, f.delays.d1, f.delays.d2, f.delays.d3],
-        lows: [f.lows.d0, f.lows.d1, f.lows.d2, f.lows.d3],
+        mins: [f.mins.d0, f.mins.d1, f.mins.d2, f.mins.d3],
     }
 }
 
@@ -287,21 +287,21 @@ fn refused(number: usize, place: usize) -> LibraryAnswer
 // ---- the lines
 
 // One cell line: 3, 4, 5, 6 and 27 in this order.
-fn judge(lib: Library, s: &[u8], at: usize, ranged: bool) -> Judged
+fn validate(lib: Library, s: &[u8], at: usize, ranged: bool) -> Validated
     requires { ⌜ (lib .n ≤ 32) × (at < length (now s)) ⌝ }
-    ensures { λ r. ⌜ r ≡ judgedAt ranged lib (now (s .entry)) at ⌝ }
+    ensures { λ r. ⌜ r ≡ validatedAt ranged lib (now (s .entry)) at ⌝ }
 {
     if lib.n >= 32 {
-        return Judged::Refused(3);
+        return Validated::Refused(3);
     }
     match read_form(Cursor { at }, s, ranged) {
         Form::Cell(end, f, next) => {
             if repeated(lib, &s[at..end]) {
-                return Judged::Refused(5);
+                return Validated::Refused(5);
             }
-            judge_figures(end, f, next)
+            validate_figures(end, f, next)
         }
-        Form::Broken => Judged::Refused(4),
+        Form::Broken => Validated::Refused(4),
     }
 }
 
@@ -312,13 +312,13 @@ fn cells(s: &[u8], from: usize, ranged: bool) -> LibraryAnswer
     let mut library = empty();
     let mut at = from;
     while at < s.len() {
-        match judge(library, s, at, ranged) {
-            Judged::Cell(end, f, next) => {
+        match validate(library, s, at, ranged) {
+            Validated::Cell(end, f, next) => {
                 let c = cell_of(&s[at..end], f);
                 library = add(library, c);
                 at = next.at;
             }
-            Judged::Refused(number) => return refused(number, at),
+            Validated::Refused(number) => return refused(number, at),
         }
     }
     let verdict = Verdict::Accepted;
@@ -328,7 +328,7 @@ fn cells(s: &[u8], from: usize, ranged: bool) -> LibraryAnswer
 // The cells of a library's text, or the first refusal of 2 to 6 and 27: "2 takes either names line".
 pub fn read(s: &[u8]) -> LibraryAnswer
     ensures answer { λ r. ⌜ r ≡ libraryAnswer (readLibrary (now (s .entry))) ⌝ }
-    ensures ruling { λ r. ⌜ verdictRuling (r .verdict) ≡ rulingOf (readLibrary (now (s .entry))) ⌝ }
+    ensures refusal { λ r. ⌜ verdictRefusal (r .verdict) ≡ refusalOf (readLibrary (now (s .entry))) ⌝ }
 {
     let first = base_text::line(s, 0);
     if base_text::first_is(s, first, b"cell pins table area d0 d1 d2 d3") {

@@ -1,7 +1,7 @@
--- `Ends`: bytes 10. `Forms`: what is read of a netlist has its form. `Inputs`: the inputs' nets. `Numbers`: which refusals come up to 10. `Steps`: what
+-- `LineEndChecks`: bytes 10. `NetlistShape`: what is read of a netlist has its form. `InputCodes`: the inputs' nets. `RefusalNumbers`: which refusals come up to 10. `CheckStages`: what
 -- each function has once the layer below has answered.
-pub mod Ends
-pub mod Forms
-pub mod Inputs
-pub mod Numbers
-pub mod Steps
+pub mod LineEndChecks
+pub mod NetlistShape
+pub mod InputCodes
+pub mod RefusalNumbers
+pub mod CheckStages

@@ -1,4 +1,4 @@
--- `Stages`: what the words and the array hold between the layers, and what is read from each on.
-pub mod Stages
-pub use Stages.{Formed, Left, Loaded, Placed, Wireable}
-unfoldable pub use Stages.{graphRead, headerRead, inputCode, judgedRead, netlistRead, placedRead}
+-- `CheckStates`: what the words and the array hold between the layers, and what is read from each on.
+pub mod CheckStates
+pub use CheckStates.{Formed, Left, Loaded, OrderedGraph, Wireable}
+unfoldable pub use CheckStates.{graphRead, headerRead, inputCode, validatedRead, netlistRead, orderedRead}

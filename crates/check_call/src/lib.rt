@@ -6,12 +6,12 @@ use model::HeaderAnswer;
 use model::Library;
 use model::Verdict;
 ghost use Rattle.base.specs.{_≡_, List, map, _+_, _*_, _≤_, length};
-ghost use Rattle.model.specs.{from, need, holds, readHeader, Driver, lineEnds, checkRead, CheckMemory, CheckPromised};
+ghost use Rattle.model.specs.{from, need, holds, readHeader, Driver, lineEnds, checkRead};
 ghost use Rattle.model.specs.Graph.{Graph};
-ghost use Rattle.theory_check.specs.CheckRefusals.{CheckRefusals};
-ghost use Rattle.base_words.specs.{putAt, zeros, Room};
+ghost use Rattle.promises.specs.{NetlistCheck};
+ghost use Rattle.base_words.specs.{putAt, zeros, HasCapacity};
 ghost use Rattle.check_reader.specs.{Fitting};
-ghost use Rattle.check_call.specs.{inputCode, Placed, Wireable, judgedRead, netlistRead, graphRead, headerRead};
+ghost use Rattle.check_call.specs.{inputCode, OrderedGraph, Wireable, validatedRead, netlistRead, graphRead, headerRead};
 ghost use Rattle.check_call.specs.{Left};
 
 // "10 wants 8 more words for each byte 10" in the netlist: how many it has.
@@ -31,7 +31,7 @@ fn line_ends(s: &[u8]) -> usize
 
 // The numbers of the inputs' nets, zeros behind them.
 fn input_codes(work: &[u16], m: usize, n: usize) -> [u64; 12]
-    requires { ⌜ Room (now work) m × (n ≤ m) × (n ≤ 12) ⌝ }
+    requires { ⌜ HasCapacity (now work) m × (n ≤ m) × (n ≤ 12) ⌝ }
     ensures { λ r. ⌜ r ≡ putAt (zeros 12) 0 (map (inputCode (now (work .entry)) m) (from 0 n)) ⌝ }
 {
     let mut codes = [0u64; 12];
@@ -47,7 +47,7 @@ fn input_codes(work: &[u16], m: usize, n: usize) -> [u64; 12]
 // 33, and the comparison.
 fn check_nets(work: &[u16], h: Header, nets: &[u64], n: usize) -> Checked
     requires { ⌜ ((g : Graph) × (ds : List Driver) × Wireable (now work) h (now nets) n g ds) ⌝ }
-    ensures { λ r. ⌜ ((g : Graph) (ds : List Driver) → Wireable (now (work .entry)) h (now (nets .entry)) n g ds → r ≡ checkRead (judgedRead g ds)) ⌝ }
+    ensures { λ r. ⌜ ((g : Graph) (ds : List Driver) → Wireable (now (work .entry)) h (now (nets .entry)) n g ds → r ≡ checkRead (validatedRead g ds)) ⌝ }
 {
     let inputs = input_codes(work, h.size, h.inputs);
     let mut refs = [0u16; check_wires::PINS];
@@ -60,8 +60,8 @@ fn check_nets(work: &[u16], h: Header, nets: &[u64], n: usize) -> Checked
 
 // 32 before it.
 fn check_netlist(netlist: &[u8], work: &[u16], lib: Library, h: Header) -> Checked
-    requires { ⌜ ((g : Graph) × Placed (now work) h g) × Fitting lib × (length (now netlist) ≤ 65536) ⌝ }
-    ensures { λ r. ⌜ ((g : Graph) → Placed (now (work .entry)) h g → r ≡ checkRead (netlistRead lib g (now (netlist .entry)))) ⌝ }
+    requires { ⌜ ((g : Graph) × OrderedGraph (now work) h g) × Fitting lib × (length (now netlist) ≤ 65536) ⌝ }
+    ensures { λ r. ⌜ ((g : Graph) → OrderedGraph (now (work .entry)) h g → r ≡ checkRead (netlistRead lib g (now (netlist .entry)))) ⌝ }
 {
     let mut nets = [0u64; 8 * check_reader::DRIVERS];
     let p = check_reader::read(netlist, lib, work, h, &mut nets);
@@ -71,13 +71,13 @@ fn check_netlist(netlist: &[u8], work: &[u16], lib: Library, h: Header) -> Check
     check_nets(work, h, &nets, p.count)
 }
 
-// The graph behind its header, 11 to 14, 20 and 21; the placing order and 15; then 31: "31 when I exceeds 12".
+// The graph behind its header, 11 to 14, 20 and 21; the topological order and 15; then 31: "31 when I exceeds 12".
 fn load_graph(graph: &[u8], netlist: &[u8], h: Header, lib: Library, work: &mut [u16]) -> Checked
     requires { ⌜ (readHeader (now graph) ≡ holds h) × (need (h .size) (h .outputs) ≤ length (now work)) × Fitting lib × (length (now netlist) ≤ 65536) ⌝ }
     ensures { λ r. ⌜ r ≡ checkRead (graphRead lib (now (graph .entry)) h (now (netlist .entry))) ⌝ }
 {
     match graph_reader::load(graph, h, work) {
-        Verdict::Accepted => match graph_placing::place(work, h) {
+        Verdict::Accepted => match graph_order::order_graph(work, h) {
             Verdict::Accepted => {
                 if h.inputs > 12 {
                     return Checked::Refused(31, 0);
@@ -113,9 +113,7 @@ fn check_header(graph: &[u8], netlist: &[u8], lib: Library, work: &mut [u16]) ->
 // input settings; otherwise the lowest setting that differs is returned, input k as bit k, and that setting's first wrong output", or the first
 // refusal that applies. "Given memory enough, every netlist that `map` prints from the same texts with I up to 12 is accepted."
 pub fn check_texts(cells: &[u8], graph: &[u8], netlist: &[u8], work: &mut [u16]) -> Checked
-    ensures memory { λ r. ⌜ CheckMemory (now (cells .entry)) (now (graph .entry)) (now (netlist .entry)) (now (work .entry)) r (now (work .exit)) ⌝ }
-    ensures promised { λ _. ⌜ CheckPromised (now (cells .entry)) (now (graph .entry)) (now (netlist .entry)) (length (now (work .entry))) ⌝ }
-    ensures refusals { λ _. ⌜ CheckRefusals (now (cells .entry)) (now (graph .entry)) (now (netlist .entry)) (length (now (work .entry))) ⌝ }
+    ensures { λ r. ⌜ NetlistCheck (now (cells .entry)) (now (graph .entry)) (now (netlist .entry)) (now (work .entry)) r (now (work .exit)) ⌝ }
 {
     if cells.len() > 65536 || graph.len() > 65536 || netlist.len() > 65536 {
         return Checked::Refused(1, 0);

@@ -1,10 +1,10 @@
--- `Names`: the laws of names as numbers. `Parting`: a line parted at its spaces. `Pins`: a word of a gate's line. `Binding`: all of them. `Gates`: a gate's line. `Named`: a `.names` line.
-pub mod Names
-pub mod Parting
-pub mod Pins
-pub mod Binding
-pub mod Gates
-pub mod Named
-pub use Pins.{code-some, pin-named}
-pub use Gates.{driver-anywhere, driver-net}
-pub use Named.{gate-long}
+-- `NetNames`: the laws of names as numbers. `WordSplits`: a line parted at its spaces. `PinLetters`: a word of a gate's line. `PinBinding`: all of them. `GateLines`: a gate's line. `NameLines`: a `.names` line.
+pub mod NetNames
+pub mod WordSplits
+pub mod PinLetters
+pub mod PinBinding
+pub mod GateLines
+pub mod NameLines
+pub use PinLetters.{code-some, pin-named}
+pub use GateLines.{driver-anywhere, driver-net}
+pub use NameLines.{gate-long}

@@ -1,10 +1,10 @@
--- `Codes`: names as numbers. `Fields`: the fields of a line from a place on. `Bound`: the nets of a gate's line.
-pub mod Codes
-pub mod Fields
-pub mod Bound
-pub use Codes.{pickN}
-unfoldable pub use Codes.{code, isNetByte, netCode}
-pub use Fields.{pickBytes}
-unfoldable pub use Fields.{fieldsFrom, spaceFrom, untilSpace}
-pub use Bound.{gateOf, gateWith, nameCode, netsOf, optCode, ownNets, pinOf}
-unfoldable pub use Bound.{cellIndex, letters, pinAt, twoWords}
+-- `NetCodes`: names as numbers. `LineFields`: the fields of a line from a place on. `BoundPins`: the nets of a gate's line.
+pub mod NetCodes
+pub mod LineFields
+pub mod BoundPins
+pub use NetCodes.{pickN}
+unfoldable pub use NetCodes.{code, isNetByte, netCode}
+pub use LineFields.{pickBytes}
+unfoldable pub use LineFields.{fieldsFrom, spaceFrom, untilSpace}
+pub use BoundPins.{gateOf, gateWith, nameCode, netsOf, optCode, ownNets, pinOf}
+unfoldable pub use BoundPins.{cellIndex, letters, pinAt, twoWords}

@@ -62,7 +62,7 @@ fn is_net(w: &[u8]) -> bool
     net_bytes(w)
 }
 
-fn wide(b: u8) -> u64
+fn widen(b: u8) -> u64
     ensures { λ r. ⌜ r ≡ b ⌝ }
 {
     b as u64
@@ -77,7 +77,7 @@ pub fn code_of(w: &[u8]) -> u64
     let mut i = w.len();
     while i > 0 {
         i -= 1;
-        n = n * 256 + wide(w[i]);
+        n = n * 256 + widen(w[i]);
     }
     n
 }

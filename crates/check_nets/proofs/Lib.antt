@@ -1,8 +1,8 @@
--- `Codes`: names by their numbers, and the numbers of a driver. `Lines`: the first line of each part of 33. `Nets`: what the numbers say of the nets. `Turning`: circles and
--- the order. `Ranking`: what ranks say of circles. `Whole`: the three parts together.
-pub mod Codes
-pub mod Lines
-pub mod Nets
-pub mod Turning
-pub mod Ranking
-pub mod Whole
+-- `DriverCodes`: names by their numbers, and the numbers of a driver. `FirstLines`: the first line of each part of 33. `DrivenNets`: what the numbers say of the nets. `CycleSearch`: cycles and
+-- the order. `ComponentNumbers`: what component numbers say of cycles. `NetValidation`: the three parts together.
+pub mod DriverCodes
+pub mod FirstLines
+pub mod DrivenNets
+pub mod CycleSearch
+pub mod ComponentNumbers
+pub mod NetValidation

@@ -1,23 +1,21 @@
-// The nets of an edited netlist judged, 33: its pins get numbers, and its drivers an order, or the first on a circle is found where there is none.
+// The nets of an edited netlist validated, 33: its pins get numbers, and its drivers an order, or the first on a cycle is found where there is none.
 use check_reader::DRIVERS;
-use check_wires::Marks;
+use check_wires::Flags;
 use check_wires::PINS;
 use check_wires::Refs;
 use check_wires::Words;
 use model::Verdict;
-ghost use Rattle.base.specs.{_≡_, true, List, ℕ, _≤_, _<_, length, getD, replicate};
-ghost use Rattle.model.specs.{Driver};
-ghost use Rattle.check_wires.specs.{refsLeft};
-ghost use Rattle.check_order.specs.{arrangeOf, Pinned, FeedsAt, Behind, Reached, Stepped, Spread, Turns, LeftTurns, Circled};
-ghost use Rattle.check_nets.specs.{Rising, Stored, leftBy};
-ghost use Rattle.check_nets.specs.Judged.{Judged};
+ghost use Rattle.base.specs.{_≡_, true, ℕ, _≤_, _<_, getD};
+ghost use Rattle.check_order.specs.{Pinned, FeedsAt, Behind, Reached, Stepped, Spread, FeedsItself, LeftFeeds, Cyclic};
+ghost use Rattle.check_nets.specs.{Rising};
+ghost use Rattle.check_nets.specs.{Wirable, Wiring};
 
 // What feeds pin j of driver k listed, if it is not yet; 0 where it is driver i.
 fn reach_pin(
     refs: &Refs,
     n: usize,
     i: usize,
-    seen: &mut Marks,
+    seen: &mut Flags,
     queue: &mut Words,
     m: usize,
     k: usize,
@@ -46,7 +44,7 @@ fn reach(
     refs: &Refs,
     n: usize,
     i: usize,
-    seen: &mut Marks,
+    seen: &mut Flags,
     queue: &mut Words,
     m: usize,
     k: usize,
@@ -67,9 +65,9 @@ fn reach(
 }
 
 // "a net on a circle": driver i feeds itself. The walk back goes from it, first in the queue.
-fn turns(refs: &Refs, n: usize, i: usize) -> bool
+fn feeds_itself(refs: &Refs, n: usize, i: usize) -> bool
     requires { ⌜ Pinned (now refs) n × (i < n) ⌝ }
-    ensures { λ r. ⌜ Turns (now (refs .entry)) i r ⌝ }
+    ensures { λ r. ⌜ FeedsItself (now (refs .entry)) i r ⌝ }
 {
     let mut seen = [0u8; DRIVERS];
     let mut queue = [0u16; DRIVERS];
@@ -87,13 +85,15 @@ fn turns(refs: &Refs, n: usize, i: usize) -> bool
     false
 }
 
-// ---- ranks, so that few drivers are walked back from
-// A rank for each driver: of what feeds a driver none is lower, and all are higher where it is on no circle. They are found by a search for the parts of
-// drivers that feed one another, each part with a rank of its own, those that the search leaves first the highest. Nothing is to be known of the search:
-// `rises` tests what it found, and where the test fails the driver is walked back from.
+// ---- component numbers, so that few drivers are walked back from
+// A component number for each driver: of what feeds a driver none is lower, and all are higher where it is on no cycle. They are found by a search for the
+// parts of
+// drivers that feed one another, each part with a component number of its own, those that the search leaves first the highest. Nothing is to be known of the
+// search:
+// `is_increasing` tests what it found, and where the test fails the driver is walked back from.
 
-// Those that wait with a number from `own` on get the rank.
-fn gather(ranks: &mut Words, wait: &Words, waiting: usize, own: u16, rank: u16) -> usize
+// Those that wait with a number from `own` on get the component number.
+fn gather(components: &mut Words, wait: &Words, waiting: usize, own: u16, component: u16) -> usize
     requires { ⌜ waiting ≤ 10923 ⌝ }
     ensures { λ r. ⌜ r ≤ 10923 ⌝ }
 {
@@ -103,26 +103,28 @@ fn gather(ranks: &mut Words, wait: &Words, waiting: usize, own: u16, rank: u16) 
         if k >= DRIVERS {
             return m;
         }
-        if ranks[k] < own {
+        if components[k] < own {
             return m;
         }
-        ranks[k] = rank;
+        components[k] = component;
         m -= 1;
     }
     m
 }
 
-// How deep the path is, how many wait for the rank of their part, the last number given, and the next rank. No text has so many drivers that a number
+// How deep the path is, how many wait for the component number of their part, the last number given, and the next component number. No text has so many
+// drivers that a number
 // is out of range: a test of it spares a proof.
 struct Search {
     depth: usize,
     waiting: usize,
     last: u16,
-    rank: u16,
+    component: u16,
 }
 
-// A driver that the search comes to first goes on the path. Until it has a rank, its place has the lowest number that a pin led to, and `own` its own one.
-fn enter(ranks: &mut Words, own: &mut Words, path: &mut Words, s: Search, y: usize) -> Search {
+// A driver that the search comes to first goes on the path. Until it has a component number, its place has the lowest number that a pin led to, and `own` its
+// own one.
+fn enter(components: &mut Words, own: &mut Words, path: &mut Words, s: Search, y: usize) -> Search {
     let depth = s.depth;
     if y >= DRIVERS {
         return s;
@@ -133,23 +135,23 @@ fn enter(ranks: &mut Words, own: &mut Words, path: &mut Words, s: Search, y: usi
     if s.last >= 30000 {
         return s;
     }
-    if ranks[y] != 0 {
+    if components[y] != 0 {
         return s;
     }
     let last = s.last + 1;
-    ranks[y] = last;
+    components[y] = last;
     own[y] = last;
     path[depth] = y as u16;
     Search {
         depth: depth + 1,
         waiting: s.waiting,
         last,
-        rank: s.rank,
+        component: s.component,
     }
 }
 
 // The end of the path, its pins passed, leaves it: it waits, or, where no pin led below it, its part is complete.
-fn leave(ranks: &mut Words, own: &Words, wait: &mut Words, s: Search, top: usize) -> Search {
+fn leave(components: &mut Words, own: &Words, wait: &mut Words, s: Search, top: usize) -> Search {
     let waiting = s.waiting;
     if top >= DRIVERS {
         return s;
@@ -160,30 +162,30 @@ fn leave(ranks: &mut Words, own: &Words, wait: &mut Words, s: Search, top: usize
     if s.depth == 0 {
         return s;
     }
-    if s.rank == 0 {
+    if s.component == 0 {
         return s;
     }
-    if ranks[top] < own[top] {
+    if components[top] < own[top] {
         wait[waiting] = top as u16;
         return Search {
             depth: s.depth - 1,
             waiting: waiting + 1,
             last: s.last,
-            rank: s.rank,
+            component: s.component,
         };
     }
-    let left = gather(ranks, wait, waiting, own[top], s.rank);
-    ranks[top] = s.rank;
+    let left = gather(components, wait, waiting, own[top], s.component);
+    components[top] = s.component;
     Search {
         depth: s.depth - 1,
         waiting: left,
         last: s.last,
-        rank: s.rank - 1,
+        component: s.component - 1,
     }
 }
 
 // The driver at pin j of the path's end, if the search has not come to it. Else the pin is passed; a driver on the path lowers the number.
-fn pass(refs: &Refs, ranks: &mut Words, passed: &mut Marks, top: usize, j: u8) -> usize
+fn pass(refs: &Refs, components: &mut Words, passed: &mut Flags, top: usize, j: u8) -> usize
     requires { ⌜ (top < 10923) × (j < 4) ⌝ }
 {
     let x = check_order::pin(refs, 4 * top + j as usize);
@@ -192,12 +194,12 @@ fn pass(refs: &Refs, ranks: &mut Words, passed: &mut Marks, top: usize, j: u8) -
         if y >= DRIVERS {
             return y;
         }
-        let r = ranks[y];
+        let r = components[y];
         if r == 0 {
             return y;
         }
-        if r < ranks[top] {
-            ranks[top] = r;
+        if r < components[top] {
+            components[top] = r;
         }
     }
     passed[top] = j + 1;
@@ -207,10 +209,10 @@ fn pass(refs: &Refs, ranks: &mut Words, passed: &mut Marks, top: usize, j: u8) -
 // A step from the path's end: over its next pin, or from it.
 fn go_on(
     refs: &Refs,
-    ranks: &mut Words,
+    components: &mut Words,
     own: &mut Words,
     path: &mut Words,
-    passed: &mut Marks,
+    passed: &mut Flags,
     wait: &mut Words,
     s: Search,
 ) -> Search
@@ -222,14 +224,14 @@ fn go_on(
     }
     let j = passed[top];
     if j >= 4 {
-        return leave(ranks, own, wait, s, top);
+        return leave(components, own, wait, s, top);
     }
-    let y = pass(refs, ranks, passed, top, j);
-    enter(ranks, own, path, s, y)
+    let y = pass(refs, components, passed, top, j);
+    enter(components, own, path, s, y)
 }
 
 // The whole search: for each driver a start, four pins, at most one of which leads to it first, and an end. `start` is the next driver to start from.
-fn rank(refs: &Refs, n: usize, ranks: &mut Words)
+fn number_components(refs: &Refs, n: usize, components: &mut Words)
     requires { ⌜ n ≤ 10923 ⌝ }
 {
     let mut own = [0u16; DRIVERS];
@@ -240,7 +242,7 @@ fn rank(refs: &Refs, n: usize, ranks: &mut Words)
         depth: 0,
         waiting: 0,
         last: 0,
-        rank: 65535,
+        component: 65535,
     };
     let mut start = 0;
     let mut steps = 7 * n;
@@ -250,38 +252,53 @@ fn rank(refs: &Refs, n: usize, ranks: &mut Words)
             return;
         }
         if s.depth > 0 {
-            s = go_on(refs, ranks, &mut own, &mut path, &mut passed, &mut wait, s);
+            s = go_on(
+                refs,
+                components,
+                &mut own,
+                &mut path,
+                &mut passed,
+                &mut wait,
+                s,
+            );
         } else {
             if start >= n {
                 return;
             }
-            s = enter(ranks, &mut own, &mut path, s, start);
+            s = enter(components, &mut own, &mut path, s, start);
             start += 1;
         }
     }
 }
 
-// The rank of the driver at pin j of driver i, if one is there, is `least` or higher.
-fn pin_rises(refs: &Refs, n: usize, ranks: &Words, i: usize, j: usize, least: usize) -> bool
+// The component number of the driver at pin j of driver i, if one is there, is `least` or higher.
+fn pin_increases(
+    refs: &Refs,
+    n: usize,
+    components: &Words,
+    i: usize,
+    j: usize,
+    least: usize,
+) -> bool
     requires { ⌜ Pinned (now refs) n × (i < n) × (j < 4) ⌝ }
-    ensures { λ r. ⌜ (r ≡ true → (k : ℕ) → FeedsAt (now (refs .entry)) i j k → least ≤ getD (now (ranks .entry)) k 0) ⌝ }
+    ensures { λ r. ⌜ (r ≡ true → (k : ℕ) → FeedsAt (now (refs .entry)) i j k → least ≤ getD (now (components .entry)) k 0) ⌝ }
 {
     let x = check_order::pin(refs, 4 * i + j);
     if x < 12 {
         return true;
     }
-    check_order::listed(ranks, x - 12) >= least
+    check_order::listed(components, x - 12) >= least
 }
 
-// The rank of each driver that feeds driver i is higher by so much at least.
-fn rises(refs: &Refs, n: usize, ranks: &Words, i: usize, by: usize) -> bool
+// The component number of each driver that feeds driver i is higher by so much at least.
+fn is_increasing(refs: &Refs, n: usize, components: &Words, i: usize, by: usize) -> bool
     requires { ⌜ Pinned (now refs) n × (i < n) × (by ≤ 1) ⌝ }
-    ensures { λ r. ⌜ (r ≡ true → Rising (now (refs .entry)) (now (ranks .entry)) by i) ⌝ }
+    ensures { λ r. ⌜ (r ≡ true → Rising (now (refs .entry)) (now (components .entry)) by i) ⌝ }
 {
-    let least = check_wires::wide(ranks[i]) + by;
+    let least = check_wires::index_of(components[i]) + by;
     let mut j = 0;
     while j < 4 {
-        if !pin_rises(refs, n, ranks, i, j, least) {
+        if !pin_increases(refs, n, components, i, j, least) {
             return false;
         }
         j += 1;
@@ -289,14 +306,14 @@ fn rises(refs: &Refs, n: usize, ranks: &Words, i: usize, by: usize) -> bool
     true
 }
 
-// No driver has a rank above one of a driver that feeds it.
-fn all_rise(refs: &Refs, n: usize, ranks: &Words) -> bool
+// No driver has a component number above one of a driver that feeds it.
+fn all_increase(refs: &Refs, n: usize, components: &Words) -> bool
     requires { ⌜ Pinned (now refs) n ⌝ }
-    ensures { λ r. ⌜ (r ≡ true → (i : ℕ) → i < n → Rising (now (refs .entry)) (now (ranks .entry)) 0 i) ⌝ }
+    ensures { λ r. ⌜ (r ≡ true → (i : ℕ) → i < n → Rising (now (refs .entry)) (now (components .entry)) 0 i) ⌝ }
 {
     let mut i = 0;
     while i < n {
-        if !rises(refs, n, ranks, i, 0) {
+        if !is_increasing(refs, n, components, i, 0) {
             return false;
         }
         i += 1;
@@ -304,35 +321,42 @@ fn all_rise(refs: &Refs, n: usize, ranks: &Words) -> bool
     true
 }
 
-// ---- the first driver on a circle
+// ---- the first driver on a cycle
 
-// Whether driver i is on a circle; one that is listed, or below all that feeds it, is on none.
-fn on_circle(refs: &Refs, n: usize, marks: &Marks, ranks: &Words, ranked: bool, i: usize) -> bool
-    requires { ⌜ Pinned (now refs) n × (i < n) × (ranked ≡ true → (k : ℕ) → k < n → Rising (now refs) (now ranks) 0 k) ⌝ }
-    ensures { λ r. ⌜ LeftTurns (now (refs .entry)) (now (marks .entry)) i r ⌝ }
+// Whether driver i is on a cycle; one that is listed, or below all that feeds it, is on none.
+fn is_on_cycle(
+    refs: &Refs,
+    n: usize,
+    flags: &Flags,
+    components: &Words,
+    ranked: bool,
+    i: usize,
+) -> bool
+    requires { ⌜ Pinned (now refs) n × (i < n) × (ranked ≡ true → (k : ℕ) → k < n → Rising (now refs) (now components) 0 k) ⌝ }
+    ensures { λ r. ⌜ LeftFeeds (now (refs .entry)) (now (flags .entry)) i r ⌝ }
 {
-    if marks[i] != 0 {
+    if flags[i] != 0 {
         return false;
     }
     if ranked {
-        if rises(refs, n, ranks, i, 1) {
+        if is_increasing(refs, n, components, i, 1) {
             return false;
         }
     }
-    turns(refs, n, i)
+    feeds_itself(refs, n, i)
 }
 
-// The first driver on a circle. With ranks as they are meant, the one walk is from it.
-fn first_circle(refs: &Refs, n: usize, marks: &Marks) -> usize
+// The first driver on a cycle. With component numbers as they are meant, the one walk is from it.
+fn first_on_cycle(refs: &Refs, n: usize, flags: &Flags) -> usize
     requires { ⌜ Pinned (now refs) n ⌝ }
-    ensures { λ r. ⌜ Circled (now (refs .entry)) n (now (marks .entry)) r ⌝ }
+    ensures { λ r. ⌜ Cyclic (now (refs .entry)) n (now (flags .entry)) r ⌝ }
 {
-    let mut ranks = [0u16; DRIVERS];
-    rank(refs, n, &mut ranks);
-    let ranked = all_rise(refs, n, &ranks);
+    let mut components = [0u16; DRIVERS];
+    number_components(refs, n, &mut components);
+    let ranked = all_increase(refs, n, &components);
     let mut i = 0;
     while i < n {
-        if on_circle(refs, n, marks, &ranks, ranked, i) {
+        if is_on_cycle(refs, n, flags, &components, ranked, i) {
             return i;
         }
         i += 1;
@@ -349,25 +373,20 @@ pub fn wire(
     refs: &mut Refs,
     order: &mut Words,
 ) -> Verdict
-    requires { ⌜ ((names : List (List ℕ)) × (ds : List Driver) × Stored names ds (now nets) (now inputs) n count) × (length (now refs) ≡ 43692) ×
-        (length (now order) ≡ 10923) ⌝ }
-    ensures judged { λ r. ⌜ ((names : List (List ℕ)) (ds : List Driver) → Stored names ds (now (nets .entry)) (now (inputs .entry)) n count → Judged names ds
-        r (now (refs .exit)) (now (order .exit))) ⌝ }
-    ensures pins { λ r. ⌜ now (refs .exit) ≡ leftBy r 43692 (refsLeft (now (nets .entry)) (now (inputs .entry)) count n (now (refs .entry))) ⌝ }
-    ensures listed { λ r. ⌜ now (order .exit)
-        ≡ leftBy r 10923 (arrangeOf (refsLeft (now (nets .entry)) (now (inputs .entry)) count n (now (refs .entry))) n (replicate 10923 0)
-        (now (order .entry)) .order) ⌝ }
+    requires { ⌜ Wirable (now nets) n (now inputs) count (now refs) (now order) ⌝ }
+    ensures { λ r. ⌜ Wiring (now (nets .entry)) n (now (inputs .entry)) count (now (refs .entry)) (now (order .entry)) r
+        (now (refs .exit)) (now (order .exit)) ⌝ }
 {
     let f = check_wires::refer(nets, n, inputs, count, refs);
     if f < n {
         *order = [0u16; DRIVERS];
         return Verdict::Refused(33, nets[8 * f] as usize);
     }
-    let mut marks = [0u8; DRIVERS];
-    if check_order::arrange(refs, n, &mut marks, order) == n {
+    let mut flags = [0u8; DRIVERS];
+    if check_order::topological_sort(refs, n, &mut flags, order) == n {
         return Verdict::Accepted;
     }
-    let c = first_circle(refs, n, &marks);
+    let c = first_on_cycle(refs, n, &flags);
     *refs = [0u16; PINS];
     *order = [0u16; DRIVERS];
     Verdict::Refused(33, nets[8 * c] as usize)

@@ -1,9 +1,9 @@
--- `Making`: what is made is what is computed. `Listing`: a driver more on a list. `Placing`: an order grown, and swept. `Reaching`: the walk back from a driver.
-pub mod Making
-pub mod Listing
-pub mod Placing
-pub mod Reaching
-pub use Listing.{left-any, left-some}
-pub use Placing.{arranged-none}
-pub use Reaching.{Walked, reached-start, spread-found, spread-next, spread-none, stepped-append, stepped-found, stepped-room, stepped-seen}
-pub use Reaching.{walked-end, walked-few, walked-first, walked-found, walked-next}
+-- `SortSteps`: what is made is what is computed. `DriverLists`: a driver more on a list. `ReadyDrivers`: an order grown, and swept. `Reachability`: the walk back from a driver.
+pub mod SortSteps
+pub mod DriverLists
+pub mod ReadyDrivers
+pub mod Reachability
+pub use DriverLists.{left-any, left-some}
+pub use ReadyDrivers.{sorted-none}
+pub use Reachability.{Walked, reached-start, spread-found, spread-next, spread-none, stepped-append, stepped-found, stepped-capacity, stepped-seen}
+pub use Reachability.{walked-end, walked-few, walked-first, walked-found, walked-next}

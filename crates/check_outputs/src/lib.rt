@@ -1,20 +1,19 @@
 // "accepted exactly when every output equals the graph's for each of the 2^I input settings; otherwise the lowest setting that differs is returned,
-// input k as bit k, and that setting's first wrong output". 64 settings are evaluated at once: bit t of a word of block b is setting 64 b + t.
+// input k as bit k, and that setting's first wrong output". 64 assignments are evaluated at once: bit t of a word of block b is assignment 64 b + t.
 use check_reader::DRIVERS;
 use check_wires::Refs;
 use check_wires::Words;
 use model::Checked;
 use model::Header;
-ghost use Rattle.base.specs.{_≡_, _∷_, [], List, _<_, ℕ, _+_, _-_, _*_, _/_, _%_, _^_, _≤_, length, getD};
-ghost use Rattle.model.specs.{bit, Driver, inputNets, settled, wrongAt, compareFrom};
-ghost use Rattle.model.specs.Graph.{Graph};
-ghost use Rattle.base_words.specs.{RoomFor, slotAt, outputAt};
-ghost use Rattle.graph_placing.specs.{seek};
+ghost use Rattle.base.specs.{_≡_, _∷_, [], _<_, ℕ, _+_, _-_, _*_, _/_, _%_, _^_, _≤_, length, getD};
+ghost use Rattle.model.specs.{bit};
+ghost use Rattle.base_words.specs.{slotAt};
+ghost use Rattle.graph_order.specs.{seek};
 ghost use Rattle.check_outputs.specs.{inputWord, selected, gateWord, literalWord, andWord, differences, slotWord, Slots};
-ghost use Rattle.check_outputs.specs.{SlotsTurn, pinWord, driverWord, Readable, DriversTurn, Wrong};
-ghost use Rattle.check_outputs.specs.Comparable.{Comparable};
+ghost use Rattle.check_outputs.specs.{SlotsStep, pinWord, driverWord, Readable};
+ghost use Rattle.check_outputs.specs.{HasNetlist, ComparedAs, Evaluable, Evaluated, OutputsReadable, OutputsCompared, DriversReadable, DriversFilled};
 
-// Values under 64 settings at once: bit t of a word of block b is the value under setting 64 b + t.
+// Values under 64 assignments at once: bit t of a word of block b is the value under assignment 64 b + t.
 
 // All bits 1.
 const ALL: u64 = 18446744073709551615;
@@ -115,7 +114,7 @@ pub fn differing(x: u64, y: u64) -> u64
     select(x, ALL - y, y)
 }
 
-// A word for each variable: "M exceeds 4,095" is turned back, and so are more outputs.
+// A word for each variable: "M exceeds 4,095" is refused, and so are more outputs.
 const VARIABLES: usize = 4096;
 
 type Values = [u64; VARIABLES];
@@ -124,7 +123,7 @@ type Values = [u64; VARIABLES];
 type Driven = [u64; DRIVERS];
 
 // "the 2^I input settings"
-fn settings_of(inputs: usize) -> usize
+fn assignments_of(inputs: usize) -> usize
     requires { ⌜ inputs ≤ 12 ⌝ }
     ensures { λ r. ⌜ r ≡ 2 ^ inputs ⌝ }
 {
@@ -150,10 +149,10 @@ fn slot_word(work: &[u16], m: usize, inputs: usize, i: usize, b: u64, variables:
     and_word(l, variables[l / 2], r, variables[r / 2])
 }
 
-// The words of all placed variables, in placing order.
+// The words of all ordered variables, in topological order.
 fn fill_slots(work: &[u16], m: usize, inputs: usize, n: usize, b: u64, variables: &mut Values)
     requires { ⌜ Slots (now work) m inputs n × (length (now variables) ≡ 4096) ⌝ }
-    ensures { λ _. ⌜ ((values : ℕ → ℕ) → SlotsTurn (now (work .entry)) m inputs n b values → (i : ℕ) → i < n → getD (now (variables .exit))
+    ensures { λ _. ⌜ ((values : ℕ → ℕ) → SlotsStep (now (work .entry)) m inputs n b values → (i : ℕ) → i < n → getD (now (variables .exit))
         (slotAt (now (work .entry)) m i) 0 ≡ values (slotAt (now (work .entry)) m i)) ⌝ }
 {
     let mut i = 0;
@@ -175,7 +174,7 @@ fn pin_word(refs: &Refs, drivers: &Driven, i: usize, j: usize, count: usize, b: 
     if count <= j {
         return 0;
     }
-    let r = check_wires::wide(refs[4 * i + j]);
+    let r = check_wires::index_of(refs[4 * i + j]);
     if 12 <= r {
         return drivers[r - 12];
     }
@@ -200,13 +199,12 @@ fn driver_word(nets: &[u64], refs: &Refs, drivers: &Driven, i: usize, b: u64) ->
 
 // The words of all drivers, each behind those that feed it.
 fn fill_drivers(nets: &[u64], n: usize, refs: &Refs, order: &Words, b: u64, drivers: &mut Driven)
-    requires { ⌜ (n ≤ 10923) × ((p : ℕ) → p < n → Readable (now nets) (now refs) (getD (now order) p 0)) × (length (now drivers) ≡ 10923) ⌝ }
-    ensures { λ _. ⌜ ((values : ℕ → ℕ) → DriversTurn (now (nets .entry)) (now (refs .entry)) (now (order .entry)) n b values → (p : ℕ) → p < n → getD
-        (now (drivers .exit)) (getD (now (order .entry)) p 0) 0 ≡ values (getD (now (order .entry)) p 0)) ⌝ }
+    requires { ⌜ DriversReadable (now nets) n (now refs) (now order) (now drivers) ⌝ }
+    ensures { λ _. ⌜ DriversFilled (now (nets .entry)) n (now (refs .entry)) (now (order .entry)) b (now (drivers .exit)) ⌝ }
 {
     let mut p = 0;
     while p < n {
-        let i = check_wires::wide(order[p]);
+        let i = check_wires::index_of(order[p]);
         let x = driver_word(nets, refs, drivers, i, b);
         drivers[i] = x;
         p += 1;
@@ -225,12 +223,8 @@ fn fill_differences(
     drivers: &Driven,
     wrong: &mut Values,
 )
-    requires { ⌜ RoomFor (now work) m outputs × (outputs ≤ 4096) × (first + outputs ≤ 10923) × ((k : ℕ) → k < outputs → outputAt (now work) m k ≤ 2 * m + 1)
-        × (length (now wrong) ≡ 4096) ⌝ }
-    ensures { λ _. ⌜ length (now (wrong .exit)) ≡ 4096 ⌝ }
-    ensures { λ _. ⌜ ((k : ℕ) → k < outputs → getD (now (wrong .exit)) k 0 ≡ differences
-        (literalWord (outputAt (now (work .entry)) m k) (getD (now (variables .entry)) (outputAt (now (work .entry)) m k / 2) 0))
-        (getD (now (drivers .entry)) (first + k) 0)) ⌝ }
+    requires { ⌜ OutputsReadable (now work) m outputs first (now wrong) ⌝ }
+    ensures { λ _. ⌜ OutputsCompared (now (work .entry)) m outputs first (now (variables .entry)) (now (drivers .entry)) (now (wrong .exit)) ⌝ }
 {
     let mut k = 0;
     while k < outputs {
@@ -241,7 +235,7 @@ fn fill_differences(
     }
 }
 
-// Where the outputs are wrong in the block of setting s, evaluated where the block begins.
+// Where the outputs are wrong in the block of assignment s, evaluated where the block begins.
 fn evaluate(
     work: &[u16],
     h: Header,
@@ -252,12 +246,8 @@ fn evaluate(
     s: usize,
     wrong: &mut Values,
 )
-    requires { ⌜ ((g : Graph) × (ds : List Driver) × Comparable (now work) h (now nets) n (now refs) (now order) g ds) × (length (now wrong) ≡ 4096) ⌝ }
-    requires { ⌜ ((g : Graph) (ds : List Driver) → Comparable (now work) h (now nets) n (now refs) (now order) g ds → ¬ (s % 64 ≡ 0) → Wrong g ds (s / 64)
-        (now wrong)) ⌝ }
-    ensures { λ _. ⌜ length (now (wrong .exit)) ≡ 4096 ⌝ }
-    ensures { λ _. ⌜ ((g : Graph) (ds : List Driver) → Comparable (now (work .entry)) h (now (nets .entry)) n (now (refs .entry)) (now (order .entry)) g ds →
-        Wrong g ds (s / 64) (now (wrong .exit))) ⌝ }
+    requires { ⌜ Evaluable (now work) h (now nets) n (now refs) (now order) s (now wrong) ⌝ }
+    ensures { λ _. ⌜ Evaluated (now (work .entry)) h (now (nets .entry)) n (now (refs .entry)) (now (order .entry)) s (now (wrong .exit)) ⌝ }
 {
     if s % 64 != 0 {
         return;
@@ -265,8 +255,8 @@ fn evaluate(
     let b = (s / 64) as u64;
     let mut variables = [0u64; VARIABLES];
     let mut drivers = [0u64; DRIVERS];
-    let placed = base_words::placed(h);
-    fill_slots(work, h.size, h.inputs, placed, b, &mut variables);
+    let ordered = base_words::ordered_count(h);
+    fill_slots(work, h.size, h.inputs, ordered, b, &mut variables);
     fill_drivers(nets, n, refs, order, b, &mut drivers);
     let first = n - h.outputs;
     fill_differences(work, h.size, h.outputs, first, &variables, &drivers, wrong);
@@ -287,7 +277,7 @@ fn first_wrong(wrong: &Values, outputs: usize, t: usize) -> usize
     first
 }
 
-// The netlist's outputs against the graph's, setting by setting.
+// The netlist's outputs against the graph's, assignment by assignment.
 pub fn compare(
     work: &[u16],
     h: Header,
@@ -296,12 +286,11 @@ pub fn compare(
     refs: &Refs,
     order: &Words,
 ) -> Checked
-    requires { ⌜ ((g : Graph) × (ds : List Driver) × Comparable (now work) h (now nets) n (now refs) (now order) g ds) ⌝ }
-    ensures { λ r. ⌜ ((g : Graph) (ds : List Driver) → Comparable (now (work .entry)) h (now (nets .entry)) n (now (refs .entry)) (now (order .entry)) g ds →
-        r ≡ compareFrom (2 ^ length (g .inputs)) 0 (wrongAt g (settled (length ds) (inputNets g) ds))) ⌝ }
+    requires { ⌜ HasNetlist (now work) h (now nets) n (now refs) (now order) ⌝ }
+    ensures { λ r. ⌜ ComparedAs (now (work .entry)) h (now (nets .entry)) n (now (refs .entry)) (now (order .entry)) r ⌝ }
 {
     let outputs = h.outputs;
-    let end = settings_of(h.inputs);
+    let end = assignments_of(h.inputs);
     let mut wrong = [0u64; VARIABLES];
     let mut s = 0;
     while s < end {

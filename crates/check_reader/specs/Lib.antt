@@ -1,8 +1,8 @@
--- `Frame`: lines that are due, and the first three of a netlist.
--- `Store`: the numbers of a driver, and what is gathered of a text's lines.
-pub mod Frame
-pub mod Store
-pub use Frame.{Due, Framed, Framing, linesAt}
-unfoldable pub use Frame.{dueAt, dueFrom, inputName, namesFrom}
-pub use Store.{Fitting, Gathered, Lined, Paired, Stepped, Taken, wireGate}
-unfoldable pub use Store.{driverWords, gateWords, netsAfter, progressOf}
+-- `Preamble`: lines that are expected, and the first three of a netlist.
+-- `DriverStore`: the numbers of a driver, and what is gathered of a text's lines.
+pub mod Preamble
+pub mod DriverStore
+pub use Preamble.{Expected, Framed, Framing, linesAt}
+unfoldable pub use Preamble.{expectedAt, expectedFrom, inputName, namesFrom}
+pub use DriverStore.{Fitting, Gathered, Lined, Paired, Stepped, Taken, wireGate}
+unfoldable pub use DriverStore.{driverWords, gateWords, netsAfter, progressOf}

@@ -5,18 +5,18 @@ use check_names::Gate;
 use model::Header;
 use model::Library;
 ghost use Rattle.base.specs.{_≡_, _∷_, _++_, _+_, _≤_, _*_, _<_, length, replicate};
-ghost use Rattle.model.specs.{text, decimal, outName, isLine, frameOf, gateDriver, nameDriver, cellsOf};
+ghost use Rattle.model.specs.{text, decimal, outName, isLine, preambleOf, gateDriver, nameDriver, cellsOf};
 ghost use Rattle.model.specs.Graph.{Graph};
-ghost use Rattle.base_words.specs.{Room, putAt};
+ghost use Rattle.base_words.specs.{HasCapacity, putAt};
 ghost use Rattle.base_text.specs.{lineAt, spanAt, Wrote};
 ghost use Rattle.check_names.specs.{code, gateOf, nameCode};
-ghost use Rattle.check_reader.specs.{namesFrom, inputName, Due, Framing, Framed, gateWords, Fitting, Gathered, wireGate, Stepped};
+ghost use Rattle.check_reader.specs.{namesFrom, inputName, Expected, Framing, Framed, gateWords, Fitting, Gathered, wireGate, Stepped};
 ghost use Rattle.check_reader.specs.{Paired, Lined, Taken};
 
-// The lines that an edited netlist must have as they are printed: "BLIF as we print it up to `.end`". A line that is due is printed and compared.
+// The lines that an edited netlist must have as they are printed: "BLIF as we print it up to `.end`". A line that is expected is printed and compared.
 
 // Where reading goes on; or the line there breaks its form or is missing.
-pub struct Place {
+pub struct Reached {
     pub at: usize,
     pub broken: bool,
 }
@@ -35,22 +35,22 @@ pub fn is_line(s: &[u8], at: usize, w: &[u8]) -> bool
 }
 
 // A line that must be these bytes. A missing line's place is the text's length.
-pub fn due(s: &[u8], at: usize, w: &[u8]) -> Place
+pub fn expected_line(s: &[u8], at: usize, w: &[u8]) -> Reached
     requires { ⌜ length (now s) ≤ 65536 ⌝ }
-    ensures { λ r. ⌜ Due (now (s .entry)) (now (w .entry)) at r ⌝ }
+    ensures { λ r. ⌜ Expected (now (s .entry)) (now (w .entry)) at r ⌝ }
 {
     if at >= s.len() {
         let end = s.len();
-        return Place {
+        return Reached {
             at: end,
             broken: true,
         };
     }
     if !is_line(s, at, w) {
-        return Place { at, broken: true };
+        return Reached { at, broken: true };
     }
     let at = at + w.len() + 1;
-    Place { at, broken: false }
+    Reached { at, broken: false }
 }
 
 // A space, a net's letter and its number.
@@ -63,9 +63,9 @@ fn put_word(out: &mut [u8], at: usize, letter: u8, n: u32) -> usize
     base_text::put_number(out, next, n)
 }
 
-// "Inputs and outputs keep the file's order": an input is placed behind variable 0 and the inputs before it.
+// "Inputs and outputs keep the file's order": an input is ordered behind variable 0 and the inputs before it.
 fn put_inputs(work: &[u16], m: usize, n: usize, out: &mut [u8], at: usize) -> usize
-    requires { ⌜ Room (now work) m × (n ≤ m) × (at + length (namesFrom (inputName (now work) m) 0 n) ≤ length (now out)) ⌝ }
+    requires { ⌜ HasCapacity (now work) m × (n ≤ m) × (at + length (namesFrom (inputName (now work) m) 0 n) ≤ length (now out)) ⌝ }
     ensures { λ r. ⌜ Wrote (now (out .entry)) (now (out .exit)) at r (namesFrom (inputName (now (work .entry)) m) 0 n) ⌝ }
 {
     let mut next = at;
@@ -92,40 +92,40 @@ fn put_outputs(n: usize, out: &mut [u8], at: usize) -> usize
     next
 }
 
-fn inputs_due(s: &[u8], at: usize, work: &[u16], m: usize, n: usize) -> Place
-    requires { ⌜ (length (now s) ≤ 65536) × Room (now work) m × (n ≤ m) × (n ≤ 12) ⌝ }
-    ensures { λ r. ⌜ Due (now (s .entry)) (text ".inputs" ++ namesFrom (inputName (now (work .entry)) m) 0 n) at r ⌝ }
+fn expected_inputs(s: &[u8], at: usize, work: &[u16], m: usize, n: usize) -> Reached
+    requires { ⌜ (length (now s) ≤ 65536) × HasCapacity (now work) m × (n ≤ m) × (n ≤ 12) ⌝ }
+    ensures { λ r. ⌜ Expected (now (s .entry)) (text ".inputs" ++ namesFrom (inputName (now (work .entry)) m) 0 n) at r ⌝ }
 {
     let mut line = [0u8; 96];
     let a = base_text::put_bytes(&mut line, 0, b".inputs");
     let b = put_inputs(work, m, n, &mut line, a);
-    due(s, at, &line[..b])
+    expected_line(s, at, &line[..b])
 }
 
-fn outputs_due(s: &[u8], at: usize, n: usize) -> Place
+fn expected_outputs(s: &[u8], at: usize, n: usize) -> Reached
     requires { ⌜ (length (now s) ≤ 65536) × (n ≤ 4096) ⌝ }
-    ensures { λ r. ⌜ Due (now (s .entry)) (text ".outputs" ++ namesFrom outName 0 n) at r ⌝ }
+    ensures { λ r. ⌜ Expected (now (s .entry)) (text ".outputs" ++ namesFrom outName 0 n) at r ⌝ }
 {
     let mut line = [0u8; 28680];
     let a = base_text::put_bytes(&mut line, 0, b".outputs");
     let b = put_outputs(n, &mut line, a);
-    due(s, at, &line[..b])
+    expected_line(s, at, &line[..b])
 }
 
 // "`.model top`, `.inputs` and `.outputs`": a netlist that "has other inputs or outputs than the graph" breaks its form at that line.
-pub fn frame(s: &[u8], work: &[u16], h: Header) -> Place
+pub fn preamble(s: &[u8], work: &[u16], h: Header) -> Reached
     requires { ⌜ (length (now s) ≤ 65536) × ((g : Graph) × Framing (now work) h g) ⌝ }
-    ensures { λ r. ⌜ ((g : Graph) → Framing (now (work .entry)) h g → Framed (now (s .entry)) (frameOf g) r) ⌝ }
+    ensures { λ r. ⌜ ((g : Graph) → Framing (now (work .entry)) h g → Framed (now (s .entry)) (preambleOf g) r) ⌝ }
 {
-    let a = due(s, 0, b".model top");
+    let a = expected_line(s, 0, b".model top");
     if a.broken {
         return a;
     }
-    let b = inputs_due(s, a.at, work, h.size, h.inputs);
+    let b = expected_inputs(s, a.at, work, h.size, h.inputs);
     if b.broken {
         return b;
     }
-    outputs_due(s, b.at, h.outputs)
+    expected_outputs(s, b.at, h.outputs)
 }
 
 // A text within the length in 1 has at most so many lines that drive a net: a line begins at least six bytes behind the one before.
@@ -219,20 +219,20 @@ fn wire(net: u64, k: usize) -> Gate
 
 // Output k's two lines: "each gets `.names` with its net and its own name, then `1 1`", and their driver at place i. A missing line's place is the text's
 // length.
-fn name_step(s: &[u8], at: usize, k: usize, nets: &mut [u64], i: usize) -> Place
+fn name_step(s: &[u8], at: usize, k: usize, nets: &mut [u64], i: usize) -> Reached
     requires { ⌜ (k ≤ 65535) × (6 * i ≤ at) × (87384 ≤ length (now nets)) × (length (now s) ≤ 65536) ⌝ }
     ensures { λ r. ⌜ Stepped (now (s .entry)) k at i r (now (nets .entry)) (now (nets .exit)) ⌝ }
 {
     if at >= s.len() {
         let at = s.len();
-        return Place { at, broken: true };
+        return Reached { at, broken: true };
     }
     let line = base_text::line(s, at);
     let net = name_at(s, at, line, k);
     if net == 0 {
-        return Place { at, broken: true };
+        return Reached { at, broken: true };
     }
-    let row = due(s, line.next, b"1 1");
+    let row = expected_line(s, line.next, b"1 1");
     if row.broken {
         return row;
     }
@@ -294,7 +294,7 @@ fn read_lines(s: &[u8], lib: Library, work: &[u16], h: Header, nets: &mut [u64])
     requires { ⌜ Fitting lib × (length (now s) ≤ 65536) × (87384 ≤ length (now nets)) × ((g : Graph) × Framing (now work) h g) ⌝ }
     ensures { λ r. ⌜ ((g : Graph) → Framing (now (work .entry)) h g → Lined (now (s .entry)) lib g r (now (nets .entry)) (now (nets .exit))) ⌝ }
 {
-    let f = frame(s, work, h);
+    let f = preamble(s, work, h);
     if f.broken {
         return Progress {
             at: f.at,
@@ -310,7 +310,7 @@ fn read_lines(s: &[u8], lib: Library, work: &[u16], h: Header, nets: &mut [u64])
     if p.broken {
         return p;
     }
-    let e = due(s, p.at, b".end");
+    let e = expected_line(s, p.at, b".end");
     Progress {
         at: e.at,
         count: p.count,

@@ -1,4 +1,4 @@
--- `Chaining`: walks along chains, and a driver put on one. `Pinning`: the numbers at pins, one by one. `Computing`: what is found is what is computed.
-pub mod Chaining
-pub mod Pinning
-pub mod Computing
+-- `HashBuckets`: walks along buckets, and a driver put on one. `PinReferences`: the numbers at pins, one by one. `DriverLookup`: what is found is what is computed.
+pub mod HashBuckets
+pub mod PinReferences
+pub mod DriverLookup

@@ -1,6 +1,6 @@
 // What drives each net of an edited netlist: the first two parts of 33, and a number for what stands at each pin. A driver is eight numbers, as
 // `check_reader` stores them. Names are numbers already, so a net is found by the remainder of its number: the drivers of one remainder are a
-// chain.
+// bucket.
 use check_reader::DRIVERS;
 ghost use Rattle.base.specs.{_≡_, _+_, _*_, _/_, _%_, _≤_, _<_, length, getD, set};
 ghost use Rattle.check_wires.specs.{Falling, ownAt, headOf, Chained, Found, InputOf, Drivers, Looked, PinLooked, Once};
@@ -16,13 +16,13 @@ pub type Refs = [u16; PINS];
 pub type Words = [u16; DRIVERS];
 
 // A mark for each.
-pub type Marks = [u8; DRIVERS];
+pub type Flags = [u8; DRIVERS];
 
 // A prime: every letter of a name moves its remainder.
-const CHAINS: usize = 16381;
+const BUCKETS: usize = 16381;
 
-// The head of each chain.
-type Heads = [u16; CHAINS];
+// The head of each bucket.
+type Heads = [u16; BUCKETS];
 
 // The input of this number.
 fn input_of(inputs: &[u64; 12], count: usize, x: u64) -> usize
@@ -40,28 +40,28 @@ fn input_of(inputs: &[u64; 12], count: usize, x: u64) -> usize
 }
 
 // A word as an index.
-pub fn wide(x: u16) -> usize
+pub fn index_of(x: u16) -> usize
     ensures { λ r. ⌜ (r ≡ x) × (r < 65536) ⌝ }
 {
     x as usize
 }
 
-// The head of a number's chain.
+// The head of a number's bucket.
 fn head(heads: &Heads, x: u64) -> usize
     ensures { λ r. ⌜ r ≡ headOf (now (heads .entry)) x ⌝ }
 {
-    wide(heads[(x % 16381) as usize])
+    index_of(heads[(x % 16381) as usize])
 }
 
-// The next of a chain.
+// The next of a bucket.
 fn next(links: &Words, k: usize) -> usize
     requires { ⌜ k < 10923 ⌝ }
     ensures { λ r. ⌜ r ≡ getD (now (links .entry)) k 0 ⌝ }
 {
-    wide(links[k])
+    index_of(links[k])
 }
 
-// The driver of this number on the chain from a head.
+// The driver of this number on the bucket from a head.
 fn find(nets: &[u64], links: &Words, from: usize, x: u64) -> usize
     requires { ⌜ Falling (now links) × (8 * from ≤ length (now nets)) × (from ≤ 10923) ⌝ }
     ensures { λ r. ⌜ Found (now (nets .entry)) (now (links .entry)) from x r ⌝ }
@@ -101,7 +101,7 @@ fn look(
     11 + f
 }
 
-// Driver i at the head of its number's chain.
+// Driver i at the head of its number's bucket.
 fn enter(nets: &[u64], i: usize, heads: &mut Heads, links: &mut Words)
     requires { ⌜ (i < 10923) × (8 * i + 8 ≤ length (now nets)) ⌝ }
     ensures { λ _. ⌜ (now (links .exit) ≡ set (now (links .entry)) i (headOf (now (heads .entry)) (ownAt (now (nets .entry)) i)))
@@ -112,8 +112,8 @@ fn enter(nets: &[u64], i: usize, heads: &mut Heads, links: &mut Words)
     heads[b] = (i + 1) as u16;
 }
 
-// "a line drives a net already driven": the first such driver, or n with all drivers on their chains.
-fn first_twice(
+// "a line drives a net already driven": the first such driver, or n with all drivers on their buckets.
+fn first_driven_twice(
     nets: &[u64],
     n: usize,
     inputs: &[u64; 12],
@@ -159,7 +159,7 @@ fn pin_of(
 }
 
 // "one uses a net that no line drives": the first such driver, or n with every pin's number written.
-fn first_loose(
+fn first_undriven(
     nets: &[u64],
     n: usize,
     inputs: &[u64; 12],
@@ -188,14 +188,14 @@ pub fn refer(nets: &[u64], n: usize, inputs: &[u64; 12], count: usize, refs: &mu
     requires { ⌜ Drivers (now nets) n count × (length (now refs) ≡ 43692) ⌝ }
     ensures { λ r. ⌜ Referred (now (nets .entry)) (now (inputs .entry)) count n r (now (refs .entry)) (now (refs .exit)) ⌝ }
 {
-    let mut heads = [0u16; CHAINS];
+    let mut heads = [0u16; BUCKETS];
     let mut links = [0u16; DRIVERS];
-    let t = first_twice(nets, n, inputs, count, &mut heads, &mut links);
+    let t = first_driven_twice(nets, n, inputs, count, &mut heads, &mut links);
     if t < n {
         *refs = [0u16; PINS];
         return t;
     }
-    let f = first_loose(nets, n, inputs, count, &heads, &links, refs);
+    let f = first_undriven(nets, n, inputs, count, &heads, &links, refs);
     if f < n {
         *refs = [0u16; PINS];
     }

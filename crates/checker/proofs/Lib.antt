@@ -1,2 +1,2 @@
--- `Lent`: what `main` lends is enough.
-pub mod Lent
+-- `BufferSizes`: what `main` lends is enough.
+pub mod BufferSizes

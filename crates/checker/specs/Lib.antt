@@ -1,2 +1,2 @@
--- `Enough`: the words that every check takes.
-pub mod Enough
+-- `BufferBounds`: the words that every check takes.
+pub mod BufferBounds

@@ -1,14 +1,14 @@
 // The program: `netlist.blif` of the current folder checked against `graph.aag` with the cells of `cells.txt`; `accepted`, `differs` with the
-// setting and the output, or one line of `refused`, number and place printed.
+// assignment and the output, or one line of `refused`, number and place printed.
 use model::Checked;
 use program_files::Loaded;
 ghost use Rattle.base.specs.{length};
-ghost use Rattle.checker.specs.Enough.{Enough};
+ghost use Rattle.checker.specs.BufferBounds.{Enough};
 
 fn show(c: Checked) {
     let written = match c {
         Checked::Accepted => program_files::put(b"accepted\n"),
-        Checked::Differs(setting, output) => program_files::line(b"differs", setting, output),
+        Checked::Differs(assignment, output) => program_files::line(b"differs", assignment, output),
         Checked::Refused(number, place) => program_files::refused(number, place),
     };
     program_files::said(written, b"checker");

@@ -11,20 +11,21 @@ use model::Verdict;
 ghost use Rattle.base.specs.{_≡_, true, false, _+_, _*_, _/_, _<_, _≤_, eqb, length, List, _∷_, []};
 ghost use Rattle.model.specs.{same, cellsOf, absent, noPhase, earlier, choose, phaseTable, matchNets, fedNets, cutLimit};
 ghost use Rattle.model.specs.declared.Cell.{Cell};
-ghost use Rattle.base_words.specs.{placedOf, Room, outputAt, countAt, leavesOf, leavesAt, functionOf, phaseAt};
+ghost use Rattle.base_words.specs.{orderedCount, HasCapacity, outputAt, countAt, leavesOf, leavesAt, functionOf, phaseAt};
 ghost use Rattle.base_truth.specs.{placesOf};
 ghost use Rattle.cells_pairs.specs.{Joinable, cellsBy, Coded};
-ghost use Rattle.cells_matching.specs.{Usable, Matchable, sheetLong, listMatched, SheetOf, isListed, Timely, timeOf, bestOf, phaseAs};
+ghost use Rattle.cells_matching.specs.{LibraryInBounds, Matchable, matchTableLength, listMatched, MatchTable, isListed, ArrivalsBounded, timeOf, bestOf};
+ghost use Rattle.cells_matching.specs.{phaseAs};
 ghost use Rattle.cells_matching.specs.{inverted};
 ghost use Rattle.cells_matching.specs.declared.Inverter.the-variants.{Is};
 ghost use Rattle.cover_choice.specs.{PinsOf, PinsIn, LeavesIn, OutputsIn, SlotsIn, CutsIn, MatchIn, MatchesIn, leafTime, timesAt};
-ghost use Rattle.cover_choice.specs.{foundPhase, foundOn, foundAt, bestAt, ownPhase, directAt, chosenTurn, chosenUp, ToolsIn};
-ghost use Rattle.cover_choice.specs.{Choosable, Unchosen, missing, putAll, putOutputs, feedsAt, fedOnce, fedTurn, fedDown, marked};
+ghost use Rattle.cover_choice.specs.{foundPhase, foundOn, foundAt, bestAt, inputPhase, uninvertedAt, chosenStep, chosenUp, ToolsIn};
+ghost use Rattle.cover_choice.specs.{Choosable, Unchosen, missing, putAll, putOutputs, feedsAt, fedOnce, fedStep, fedDown, marked};
 
 // ---- used throughout
 
 // A word as an index.
-fn wide(x: u16) -> usize
+fn index_of(x: u16) -> usize
     ensures { λ r. ⌜ (r ≡ x) × (r < 65536) ⌝ }
 {
     x as usize
@@ -59,7 +60,7 @@ fn time(p: Phase) -> u32
     ensures { λ r. ⌜ r ≡ timeOf p ⌝ }
 {
     if base_words::is_absent(p) {
-        cells_matching::NEVER
+        cells_matching::INFINITE
     } else {
         p.arrival
     }
@@ -74,12 +75,12 @@ fn size(cut: Cut) -> usize
 }
 
 // Whether cut number k of v is "the variable alone". "The matcher should scan sizes alone": the leaf is looked at where it is the only one.
-fn alone(work: &[u16], m: usize, v: usize, k: usize) -> bool
-    requires { ⌜ Room (now work) m × (v ≤ m) × (k < cutLimit) ⌝ }
+fn is_trivial(work: &[u16], m: usize, v: usize, k: usize) -> bool
+    requires { ⌜ HasCapacity (now work) m × (v ≤ m) × (k < cutLimit) ⌝ }
     ensures { λ r. ⌜ r ≡ same (leavesAt (now (work .entry)) m v k) (v ∷ []) ⌝ }
 {
     if base_words::cut_size(work, m, v, k) == 1 {
-        wide(base_words::leaf(work, m, v, k, 0)) == v
+        index_of(base_words::leaf(work, m, v, k, 0)) == v
     } else {
         false
     }
@@ -92,9 +93,9 @@ fn leaf_time(work: &[u16], m: usize, cut: Cut, i: usize, neg: usize) -> u32
 {
     if i < size(cut) {
         let leaves = cut.leaves;
-        time(base_words::phase(work, m, 2 * wide(leaves[i]) + neg))
+        time(base_words::phase(work, m, 2 * index_of(leaves[i]) + neg))
     } else {
-        cells_matching::NEVER
+        cells_matching::INFINITE
     }
 }
 
@@ -140,14 +141,14 @@ fn neither() -> Both
 }
 
 // Whether a function is a cell's in either phase: most are in none, and then the leaves are not looked at.
-fn is_matched(sheet: &[u32], f: u16) -> bool
-    requires { ⌜ 65536 ≤ length (now sheet) ⌝ }
-    ensures { λ r. ⌜ (r ≡ false → (isListed (now (sheet .entry)) f ≡ false) × (isListed (now (sheet .entry)) (phaseTable true f) ≡ false)) ⌝ }
+fn is_matched(matches: &[u32], f: u16) -> bool
+    requires { ⌜ 65536 ≤ length (now matches) ⌝ }
+    ensures { λ r. ⌜ (r ≡ false → (isListed (now (matches .entry)) f ≡ false) × (isListed (now (matches .entry)) (phaseTable true f) ≡ false)) ⌝ }
 {
-    if cells_matching::is_listed(sheet, f) {
+    if cells_matching::is_listed(matches, f) {
         true
     } else {
-        cells_matching::is_listed(sheet, base_truth::in_phase(true, f))
+        cells_matching::is_listed(matches, base_truth::in_phase(true, f))
     }
 }
 
@@ -162,7 +163,7 @@ fn none_found() -> CutMatch
 {
     let best = Best {
         variant: 0,
-        arrival: cells_matching::NEVER,
+        arrival: cells_matching::INFINITE,
     };
     CutMatch { cut: 0, best }
 }
@@ -176,13 +177,13 @@ fn found_phase(found: CutMatch) -> Phase
 }
 
 // The best match of the cuts before, or that on cut number k, if it is earlier; f is the cut's function in the phase, t the arrivals of its leaves.
-fn match_phase(sheet: &[u32], k: usize, f: u16, t: &[u32; 16], former: CutMatch) -> CutMatch
-    requires { ⌜ ((cells : List Cell) × SheetOf cells (now sheet)) × Timely (now t) ⌝ }
-    ensures { λ r. ⌜ ((cells : List Cell) → SheetOf cells (now (sheet .entry)) →
+fn match_phase(matches: &[u32], k: usize, f: u16, t: &[u32; 16], former: CutMatch) -> CutMatch
+    requires { ⌜ ((cells : List Cell) × MatchTable cells (now matches)) × ArrivalsBounded (now t) ⌝ }
+    ensures { λ r. ⌜ ((cells : List Cell) → MatchTable cells (now (matches .entry)) →
         foundPhase r ≡ earlier (foundPhase former) (phaseAs k (bestOf cells f (now (t .entry))))) ⌝ }
 {
     let last = former.best;
-    let best = cells_matching::best_match(sheet, f, t, last.arrival);
+    let best = cells_matching::best_match(matches, f, t, last.arrival);
     if best.arrival < last.arrival {
         return CutMatch { cut: k, best };
     }
@@ -202,12 +203,12 @@ fn match_cut(
     v: usize,
     k: usize,
     f: u16,
-    sheet: &[u32],
+    matches: &[u32],
     positive: CutMatch,
     negative: CutMatch,
 ) -> CutMatches
-    requires { ⌜ ((cells : List Cell) × SheetOf cells (now sheet)) × Choosable (now work) m × (v ≤ m) × (k < countAt (now work) m v) ⌝ }
-    ensures { λ r. ⌜ ((cells : List Cell) → SheetOf cells (now (sheet .entry)) →
+    requires { ⌜ ((cells : List Cell) × MatchTable cells (now matches)) × Choosable (now work) m × (v ≤ m) × (k < countAt (now work) m v) ⌝ }
+    ensures { λ r. ⌜ ((cells : List Cell) → MatchTable cells (now (matches .entry)) →
         (foundPhase (r .positive) ≡
         earlier (foundPhase positive) (choose (foundOn cells (now (work .entry)) m k (leavesAt (now (work .entry)) m v k) f))) ×
         (foundPhase (r .negative) ≡
@@ -215,8 +216,8 @@ fn match_cut(
         (choose (foundOn cells (now (work .entry)) m k (leavesAt (now (work .entry)) m v k) (phaseTable true f))))) ⌝ }
 {
     let t = times(work, m, base_words::load_cut(work, m, v, k));
-    let p = match_phase(sheet, k, f, &t, positive);
-    let n = match_phase(sheet, k, base_truth::in_phase(true, f), &t, negative);
+    let p = match_phase(matches, k, f, &t, positive);
+    let n = match_phase(matches, k, base_truth::in_phase(true, f), &t, negative);
     CutMatches {
         positive: p,
         negative: n,
@@ -225,7 +226,7 @@ fn match_cut(
 
 // The function of cut number k of v.
 fn table(work: &[u16], m: usize, v: usize, k: usize) -> u16
-    requires { ⌜ Room (now work) m × (v ≤ m) × (k < cutLimit) ⌝ }
+    requires { ⌜ HasCapacity (now work) m × (v ≤ m) × (k < cutLimit) ⌝ }
     ensures { λ r. ⌜ r ≡ functionOf (now (work .entry)) m v k ⌝ }
 {
     base_words::function(work, m, v, k) as u16
@@ -237,29 +238,29 @@ fn cut_phases(
     m: usize,
     v: usize,
     k: usize,
-    sheet: &[u32],
+    matches: &[u32],
     positive: CutMatch,
     negative: CutMatch,
 ) -> CutMatches
-    requires { ⌜ ((cells : List Cell) × SheetOf cells (now sheet)) × Choosable (now work) m × (v ≤ m) × (k < countAt (now work) m v) ⌝ }
-    ensures { λ r. ⌜ ((cells : List Cell) → SheetOf cells (now (sheet .entry)) →
+    requires { ⌜ ((cells : List Cell) × MatchTable cells (now matches)) × Choosable (now work) m × (v ≤ m) × (k < countAt (now work) m v) ⌝ }
+    ensures { λ r. ⌜ ((cells : List Cell) → MatchTable cells (now (matches .entry)) →
         (foundPhase (r .positive) ≡ earlier (foundPhase positive) (choose (foundAt cells (now (work .entry)) m v false k))) ×
         (foundPhase (r .negative) ≡ earlier (foundPhase negative) (choose (foundAt cells (now (work .entry)) m v true k)))) ⌝ }
 {
-    if alone(work, m, v, k) {
+    if is_trivial(work, m, v, k) {
         return CutMatches { positive, negative };
     }
     let f = table(work, m, v, k);
-    if !is_matched(sheet, f) {
+    if !is_matched(matches, f) {
         return CutMatches { positive, negative };
     }
-    match_cut(work, m, v, k, f, sheet, positive, negative)
+    match_cut(work, m, v, k, f, matches, positive, negative)
 }
 
 // The best matches of v, from its first cut to its last: of equal arrivals the lowest cut's.
-fn best_phases(work: &[u16], m: usize, v: usize, sheet: &[u32]) -> Both
-    requires { ⌜ ((cells : List Cell) × SheetOf cells (now sheet)) × Choosable (now work) m × (v ≤ m) ⌝ }
-    ensures { λ r. ⌜ ((cells : List Cell) → SheetOf cells (now (sheet .entry)) → (r .positive ≡ bestAt cells (now (work .entry)) m v false) ×
+fn best_phases(work: &[u16], m: usize, v: usize, matches: &[u32]) -> Both
+    requires { ⌜ ((cells : List Cell) × MatchTable cells (now matches)) × Choosable (now work) m × (v ≤ m) ⌝ }
+    ensures { λ r. ⌜ ((cells : List Cell) → MatchTable cells (now (matches .entry)) → (r .positive ≡ bestAt cells (now (work .entry)) m v false) ×
         (r .negative ≡ bestAt cells (now (work .entry)) m v true)) ⌝ }
 {
     let mut positive = none_found();
@@ -267,7 +268,7 @@ fn best_phases(work: &[u16], m: usize, v: usize, sheet: &[u32]) -> Both
     let n = base_words::count(work, m, v);
     let mut k: usize = 0;
     while k < n {
-        let b = cut_phases(work, m, v, k, sheet, positive, negative);
+        let b = cut_phases(work, m, v, k, matches, positive, negative);
         positive = b.positive;
         negative = b.negative;
         k += 1;
@@ -281,27 +282,27 @@ fn best_phases(work: &[u16], m: usize, v: usize, sheet: &[u32]) -> Both
 }
 
 // "an input's own positive net": "every arrival starts from it".
-fn own(work: &[u16], m: usize, v: usize) -> Both
-    requires { ⌜ Room (now work) m × (v ≤ m) ⌝ }
-    ensures { λ r. ⌜ (r .positive ≡ ownPhase (now (work .entry)) m v false) × (r .negative ≡ ownPhase (now (work .entry)) m v true) ⌝ }
+fn input_source(work: &[u16], m: usize, v: usize) -> Both
+    requires { ⌜ HasCapacity (now work) m × (v ≤ m) ⌝ }
+    ensures { λ r. ⌜ (r .positive ≡ inputPhase (now (work .entry)) m v false) × (r .negative ≡ inputPhase (now (work .entry)) m v true) ⌝ }
 {
     let positive = Phase {
         source: Source::Input,
-        arrival: base_words::late(work, m, v),
+        arrival: base_words::input_arrival(work, m, v),
     };
     let negative = nothing();
     Both { positive, negative }
 }
 
 // The phases of v without inverters: "for an input's positive phase its own net, otherwise earliest arrival".
-fn direct(work: &[u16], m: usize, v: usize, sheet: &[u32]) -> Both
-    requires { ⌜ ((cells : List Cell) × SheetOf cells (now sheet)) × Choosable (now work) m × (v ≤ m) ⌝ }
-    ensures { λ r. ⌜ ((cells : List Cell) → SheetOf cells (now (sheet .entry)) → (r .positive ≡ directAt cells (now (work .entry)) m v false) ×
-        (r .negative ≡ directAt cells (now (work .entry)) m v true)) ⌝ }
+fn uninverted_source(work: &[u16], m: usize, v: usize, matches: &[u32]) -> Both
+    requires { ⌜ ((cells : List Cell) × MatchTable cells (now matches)) × Choosable (now work) m × (v ≤ m) ⌝ }
+    ensures { λ r. ⌜ ((cells : List Cell) → MatchTable cells (now (matches .entry)) → (r .positive ≡ uninvertedAt cells (now (work .entry)) m v false) ×
+        (r .negative ≡ uninvertedAt cells (now (work .entry)) m v true)) ⌝ }
 {
     match base_words::kind(work, m, v) {
-        base_words::CONSTANT | base_words::AND => best_phases(work, m, v, sheet),
-        base_words::INPUT => own(work, m, v),
+        base_words::CONSTANT | base_words::AND => best_phases(work, m, v, matches),
+        base_words::INPUT => input_source(work, m, v),
         _ => neither(),
     }
 }
@@ -332,11 +333,11 @@ fn invert(inv: Inverter, from: Phase) -> Phase
 }
 
 // Both phases of v: "then a matched cell before the inverter". Both are known before an inverter is tried, so none feeds an inverter.
-fn choose_variable(work: &mut [u16], m: usize, v: usize, inv: Inverter, sheet: &[u32])
-    requires { ⌜ ((cells : List Cell) × ToolsIn cells (now sheet) inv) × Choosable (now work) m × (v ≤ m) ⌝ }
-    ensures { λ _. ⌜ ((cells : List Cell) → ToolsIn cells (now (sheet .entry)) inv → now (work .exit) ≡ chosenTurn cells (now (work .entry)) m v) ⌝ }
+fn choose_variable(work: &mut [u16], m: usize, v: usize, inv: Inverter, matches: &[u32])
+    requires { ⌜ ((cells : List Cell) × ToolsIn cells (now matches) inv) × Choosable (now work) m × (v ≤ m) ⌝ }
+    ensures { λ _. ⌜ ((cells : List Cell) → ToolsIn cells (now (matches .entry)) inv → now (work .exit) ≡ chosenStep cells (now (work .entry)) m v) ⌝ }
 {
-    let b = direct(work, m, v, sheet);
+    let b = uninverted_source(work, m, v, matches);
     let p = b.positive;
     let n = b.negative;
     let positive = sooner(p, invert(inv, n));
@@ -345,45 +346,45 @@ fn choose_variable(work: &mut [u16], m: usize, v: usize, inv: Inverter, sheet: &
     base_words::set_negative(work, m, v, negative);
 }
 
-// In placing order.
-fn choose_variables(work: &mut [u16], m: usize, n: usize, inv: Inverter, sheet: &[u32])
-    requires { ⌜ ((cells : List Cell) × ToolsIn cells (now sheet) inv) × Unchosen (now work) m n ⌝ }
-    ensures { λ _. ⌜ ((cells : List Cell) → ToolsIn cells (now (sheet .entry)) inv → now (work .exit) ≡ chosenUp cells (now (work .entry)) m n) ⌝ }
+// In topological order.
+fn choose_variables(work: &mut [u16], m: usize, n: usize, inv: Inverter, matches: &[u32])
+    requires { ⌜ ((cells : List Cell) × ToolsIn cells (now matches) inv) × Unchosen (now work) m n ⌝ }
+    ensures { λ _. ⌜ ((cells : List Cell) → ToolsIn cells (now (matches .entry)) inv → now (work .exit) ≡ chosenUp cells (now (work .entry)) m n) ⌝ }
 {
     let mut i: usize = 0;
     while i < n {
         let v = base_words::slot(work, m, i);
-        choose_variable(work, m, v, inv, sheet);
+        choose_variable(work, m, v, inv, matches);
         i += 1;
     }
 }
 
 // The listed cells, lent to the matcher as a list.
-fn match_listed(lib: Library, sheet: &mut [u32])
-    requires { ⌜ Joinable lib × (sheetLong (lib .n) ≤ length (now sheet)) ⌝ }
-    ensures { λ _. ⌜ now (sheet .exit) ≡ listMatched (cellsOf lib) 0 (now (sheet .entry)) ⌝ }
+fn match_listed(lib: Library, matches: &mut [u32])
+    requires { ⌜ Joinable lib × (matchTableLength (lib .n) ≤ length (now matches)) ⌝ }
+    ensures { λ _. ⌜ now (matches .exit) ≡ listMatched (cellsOf lib) 0 (now (matches .entry)) ⌝ }
 {
     let cells = lib.cells;
-    cells_matching::build(&cells[..lib.n], sheet);
+    cells_matching::build(&cells[..lib.n], matches);
 }
 
-// The cells to map with, matched: "Pairs follow the listed cells", and a chain is filled from its end. What a sheet then holds serves every graph of
+// The cells to map with, matched: "Pairs follow the listed cells", and a bucket is filled from its end. What a match table then holds serves every graph of
 // a call.
-pub fn match_library(lib: Library, codes: &[u16], sheet: &mut [u32])
-    requires { ⌜ Coded lib (now codes) × (sheetLong (lib .n + length (now codes)) ≤ length (now sheet)) ⌝ }
-    ensures { λ _. ⌜ now (sheet .exit) ≡ listMatched (cellsBy (cellsOf lib) (now (codes .entry))) 0 (now (sheet .entry)) ⌝ }
+pub fn match_library(lib: Library, ids: &[u16], matches: &mut [u32])
+    requires { ⌜ Coded lib (now ids) × (matchTableLength (lib .n + length (now ids)) ≤ length (now matches)) ⌝ }
+    ensures { λ _. ⌜ now (matches .exit) ≡ listMatched (cellsBy (cellsOf lib) (now (ids .entry))) 0 (now (matches .entry)) ⌝ }
 {
-    cells_matching::build_pairs(lib, codes, sheet);
-    match_listed(lib, sheet);
+    cells_matching::build_pairs(lib, ids, matches);
+    match_listed(lib, matches);
 }
 
-// The choice for both phases of every variable, by the sheet of the cells to map with. "The inverter role stays with listed cells."
-pub fn choose(work: &mut [u16], lib: Library, codes: &[u16], h: Header, sheet: &[u32])
-    requires { ⌜ Usable lib × SheetOf (cellsBy (cellsOf lib) (now codes)) (now sheet) × Unchosen (now work) (h .size) (placedOf h) ⌝ }
-    ensures { λ _. ⌜ now (work .exit) ≡ chosenUp (cellsBy (cellsOf lib) (now (codes .entry))) (now (work .entry)) (h .size) (placedOf h) ⌝ }
+// The choice for both phases of every variable, by the match table of the cells to map with. "The inverter role stays with listed cells."
+pub fn choose(work: &mut [u16], lib: Library, ids: &[u16], h: Header, matches: &[u32])
+    requires { ⌜ LibraryInBounds lib × MatchTable (cellsBy (cellsOf lib) (now ids)) (now matches) × Unchosen (now work) (h .size) (orderedCount h) ⌝ }
+    ensures { λ _. ⌜ now (work .exit) ≡ chosenUp (cellsBy (cellsOf lib) (now (ids .entry))) (now (work .entry)) (h .size) (orderedCount h) ⌝ }
 {
     let inv = cells_matching::inverter_of(lib);
-    choose_variables(work, h.size, base_words::placed(h), inv, sheet);
+    choose_variables(work, h.size, base_words::ordered_count(h), inv, matches);
 }
 
 // ---- refusal 17
@@ -418,7 +419,7 @@ pub fn uncovered(work: &[u16], h: Header) -> Verdict
 
 // The nets that feed the pins of a cell under an order and a mask are needed.
 fn mark_pins(work: &mut [u16], m: usize, leaves: [u16; 4], order: usize, mask: usize, pins: usize)
-    requires { ⌜ Room (now work) m × PinsIn leaves m order pins ⌝ }
+    requires { ⌜ HasCapacity (now work) m × PinsIn leaves m order pins ⌝ }
     ensures { λ _. ⌜ now (work .exit) ≡ putAll (now (work .entry)) m (fedNets pins (placesOf order) mask leaves) ⌝ }
 {
     let mut j: usize = 0;
@@ -429,15 +430,15 @@ fn mark_pins(work: &mut [u16], m: usize, leaves: [u16; 4], order: usize, mask: u
 }
 
 // The pins of each cell, by number: made once for each call, and lent to what runs for each phase.
-pub fn pin_counts(lib: Library, codes: &[u16]) -> [u16; 256]
-    requires { ⌜ Coded lib (now codes) ⌝ }
-    ensures { λ r. ⌜ PinsOf (cellsBy (cellsOf lib) (now (codes .entry))) r ⌝ }
+pub fn pin_counts(lib: Library, ids: &[u16]) -> [u16; 256]
+    requires { ⌜ Coded lib (now ids) ⌝ }
+    ensures { λ r. ⌜ PinsOf (cellsBy (cellsOf lib) (now (ids .entry))) r ⌝ }
 {
-    let n = lib.n + codes.len();
+    let n = lib.n + ids.len();
     let mut pins = [0u16; 256];
     let mut k: usize = 0;
     while k < n {
-        pins[k] = cells_pairs::pins_of(lib, codes, k);
+        pins[k] = cells_pairs::pins_of(lib, ids, k);
         k += 1;
     }
     pins
@@ -453,7 +454,7 @@ fn mark_match(work: &mut [u16], pins: &[u16; 256], m: usize, v: usize, x: Match)
     let leaves = cut.leaves;
     let k = x.cell;
     let count = pins[k];
-    mark_pins(work, m, leaves, x.order, x.mask, wide(count));
+    mark_pins(work, m, leaves, x.order, x.mask, index_of(count));
 }
 
 // What feeds a phase is needed.
@@ -486,7 +487,7 @@ fn mark_phase(work: &mut [u16], pins: &[u16; 256], m: usize, l: usize)
 // Both phases of a variable: one that an inverter drives before the one that feeds it.
 fn mark_variable(work: &mut [u16], pins: &[u16; 256], m: usize, v: usize)
     requires { ⌜ ((cells : List Cell) × MatchesIn cells (now work) m × PinsOf cells (now pins)) × (v ≤ m) ⌝ }
-    ensures { λ _. ⌜ ((cells : List Cell) → MatchesIn cells (now (work .entry)) m → PinsOf cells (now (pins .entry)) → now (work .exit) ≡ fedTurn cells
+    ensures { λ _. ⌜ ((cells : List Cell) → MatchesIn cells (now (work .entry)) m → PinsOf cells (now (pins .entry)) → now (work .exit) ≡ fedStep cells
         (now (work .entry)) m v) ⌝ }
 {
     if base_words::is_inverted(base_words::positive(work, m, v)) {
@@ -526,13 +527,13 @@ fn mark_variables(work: &mut [u16], pins: &[u16; 256], m: usize, n: usize)
 }
 
 // The needed phases.
-pub fn mark(work: &mut [u16], lib: Library, codes: &[u16], h: Header)
-    requires { ⌜ Coded lib (now codes) × MatchesIn (cellsBy (cellsOf lib) (now codes)) (now work) (h .size) × OutputsIn (now work) (h .size) (h .outputs) ×
-        SlotsIn (now work) (h .size) (placedOf h) ⌝ }
-    ensures { λ _. ⌜ now (work .exit) ≡ marked (cellsBy (cellsOf lib) (now (codes .entry))) (now (work .entry)) (h .size) (h .outputs) (placedOf h) ⌝ }
+pub fn mark(work: &mut [u16], lib: Library, ids: &[u16], h: Header)
+    requires { ⌜ Coded lib (now ids) × MatchesIn (cellsBy (cellsOf lib) (now ids)) (now work) (h .size) × OutputsIn (now work) (h .size) (h .outputs) ×
+        SlotsIn (now work) (h .size) (orderedCount h) ⌝ }
+    ensures { λ _. ⌜ now (work .exit) ≡ marked (cellsBy (cellsOf lib) (now (ids .entry))) (now (work .entry)) (h .size) (h .outputs) (orderedCount h) ⌝ }
 {
-    let pins = pin_counts(lib, codes);
+    let pins = pin_counts(lib, ids);
     let m = h.size;
     mark_outputs(work, m, h.outputs);
-    mark_variables(work, &pins, m, base_words::placed(h));
+    mark_variables(work, &pins, m, base_words::ordered_count(h));
 }

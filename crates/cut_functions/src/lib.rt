@@ -2,11 +2,11 @@
 // the root has the very same cut its function is stored already, and the walk stops there.
 ghost use Rattle.base.specs.{_≡_, true, false, _∷_, [], ℕ, _+_, _*_, _/_, _≤_, _<_, take, getD, set};
 ghost use Rattle.model.specs.{cutLimit};
-ghost use Rattle.base_words.specs.{Room, andKind, kindAt, leftAt, rightAt, countAt, placeAt, leavesAt, putFunctions};
-ghost use Rattle.cut_functions.specs.{leafNotes, Early, Noted, Placed, Walked, Near, joined, cutWord, functionsOf, SameCut, Done};
+ghost use Rattle.base_words.specs.{HasCapacity, andKind, kindAt, leftAt, rightAt, countAt, positionAt, leavesAt, putFunctions};
+ghost use Rattle.cut_functions.specs.{leafNotes, Early, Noted, Ordered, Walked, FromLeaves, joined, cutWord, functionsOf, SameCut, Done};
 ghost use Rattle.cut_functions.specs.{Reached, Ready, filled};
 
-// A note for each variable: "M exceeds 4,095" is turned back.
+// A note for each variable: "M exceeds 4,095" is refused.
 const VARIABLES: usize = 4096;
 
 type Notes = [usize; VARIABLES];
@@ -17,7 +17,7 @@ const STEP: usize = 65536;
 // In the place of a table that asks for a walk: above every table.
 const MISSING: usize = 65536;
 
-fn wide(x: u16) -> usize
+fn index_of(x: u16) -> usize
     ensures { λ r. ⌜ r ≡ x ⌝ }
 {
     x as usize
@@ -33,8 +33,8 @@ fn note_leaves(notes: &mut Notes, base: usize, leaves: [u16; 4], n: usize)
     while i > 0 {
         i -= 1;
         if i < n {
-            let u = wide(leaves[i]);
-            notes[u] = base + wide(base_truth::pattern(i));
+            let u = index_of(leaves[i]);
+            notes[u] = base + index_of(base_truth::pattern(i));
         }
     }
 }
@@ -52,16 +52,16 @@ fn note_and(notes: &mut Notes, base: usize, v: usize, l: usize, x: u16, r: usize
     ensures { λ z. ⌜ (z ≡ joined l x r y) × (now (notes .exit) ≡ set (now (notes .entry)) v (base + z)) ⌝ }
 {
     let z = and_word(l, x, r, y);
-    notes[v] = base + wide(z);
+    notes[v] = base + index_of(z);
     z
 }
 
 // The table of u over the leaves, where no walk is wanted: "a leaf gives its bit and the walk stops there", and so at all that is noted, at
 // what is no AND, and one step above what is noted. Callers have it without a call when compiled.
-fn near(work: &[u16], m: usize, notes: &mut Notes, base: usize, u: usize) -> usize
-    requires { ⌜ Placed (now work) m × Early m (base + 65536) (now notes) × (base < 65536000000) × (u ≤ m) ×
-        (0 < placeAt (now work) m u) ⌝ }
-    ensures { λ r. ⌜ Near (now (work .entry)) m base u (now (notes .entry)) (now (notes .exit)) r ⌝ }
+fn from_leaves(work: &[u16], m: usize, notes: &mut Notes, base: usize, u: usize) -> usize
+    requires { ⌜ Ordered (now work) m × Early m (base + 65536) (now notes) × (base < 65536000000) × (u ≤ m) ×
+        (0 < positionAt (now work) m u) ⌝ }
+    ensures { λ r. ⌜ FromLeaves (now (work .entry)) m base u (now (notes .entry)) (now (notes .exit)) r ⌝ }
 {
     let t = notes[u];
     if base <= t {
@@ -80,33 +80,40 @@ fn near(work: &[u16], m: usize, notes: &mut Notes, base: usize, u: usize) -> usi
     if y < base {
         return MISSING;
     }
-    wide(note_and(notes, base, u, l, (x - base) as u16, r, (y - base) as u16))
+    index_of(note_and(notes, base, u, l, (x - base) as u16, r, (y - base) as u16))
 }
 
 // The table of an AND that is not noted, by a walk; where it is to be shallow, `MISSING` in the place of a walk from an operand on.
-fn deep(work: &[u16], m: usize, notes: &mut Notes, base: usize, v: usize, shallow: bool) -> usize
-    requires { ⌜ Placed (now work) m × Early m (base + 65536) (now notes) × (base < 65536000000) × (v ≤ m) × (kindAt (now work) m v ≡ andKind) ×
+fn recursive(
+    work: &[u16],
+    m: usize,
+    notes: &mut Notes,
+    base: usize,
+    v: usize,
+    shallow: bool,
+) -> usize
+    requires { ⌜ Ordered (now work) m × Early m (base + 65536) (now notes) × (base < 65536000000) × (v ≤ m) × (kindAt (now work) m v ≡ andKind) ×
         (getD (now notes) v 0 < base) ⌝ }
-    ensures { λ r. ⌜ Near (now (work .entry)) m base v (now (notes .entry)) (now (notes .exit)) r ⌝ }
+    ensures { λ r. ⌜ FromLeaves (now (work .entry)) m base v (now (notes .entry)) (now (notes .exit)) r ⌝ }
     ensures { λ r. ⌜ (shallow ≡ false → r < 65536) ⌝ }
 {
     let l = base_words::left(work, m, v);
     let r = base_words::right(work, m, v);
-    let mut x = near(work, m, notes, base, l / 2);
+    let mut x = from_leaves(work, m, notes, base, l / 2);
     if x >= MISSING {
         if shallow {
             return MISSING;
         }
-        x = deep(work, m, notes, base, l / 2, false);
+        x = recursive(work, m, notes, base, l / 2, false);
     }
-    let mut y = near(work, m, notes, base, r / 2);
+    let mut y = from_leaves(work, m, notes, base, r / 2);
     if y >= MISSING {
         if shallow {
             return MISSING;
         }
-        y = deep(work, m, notes, base, r / 2, false);
+        y = recursive(work, m, notes, base, r / 2, false);
     }
-    wide(note_and(notes, base, v, l, x as u16, r, y as u16))
+    index_of(note_and(notes, base, v, l, x as u16, r, y as u16))
 }
 
 fn same_leaves(a: [u16; 4], b: [u16; 4]) -> bool
@@ -126,7 +133,7 @@ fn same_leaves(a: [u16; 4], b: [u16; 4]) -> bool
 
 // Whether cut k of u has these four leaves.
 fn is_cut(work: &[u16], m: usize, u: usize, k: usize, leaves: [u16; 4]) -> bool
-    requires { ⌜ Room (now work) m × (u ≤ m) × (k < cutLimit) ⌝ }
+    requires { ⌜ HasCapacity (now work) m × (u ≤ m) × (k < cutLimit) ⌝ }
     ensures { λ r. ⌜ (r ≡ true → leavesAt (now (work .entry)) m u k ≡ leaves) ⌝ }
 {
     let c = base_words::load_cut(work, m, u, k);
@@ -139,14 +146,14 @@ fn is_cut(work: &[u16], m: usize, u: usize, k: usize, leaves: [u16; 4]) -> bool
 
 // Whether cut k of u comes before the one with these four leaves: lists ascend by size, then leaves.
 fn is_past(work: &[u16], m: usize, u: usize, k: usize, leaves: [u16; 4]) -> bool
-    requires { ⌜ Room (now work) m × (u ≤ m) × (k < cutLimit) ⌝ }
+    requires { ⌜ HasCapacity (now work) m × (u ≤ m) × (k < cutLimit) ⌝ }
 {
     base_words::cut_size(work, m, u, k) < 4 || base_words::leaf(work, m, u, k, 0) < leaves[0]
 }
 
 // The number of u's cut with these four leaves, or the limit where there is none.
 fn same_cut(work: &[u16], m: usize, u: usize, leaves: [u16; 4]) -> usize
-    requires { ⌜ Room (now work) m × (u ≤ m) × (countAt (now work) m u ≤ cutLimit) ⌝ }
+    requires { ⌜ HasCapacity (now work) m × (u ≤ m) × (countAt (now work) m u ≤ cutLimit) ⌝ }
     ensures { λ r. ⌜ SameCut (now (work .entry)) m u leaves r ⌝ }
 {
     let mut k = base_words::count(work, m, u);
@@ -166,7 +173,7 @@ fn same_cut(work: &[u16], m: usize, u: usize, leaves: [u16; 4]) -> usize
 // that takes four inputs in turn has at each. Then the operand has the same cut, and its function is stored. An operand that has not
 // reaches three of the leaves at most, and each variable that it has inside them, made a leaf, is one of another cut of the operand. Those
 // are 18 at most, so a walk meets at most 17 variables below each operand. A shallow walk costs less than a look at the operand's cuts.
-fn far(
+fn from_stored(
     work: &[u16],
     m: usize,
     notes: &mut Notes,
@@ -175,13 +182,13 @@ fn far(
     n: usize,
     u: usize,
 ) -> u16
-    requires { ⌜ Placed (now work) m × Noted (now work) m (take n leaves) base (now notes) × Early m (base + 65536) (now notes) ×
+    requires { ⌜ Ordered (now work) m × Noted (now work) m (take n leaves) base (now notes) × Early m (base + 65536) (now notes) ×
         Done (now work) m u × (base < 65536000000) × (u ≤ m) × (countAt (now work) m u ≤ cutLimit) × (kindAt (now work) m u ≡ andKind) ×
         (getD (now notes) u 0 < base) × (n ≤ 4) ⌝ }
     ensures { λ r. ⌜ Walked (now (work .entry)) m (take n leaves) base u (now (notes .exit)) r ×
         Early m (base + 65536) (now (notes .exit)) ⌝ }
 {
-    let x = deep(work, m, notes, base, u, true);
+    let x = recursive(work, m, notes, base, u, true);
     if x < MISSING {
         return x as u16;
     }
@@ -193,7 +200,7 @@ fn far(
             return f as u16;
         }
     }
-    deep(work, m, notes, base, u, false) as u16
+    recursive(work, m, notes, base, u, false) as u16
 }
 
 // The function of a cut of v: v is of this kind and has the operands l and r.
@@ -220,17 +227,17 @@ fn cut_word(
     if kind != base_words::AND {
         return 0;
     }
-    let x = near(work, m, notes, base, l / 2);
+    let x = from_leaves(work, m, notes, base, l / 2);
     let p = if x < MISSING {
         x as u16
     } else {
-        far(work, m, notes, base, leaves, n, l / 2)
+        from_stored(work, m, notes, base, leaves, n, l / 2)
     };
-    let y = near(work, m, notes, base, r / 2);
+    let y = from_leaves(work, m, notes, base, r / 2);
     let q = if y < MISSING {
         y as u16
     } else {
-        far(work, m, notes, base, leaves, n, r / 2)
+        from_stored(work, m, notes, base, leaves, n, r / 2)
     };
     and_word(l, p, r, q)
 }
@@ -280,15 +287,15 @@ fn fill_node(work: &mut [u16], m: usize, notes: &mut Notes, base: usize, v: usiz
     next
 }
 
-// The function of every cut of every placed variable, in placing order.
-pub fn functions(work: &mut [u16], m: usize, placed: usize)
-    requires { ⌜ Ready (now work) m placed ⌝ }
-    ensures { λ _. ⌜ now (work .exit) ≡ filled (now (work .entry)) m placed ⌝ }
+// The function of every cut of every ordered variable, in topological order.
+pub fn functions(work: &mut [u16], m: usize, ordered: usize)
+    requires { ⌜ Ready (now work) m ordered ⌝ }
+    ensures { λ _. ⌜ now (work .exit) ≡ filled (now (work .entry)) m ordered ⌝ }
 {
     let mut notes = [0usize; VARIABLES];
     let mut base = STEP;
     let mut i = 0;
-    while i < placed {
+    while i < ordered {
         let v = base_words::slot(work, m, i);
         base = fill_node(work, m, &mut notes, base, v);
         i += 1;

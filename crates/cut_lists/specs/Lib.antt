@@ -1,13 +1,13 @@
--- `Keys`: a cut as one number, and the cuts of a node as a list of such numbers. `Listing`: the lists of all variables, in placing order.
--- `Represents`: the words that hold a placed graph. `Packs`: the leaves of a cut in one number.
-pub mod Keys
-pub mod Packs
-pub mod Listing
-pub mod Represents
-pub use Keys.{Building, Moved, Place, Rising, keyRoom}
-unfoldable pub use Keys.{added, addedCut, crossKeys, key, keyFrom, keyWords, nodeKeys, putKeys, rowKeys}
-pub use Packs.{Digit, Masked, Packed, columnMask, rowMask}
-unfoldable pub use Packs.{pack, shut, signature, unitAt}
-pub use Listing.{Known, Operands, Ready, State}
-unfoldable pub use Listing.{cutsNow, few, join, listed, listing, onward, stepCuts, stored}
-pub use Represents.{Uncut}
+-- `CutKeys`: a cut as one number, and the cuts of a node as a list of such numbers. `CutLists`: the lists of all variables, in topological order.
+-- `RepresentedWords`: the words that hold an ordered graph. `PackedCuts`: the leaves of a cut in one number.
+pub mod CutKeys
+pub mod PackedCuts
+pub mod CutLists
+pub mod RepresentedWords
+pub use CutKeys.{Building, Moved, InsertPosition, Rising, keyCapacity}
+unfoldable pub use CutKeys.{added, addedCut, mergedKeys, key, keyFrom, keyWords, nodeKeys, putKeys, mergeRowKeys}
+pub use PackedCuts.{Digit, Masked, Packed, columnMask, mergeRowMask}
+unfoldable pub use PackedCuts.{pack, conflictMask, signature, unitAt}
+pub use CutLists.{Known, Operands, Ready, State}
+unfoldable pub use CutLists.{cutsNow, few, join, listed, listing, onward, stepCuts, stored}
+pub use RepresentedWords.{Uncut}

@@ -1,7 +1,7 @@
--- `Passes`: the second pass finds what it asks for, and what both leave. `Places`: in the words of an accepted graph each AND is placed behind its operands.
--- `Whole`: what the layer answers and leaves is what `model` defines.
-pub mod Passes
-pub mod Places
-pub mod Whole
-pub use Places.{earlier-slot}
-pub use Whole.{enumerate-listed, enumerate-ready, enumerate-represents, enumerate-verdict}
+-- `CutPasses`: the second pass finds what it asks for, and what both leave. `OrderedNodes`: in the words of an accepted graph each AND is ordered behind its operands.
+-- `EnumerationLaws`: what the layer answers and leaves is what `model` defines.
+pub mod CutPasses
+pub mod OrderedNodes
+pub mod EnumerationLaws
+pub use OrderedNodes.{earlier-slot}
+pub use EnumerationLaws.{enumerate-listed, enumerate-ready, enumerate-represents, enumerate-verdict}

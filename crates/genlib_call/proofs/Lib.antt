@@ -1,4 +1,4 @@
--- `Judging`: a group judged, by what each reader of it found. `Passing`: the two passes, group by group, and what the call answers by what they find.
-pub mod Judging
-pub mod Passing
-pub use Passing.{length-within}
+-- `GateValidation`: a group validated, by what each reader of it found. `GatePasses`: the two passes, group by group, and what the call answers by what they find.
+pub mod GateValidation
+pub mod GatePasses
+pub use GatePasses.{length-within}

@@ -1,13 +1,12 @@
 // A genlib text, converted: our cell text written into lent text memory, or the first refusal of 1, 22 to 24 and 18.
-// Two passes judge each group by the same function: the first measures, the second writes, so that "a refusal leaves it unchanged" and no group is stored.
+// Two passes validate each group by the same function: the first measures, the second writes, so that "a refusal leaves it unchanged" and no group is stored.
 ghost use Rattle.base.specs.{_≡_, _+_, _≤_, _<_, length};
-ghost use Rattle.model.specs.{tokens, pinDelay, delaysOf, gateFrom, readGroup, readGenlib, genlibText, writtenAnswer, writtenPair};
-ghost use Rattle.model.specs.{writtenBy, writtenAfter, GenlibDemand};
-ghost use Rattle.theory_foundry.specs.{GenlibRefusals};
+ghost use Rattle.model.specs.{tokens, pinDelay, delaysOf, gateFrom, readGroup, readGenlib};
+ghost use Rattle.promises.specs.{Conversion};
 ghost use Rattle.base_text.specs.{Wrote};
 ghost use Rattle.genlib_expression.specs.{namesAt};
 ghost use Rattle.genlib_groups.specs.{valueIn, linesBehind, groupAt};
-ghost use Rattle.genlib_call.specs.{delaysIn, GateIs, gateOption, Only24, judgedRead, sizedRead, InLine, Few, measured, lineOf};
+ghost use Rattle.genlib_call.specs.{delaysIn, GateIs, gateOption, Only24, validatedRead, sizedRead, InLine, Few, measured, lineOf};
 ghost use Rattle.genlib_call.specs.{textFor};
 use base_text::Value;
 use genlib_celltext::Gate;
@@ -21,7 +20,7 @@ enum Delays {
 }
 
 // A group's gate, or the number of its refusal.
-enum Judged {
+enum Validated {
     Cell(Gate),
     Refused(usize),
 }
@@ -61,7 +60,7 @@ fn four_delays(s: &[u8], from: usize, w: &[u8], p: Pins) -> Delays
 }
 
 // "24 when a used figure has over three decimals or exceeds 65.535": the gate of a group that has its form and its size. The line w begins at `at`.
-fn gate_of(s: &[u8], from: usize, w: &[u8], at: usize, p: Pins) -> Judged
+fn gate_of(s: &[u8], from: usize, w: &[u8], at: usize, p: Pins) -> Validated
     requires { ⌜ (from ≤ length (now s)) × InLine (now s) at (now w) × Few (now w) p ⌝ }
     ensures { λ r. ⌜ GateIs (now (s .entry)) r × (gateOption (now (s .entry)) r ≡ gateFrom (linesBehind (now (s .entry)) from) (tokens (now (w .entry)))) ×
         Only24 r ⌝ }
@@ -72,7 +71,7 @@ fn gate_of(s: &[u8], from: usize, w: &[u8], at: usize, p: Pins) -> Judged
         Value::Is(area) => match four_delays(s, from, w, p) {
             Delays::Four(d0, d1, d2, d3) => {
                 let table = genlib_expression::table(w, n.to, p);
-                Judged::Cell(Gate {
+                Validated::Cell(Gate {
                     from: at + name.from,
                     to: at + name.to,
                     pins: p.n as u16,
@@ -84,36 +83,36 @@ fn gate_of(s: &[u8], from: usize, w: &[u8], at: usize, p: Pins) -> Judged
                     d3,
                 })
             }
-            Delays::Broken => Judged::Refused(24),
+            Delays::Broken => Validated::Refused(24),
         },
-        Value::Broken => Judged::Refused(24),
+        Value::Broken => Validated::Refused(24),
     }
 }
 
 // "23 when a gate has over four pins or brackets over 16 deep", then 24.
-fn sized_gate(s: &[u8], from: usize, w: &[u8], at: usize) -> Judged
+fn sized_gate(s: &[u8], from: usize, w: &[u8], at: usize) -> Validated
     requires { ⌜ (from ≤ length (now s)) × InLine (now s) at (now w) ⌝ }
-    ensures { λ r. ⌜ GateIs (now (s .entry)) r × (judgedRead (now (s .entry)) at r ≡ sizedRead (linesBehind (now (s .entry)) from) (tokens (now (w .entry)))
+    ensures { λ r. ⌜ GateIs (now (s .entry)) r × (validatedRead (now (s .entry)) at r ≡ sizedRead (linesBehind (now (s .entry)) from) (tokens (now (w .entry)))
         at) ⌝ }
 {
     let n = genlib_expression::nth(w, 4);
     let start = n.to;
     let p = genlib_expression::find_pins(w, start);
     if p.n > 4 || !genlib_expression::is_shallow(w, start) {
-        return Judged::Refused(23);
+        return Validated::Refused(23);
     }
     gate_of(s, from, w, at, p)
 }
 
 // The group at a place: 22, 23 and 24, "tried in this order".
-fn judge(s: &[u8], at: usize) -> Judged
+fn validate(s: &[u8], at: usize) -> Validated
     requires { ⌜ (at < length (now s)) × (length (now s) ≤ 65536) ⌝ }
-    ensures { λ r. ⌜ GateIs (now (s .entry)) r × (judgedRead (now (s .entry)) at r ≡ readGroup (groupAt (now (s .entry)) at)) ⌝ }
+    ensures { λ r. ⌜ GateIs (now (s .entry)) r × (validatedRead (now (s .entry)) at r ≡ readGroup (groupAt (now (s .entry)) at)) ⌝ }
 {
     let l = base_text::line(s, at);
     let stop = l.stop;
     if stop == l.next || !genlib_groups::is_group(s, l.next, &s[at..stop]) {
-        return Judged::Refused(22);
+        return Validated::Refused(22);
     }
     sized_gate(s, l.next, &s[at..stop], at)
 }
@@ -128,12 +127,12 @@ fn measure(s: &[u8]) -> Written
     let mut len = 33;
     let mut at = 0;
     while at < s.len() {
-        match judge(s, at) {
-            Judged::Cell(g) => {
+        match validate(s, at) {
+            Validated::Cell(g) => {
                 len += genlib_celltext::gate_len(g);
                 at = genlib_groups::group_end(s, at);
             }
-            Judged::Refused(number) => {
+            Validated::Refused(number) => {
                 return Written::Refused(number, at);
             }
         }
@@ -146,9 +145,9 @@ fn write_gate(s: &[u8], out: &mut [u8], to: usize, at: usize) -> usize
     requires { ⌜ (at < length (now s)) × (length (now s) ≤ 65536) × (to + length (lineOf (groupAt (now s) at)) ≤ length (now out)) ⌝ }
     ensures { λ r. ⌜ Wrote (now (out .entry)) (now (out .exit)) to r (lineOf (groupAt (now (s .entry)) at)) ⌝ }
 {
-    match judge(s, at) {
-        Judged::Cell(g) => genlib_celltext::put_gate(out, to, s, g),
-        Judged::Refused(_) => to,
+    match validate(s, at) {
+        Validated::Cell(g) => genlib_celltext::put_gate(out, to, s, g),
+        Validated::Refused(_) => to,
     }
 }
 
@@ -169,11 +168,7 @@ fn write(s: &[u8], out: &mut [u8]) -> usize
 // "Read GATE and PIN lines and write our cell text." The answer is the text's length, or the first refusal: "1 is tried first, on the genlib text, 18 last
 // for this memory; a refusal leaves it unchanged", and success "keeps the bytes after the text".
 pub fn convert(genlib: &[u8], text: &mut [u8]) -> Written
-    ensures answer { λ r. ⌜ r ≡ writtenAnswer (genlibText (now (genlib .entry)) (length (now (text .entry)))) ⌝ }
-    ensures bytes { λ _. ⌜ now (text .exit) ≡ writtenAfter (genlibText (now (genlib .entry)) (length (now (text .entry)))) (now (text .entry)) ⌝ }
-    ensures cells { λ _. ⌜ GenlibDemand (now (genlib .entry)) (length (now (text .entry))) ⌝ }
-    ensures refusals { λ _. ⌜ GenlibRefusals (now (genlib .entry)) (length (now (text .entry))) ⌝ }
-    ensures ruling { λ r. ⌜ writtenPair r ≡ writtenBy (genlibText (now (genlib .entry)) (length (now (text .entry)))) ⌝ }
+    ensures { λ r. ⌜ Conversion (now (genlib .entry)) (now (text .entry)) r (now (text .exit)) ⌝ }
 {
     if genlib.len() > 65536 {
         return Written::Refused(1, 0);

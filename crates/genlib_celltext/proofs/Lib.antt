@@ -1,2 +1,2 @@
--- `Counting`: the parts of a gate's line, and their lengths.
-pub mod Counting
+-- `CellTextLength`: the parts of a gate's line, and their lengths.
+pub mod CellTextLength

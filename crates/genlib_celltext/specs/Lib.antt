@@ -1,3 +1,3 @@
--- `Gates`: the gate that is written, as `model` has it.
-pub mod Gates
-pub use Gates.{Stands, delaysOf, gateIn, nameIn}
+-- `CellLineText`: the gate that is written, as `model` has it.
+pub mod CellLineText
+pub use CellLineText.{Stands, delaysOf, gateIn, nameIn}

@@ -1,11 +1,11 @@
--- `Tokens`: the token at a place. `Walk`: from token to token. `Scanning`: the form.
--- `Pinning`: the list of pins. `Values`: the value of an expression.
-pub mod Tokens
-pub mod Walk
-pub mod Scanning
-pub mod Pinning
-pub mod Values
-pub use Tokens.{lead-part}
-pub use Walk.{all-turn, nothing-left, step}
-pub use Scanning.{lead-none}
-pub use Pinning.{length-names, name-of}
+-- `TokenSpans`: the token at a place. `ExpressionWalk`: from token to token. `ExpressionScan`: the form.
+-- `PinNumbering`: the list of pins. `ExpressionValues`: the value of an expression.
+pub mod TokenSpans
+pub mod ExpressionWalk
+pub mod ExpressionScan
+pub mod PinNumbering
+pub mod ExpressionValues
+pub use TokenSpans.{lead-part}
+pub use ExpressionWalk.{all-step, nothing-left, step}
+pub use ExpressionScan.{lead-none}
+pub use PinNumbering.{length-names, name-of}

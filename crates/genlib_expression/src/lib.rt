@@ -4,10 +4,10 @@
 // line's tokens; here a place in the line stands for the tokens from there on.
 ghost use Rattle.base.specs.{_≡_, true, [], ℕ, _^_, _≤_, _<_, length, getD, drop};
 ghost use Rattle.model.specs.{bit, same, flip, tokens, isWordByte, isWord, span, shallow, scan, formed, isPin};
-ghost use Rattle.model.specs.{withName, addPins, pinsOf, indexOf, nameValue, rowBits, turns, closeBracket, factorOf, productOf, sumOf};
+ghost use Rattle.model.specs.{withName, addPins, pinsOf, indexOf, nameValue, rowBits, negatedBySigns, closeBracket, factorOf, productOf, sumOf};
 ghost use Rattle.model.specs.GenlibFormula.{valueOf, named, within};
-ghost use Rattle.genlib_expression.specs.{Nth, partsAt, dueStep, afterStep, depthOf, openedBy};
-ghost use Rattle.genlib_expression.specs.{endAt, tokenAt, behindAt, restAt, namesAt, takenAt, turnedAt, Within, Listed};
+ghost use Rattle.genlib_expression.specs.{Nth, partsAt, expectedStep, afterStep, depthOf, openedBy};
+ghost use Rattle.genlib_expression.specs.{endAt, tokenAt, behindAt, restAt, namesAt, takenAt, signedAt, Within, Listed};
 ghost use Rattle.genlib_expression.specs.{WordPart, withPin, addPin, pinsFrom, noPins};
 use base_text::Class;
 use model::Scan;
@@ -31,7 +31,7 @@ enum Parsed {
 }
 
 // A value that signs may have turned, and the place behind them.
-struct Turned {
+struct Signed {
     value: bool,
     at: usize,
 }
@@ -102,16 +102,16 @@ pub fn is_word(w: &[u8]) -> bool
 
 // ---- the form of an expression
 
-// What a token with the first byte b makes of a form in which a factor is due: `!` and `(` leave it due, a name is one.
-fn scan_due(depth: usize, b: u8, name: bool) -> Scan
+// What a token with the first byte b makes of a form in which a factor is expected: `!` and `(` leave it expected, a name is one.
+fn scan_expected(depth: usize, b: u8, name: bool) -> Scan
     requires { ⌜ depth < 18446744073709551615 ⌝ }
-    ensures { λ r. ⌜ r ≡ dueStep depth b name ⌝ }
+    ensures { λ r. ⌜ r ≡ expectedStep depth b name ⌝ }
 {
     if b == b'!' {
-        return Scan::Due(depth);
+        return Scan::Expected(depth);
     }
     if b == b'(' {
-        return Scan::Due(depth + 1);
+        return Scan::Expected(depth + 1);
     }
     if name {
         Scan::After(depth)
@@ -127,7 +127,7 @@ fn scan_after(depth: usize, b: u8) -> Scan
 {
     match b {
         b'\'' => Scan::After(depth),
-        b'*' | b'+' => Scan::Due(depth),
+        b'*' | b'+' => Scan::Expected(depth),
         b')' => {
             if depth > 0 {
                 Scan::After(depth - 1)
@@ -140,7 +140,7 @@ fn scan_after(depth: usize, b: u8) -> Scan
     }
 }
 
-// The state behind a token by its place: at first a factor is due, and behind the `;` no token may stand. An empty one changes nothing.
+// The state behind a token by its place: at first a factor is expected, and behind the `;` no token may stand. An empty one changes nothing.
 fn scan_at(w: &[u8], t: Token, s: Scan) -> Scan
     requires { ⌜ (t .from ≤ t .to) × (t .to ≤ length (now w)) × (depthOf s < 18446744073709551615) ⌝ }
     ensures { λ r. ⌜ r ≡ scan s (partsAt (now (w .entry)) t) ⌝ }
@@ -151,7 +151,7 @@ fn scan_at(w: &[u8], t: Token, s: Scan) -> Scan
         return s;
     }
     match s {
-        Scan::Due(depth) => scan_due(depth, w[from], is_word(&w[from..to])),
+        Scan::Expected(depth) => scan_expected(depth, w[from], is_word(&w[from..to])),
         Scan::After(depth) => scan_after(depth, w[from]),
         Scan::Done => Scan::Broken,
         Scan::Broken => Scan::Broken,
@@ -164,7 +164,7 @@ pub fn is_formed(w: &[u8], from: usize) -> bool
     requires { ⌜ from ≤ length (now w) ⌝ }
     ensures { λ r. ⌜ r ≡ formed (restAt (now (w .entry)) from) ⌝ }
 {
-    let mut s = Scan::Due(0);
+    let mut s = Scan::Expected(0);
     let mut at = from;
     while at < w.len() {
         let t = next_token(w, at);
@@ -298,16 +298,17 @@ pub fn find_pins(w: &[u8], from: usize) -> Pins
 // ---- the value of an expression, in 16 rows at once
 
 // A value, turned once for each sign b that stands there: "any number of `!` before a factor and of `'` after it".
-fn turn(w: &[u8], from: usize, b: u8, start: bool) -> Turned
+fn negated_by_signs(w: &[u8], from: usize, b: u8, start: bool) -> Signed
     requires { ⌜ from ≤ length (now w) ⌝ }
-    ensures { λ r. ⌜ (from ≤ r .at) × (r .at ≤ length (now (w .entry))) × (turnedAt (now (w .entry)) r ≡ turns b start (restAt (now (w .entry)) from)) ⌝ }
+    ensures { λ r. ⌜ (from ≤ r .at) × (r .at ≤ length (now (w .entry))) × (signedAt (now (w .entry)) r
+        ≡ negatedBySigns b start (restAt (now (w .entry)) from)) ⌝ }
 {
     let mut value = start;
     let mut at = from;
     loop {
         let next = behind(w, at, b);
         if next == at {
-            return Turned { value, at };
+            return Signed { value, at };
         }
         value = !value;
         at = next;
@@ -339,7 +340,7 @@ fn close(w: &[u8], at: usize, odd: bool, v: u16) -> Parsed
     if next == at {
         return Parsed::Broken;
     }
-    let q = turn(w, next, b'\'', odd);
+    let q = negated_by_signs(w, next, b'\'', odd);
     Parsed::At(base_truth::in_phase(q.value, v), q.at)
 }
 
@@ -354,7 +355,7 @@ fn name(w: &[u8], at: usize, p: Pins, odd: bool) -> Parsed
     let to = t.to;
     if is_word(&w[from..to]) {
         let v = name_value(w, p, &w[from..to]);
-        let q = turn(w, to, b'\'', odd);
+        let q = negated_by_signs(w, to, b'\'', odd);
         Parsed::At(base_truth::in_phase(q.value, v), q.at)
     } else {
         Parsed::Broken
@@ -363,7 +364,7 @@ fn name(w: &[u8], at: usize, p: Pins, odd: bool) -> Parsed
 
 // "a sum is made of products, a product of factors, and a bracketed factor of a sum again": three functions in a cycle. `depth`, the brackets
 // that may still open, falls from `factor` to `sum`, so the stack is at most three calls for each of them, whatever the text; the bytes that
-// remain fall from turn to turn of each loop.
+// remain fall from step to step of each loop.
 fn sum(w: &[u8], from: usize, p: Pins, depth: usize) -> Parsed
     requires { ⌜ (from ≤ length (now w)) × (p .n ≤ 4) ⌝ }
     ensures within { λ r. ⌜ Within from (length (now (w .entry))) r ⌝ }
@@ -414,7 +415,7 @@ fn factor(w: &[u8], from: usize, p: Pins, depth: usize) -> Parsed
     ensures same { λ r. ⌜ ((row : ℕ) → row < 16 → (k : ℕ) → length (now (w .entry)) < k → takenAt (now (w .entry)) row r ≡ factorOf
         (nameValue (namesAt (now (w .entry)) p) row) (within (nameValue (namesAt (now (w .entry)) p) row) k depth) (restAt (now (w .entry)) from)) ⌝ }
 {
-    let t = turn(w, from, b'!', false);
+    let t = negated_by_signs(w, from, b'!', false);
     let at = t.at;
     let odd = t.value;
     let inside = behind(w, at, b'(');

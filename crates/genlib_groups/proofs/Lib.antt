@@ -1,6 +1,6 @@
--- `Figures`: figures in thousandths. `LineLaws`: the line at a place. `Grouping`: the lines up to the next GATE line, and the one that counts.
-pub mod Figures
-pub mod LineLaws
-pub mod Grouping
-pub use LineLaws.{Bounded, bounded}
-pub use Grouping.{value-none, value-some}
+-- `GenlibFigures`: figures in thousandths. `GenlibLineLaws`: the line at a place. `GroupReading`: the lines up to the next GATE line, and the one that counts.
+pub mod GenlibFigures
+pub mod GenlibLineLaws
+pub mod GroupReading
+pub use GenlibLineLaws.{Bounded, bounded}
+pub use GroupReading.{value-none, value-some}

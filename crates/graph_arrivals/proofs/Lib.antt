@@ -1,7 +1,7 @@
--- `Lines`: a turn of the reader is a line of the crate model's. `Turns`: the lines one after the other. `First`: the first line.
--- `Timed`: the words hold the arrivals of the graph so timed.
-pub mod Lines
-pub mod Turns
-pub mod First
-pub mod Timed
-pub use Timed.{Slotted, Stored, listed-all, stored-all}
+-- `ArrivalLines`: a step of the reader is a line of the crate model's. `ArrivalSteps`: the lines one after the other. `NoArrivals`: the first line.
+-- `ArrivalWords`: the words hold the arrivals of the graph so timed.
+pub mod ArrivalLines
+pub mod ArrivalSteps
+pub mod NoArrivals
+pub mod ArrivalWords
+pub use ArrivalWords.{Slotted, Stored, listed-all, stored-all}

@@ -1,7 +1,7 @@
--- `Reading`: what each reader answers. `Storing`: the lines up to the first refusal, and the words with their arrivals.
-pub mod Reading
-pub mod Storing
-pub use Reading.{pickJudged}
-unfoldable pub use Reading.{entryAt, headLine, judgedAt}
-pub use Storing.{Listable, onNumbers}
-unfoldable pub use Storing.{listed, listedLines, passed, putAll, putLate}
+-- `ArrivalReading`: what each reader answers. `ArrivalStores`: the lines up to the first refusal, and the words with their arrivals.
+pub mod ArrivalReading
+pub mod ArrivalStores
+pub use ArrivalReading.{pickValidated}
+unfoldable pub use ArrivalReading.{entryAt, headLine, validatedAt}
+pub use ArrivalStores.{Listable, onNumbers}
+unfoldable pub use ArrivalStores.{listed, listedLines, passed, putAll, putInputArrival}

@@ -6,9 +6,9 @@ use base_text::Number;
 use model::Header;
 use model::Verdict;
 ghost use Rattle.base.specs.{_≡_, [], _+_, _≤_, _<_, drop};
-ghost use Rattle.model.specs.{linesFrom, verdictOf, rulingOf, verdictRuling, readLate, readArrivals};
-ghost use Rattle.base_words.specs.{Room, slotAt};
-ghost use Rattle.graph_arrivals.specs.{entryAt, judgedAt, Listable, putLate, putAll, passed, listed};
+ghost use Rattle.model.specs.{linesFrom, verdictOf, refusalOf, verdictRefusal, readInputArrivals, readArrivals};
+ghost use Rattle.base_words.specs.{HasCapacity, slotAt};
+ghost use Rattle.graph_arrivals.specs.{entryAt, validatedAt, Listable, putInputArrival, putAll, passed, listed};
 
 // A line that has its form: the index, the arrival, and the next line.
 pub enum Entry {
@@ -17,12 +17,12 @@ pub enum Entry {
 }
 
 // The same, or the number of the line's refusal.
-pub enum Judged {
+pub enum Validated {
     Is(u16, u16, Cursor),
     Refused(usize),
 }
 
-fn wide(x: u16) -> usize
+fn index_of(x: u16) -> usize
     ensures { λ r. ⌜ r ≡ x ⌝ }
 {
     x as usize
@@ -31,7 +31,7 @@ fn wide(x: u16) -> usize
 // ---- a line
 
 // The index and the arrival of a line.
-fn read_late(s: &[u8], at: usize) -> Entry
+fn read_line(s: &[u8], at: usize) -> Entry
     ensures { λ r. ⌜ r ≡ entryAt (now (s .entry)) at ⌝ }
 {
     let c = Cursor { at };
@@ -45,51 +45,51 @@ fn read_late(s: &[u8], at: usize) -> Entry
 }
 
 // "25 when a line breaks its form; 26 when an index is I or more, or is repeated": a listed index has its mark, whatever arrival it is listed with.
-fn judge(s: &[u8], at: usize, inputs: usize, marks: &[u8; 4096]) -> Judged
+fn validate(s: &[u8], at: usize, inputs: usize, seen: &[u8; 4096]) -> Validated
     requires { ⌜ inputs ≤ 4096 ⌝ }
-    ensures { λ r. ⌜ r ≡ judgedAt (now (s .entry)) at inputs (now (marks .entry)) ⌝ }
+    ensures { λ r. ⌜ r ≡ validatedAt (now (s .entry)) at inputs (now (seen .entry)) ⌝ }
 {
-    match read_late(s, at) {
+    match read_line(s, at) {
         Entry::Is(index, time, next) => {
-            let i = wide(index);
-            if i >= inputs || marks[i] != 0 {
-                return Judged::Refused(26);
+            let i = index_of(index);
+            if i >= inputs || seen[i] != 0 {
+                return Validated::Refused(26);
             }
-            Judged::Is(index, time, next)
+            Validated::Is(index, time, next)
         }
-        Entry::Broken => Judged::Refused(25),
+        Entry::Broken => Validated::Refused(25),
     }
 }
 
 // ---- the words
 
-// The arrival of the input at an index: its variable stands in the placing order behind variable 0 and the inputs before it.
-fn store_late(work: &mut [u16], m: usize, index: u16, time: u16)
-    requires { ⌜ Room (now work) m × (index + 1 ≤ m) × (slotAt (now work) m (index + 1) ≤ m) ⌝ }
-    ensures { λ _. ⌜ now (work .exit) ≡ putLate (now (work .entry)) m index time ⌝ }
+// The arrival of the input at an index: its variable stands in the topological order behind variable 0 and the inputs before it.
+fn store_arrival(work: &mut [u16], m: usize, index: u16, time: u16)
+    requires { ⌜ HasCapacity (now work) m × (index + 1 ≤ m) × (slotAt (now work) m (index + 1) ≤ m) ⌝ }
+    ensures { λ _. ⌜ now (work .exit) ≡ putInputArrival (now (work .entry)) m index time ⌝ }
 {
-    let i = wide(index);
+    let i = index_of(index);
     let v = base_words::slot(work, m, i + 1);
-    base_words::set_late(work, m, v, time);
+    base_words::set_input_arrival(work, m, v, time);
 }
 
 // The lines from a place on, "both line by line .., at the line's offset".
 fn read_lines(s: &[u8], from: usize, h: Header, work: &mut [u16]) -> Verdict
     requires { ⌜ Listable (now work) (h .size) (h .inputs) ⌝ }
-    ensures { λ r. ⌜ r ≡ verdictOf (readLate (h .inputs) [] (linesFrom from [] (drop from (now (s .entry))))) ⌝ }
+    ensures { λ r. ⌜ r ≡ verdictOf (readInputArrivals (h .inputs) [] (linesFrom from [] (drop from (now (s .entry))))) ⌝ }
     ensures { λ _. ⌜ now (work .exit) ≡ putAll (now (work .entry)) (h .size) (passed (h .inputs) [] (linesFrom from [] (drop from (now (s .entry))))) ⌝ }
 {
-    let mut marks = [0u8; 4096];
+    let mut seen = [0u8; 4096];
     let mut at = from;
     while at < s.len() {
-        match judge(s, at, h.inputs, &marks) {
-            Judged::Is(index, time, next) => {
-                store_late(work, h.size, index, time);
-                let i = wide(index);
-                marks[i] = 1;
+        match validate(s, at, h.inputs, &seen) {
+            Validated::Is(index, time, next) => {
+                store_arrival(work, h.size, index, time);
+                let i = index_of(index);
+                seen[i] = 1;
                 at = next.at;
             }
-            Judged::Refused(number) => return Verdict::Refused(number, at),
+            Validated::Refused(number) => return Verdict::Refused(number, at),
         }
     }
     Verdict::Accepted
@@ -99,7 +99,7 @@ fn read_lines(s: &[u8], from: usize, h: Header, work: &mut [u16]) -> Verdict
 pub fn read(s: &[u8], h: Header, work: &mut [u16]) -> Verdict
     requires { ⌜ Listable (now work) (h .size) (h .inputs) ⌝ }
     ensures answer { λ r. ⌜ r ≡ verdictOf (readArrivals (h .inputs) (now (s .entry))) ⌝ }
-    ensures ruling { λ r. ⌜ verdictRuling r ≡ rulingOf (readArrivals (h .inputs) (now (s .entry))) ⌝ }
+    ensures refusal { λ r. ⌜ verdictRefusal r ≡ refusalOf (readArrivals (h .inputs) (now (s .entry))) ⌝ }
     ensures stored { λ _. ⌜ now (work .exit) ≡ putAll (now (work .entry)) (h .size) (listed (h .inputs) (now (s .entry))) ⌝ }
 {
     if s.len() == 0 {

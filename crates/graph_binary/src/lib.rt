@@ -1,15 +1,15 @@
 // AIGER's binary form behind its header, read into the lent words: O output lines, then A ANDs.
 // "Inputs are variables 1 to I and ANDs follow in sequence. Each AND is two differences, left minus first operand and first minus second."
 ghost use Rattle.base.specs.{_≡_, true, _+_, _*_, _≤_, _<_, length};
-ghost use Rattle.model.specs.{need, holds, verdictOf, verdictRuling, rulingOf, lessBy, readHeader, readGraph};
-ghost use Rattle.graph_placing.specs.{Fit};
-ghost use Rattle.graph_loading.specs.{dueCount};
-ghost use Rattle.graph_binary.specs.{lessOf, gateAt, inputLiterals, inputTurn, inputLeft, outputTurn, outputLeft, gateTurn, gateLeft};
-ghost use Rattle.graph_binary.specs.{passTurn, passWords, asVerdict, binaryWords};
+ghost use Rattle.model.specs.{need, holds, verdictOf, verdictRefusal, refusalOf, lessBy, readHeader, readGraph};
+ghost use Rattle.graph_order.specs.{Fit};
+ghost use Rattle.graph_loading.specs.{expectedCount};
+ghost use Rattle.graph_binary.specs.{lessOf, gateAt, inputLiterals, inputStep, inputLeft, outputStep, outputLeft, gateStep, gateLeft};
+ghost use Rattle.graph_binary.specs.{passStep, passWords, asVerdict, binaryWords};
 use base_text::Cursor;
 use base_text::Number;
+use graph_loading::LineResult;
 use graph_loading::Literals;
-use graph_loading::Turn;
 use model::Header;
 use model::Verdict;
 
@@ -83,7 +83,7 @@ fn input_literals(at: usize, k: usize) -> Literals
 // "Inputs are variables 1 to I".
 fn store_inputs(work: &mut [u16], h: Header)
     requires { ⌜ Fit h (now work) ⌝ }
-    ensures { λ _. ⌜ now (work .exit) ≡ passWords inputTurn (inputLeft h) (h .inputs) 0 (h .next) (now (work .entry)) ⌝ }
+    ensures { λ _. ⌜ now (work .exit) ≡ passWords inputStep (inputLeft h) (h .inputs) 0 (h .next) (now (work .entry)) ⌝ }
 {
     let mut k = 0;
     while k < h.inputs {
@@ -94,15 +94,15 @@ fn store_inputs(work: &mut [u16], h: Header)
 
 // ---- "Output lines are text as before and keep 11 and 12"
 
-// Due line k, an output line, at a place of the text: either ending is for "library and ASCII graph", so byte 10 alone ends it. A missing line's place is
+// Expected line k, an output line, at a place of the text: either ending is for "library and ASCII graph", so byte 10 alone ends it. A missing line's place is
 // the text's length.
-fn output_turn(s: &[u8], at: usize, work: &mut [u16], h: Header, k: usize) -> Turn
-    requires { ⌜ Fit h (now work) × (k < dueCount h) ⌝ }
-    ensures answer { λ r. ⌜ r ≡ outputTurn (now (s .entry)) h k at (now (work .entry)) ⌝ }
+fn output_step(s: &[u8], at: usize, work: &mut [u16], h: Header, k: usize) -> LineResult
+    requires { ⌜ Fit h (now work) × (k < expectedCount h) ⌝ }
+    ensures answer { λ r. ⌜ r ≡ outputStep (now (s .entry)) h k at (now (work .entry)) ⌝ }
     ensures left { λ _. ⌜ now (work .exit) ≡ outputLeft (now (s .entry)) h k at (now (work .entry)) ⌝ }
 {
     if at >= s.len() {
-        return Turn::Refused(11, s.len());
+        return LineResult::Refused(11, s.len());
     }
     let c = Cursor { at };
     match c.number_then(s, 10) {
@@ -114,68 +114,68 @@ fn output_turn(s: &[u8], at: usize, work: &mut [u16], h: Header, k: usize) -> Tu
                 next: d.at,
             };
             if !graph_loading::fits(h.size, l) {
-                return Turn::Refused(12, at);
+                return LineResult::Refused(12, at);
             }
             graph_loading::store_line(work, h, k, l);
-            Turn::To(l.next)
+            LineResult::To(l.next)
         }
-        Number::Broken => Turn::Refused(11, at),
+        Number::Broken => LineResult::Refused(11, at),
     }
 }
 
 // The output lines, and the place behind them.
-fn read_outputs(s: &[u8], work: &mut [u16], h: Header) -> Turn
+fn read_outputs(s: &[u8], work: &mut [u16], h: Header) -> LineResult
     requires { ⌜ Fit h (now work) ⌝ }
-    ensures answer { λ r. ⌜ r ≡ passTurn (outputTurn (now (s .entry)) h) (outputLeft (now (s .entry)) h) (h .outputs) (h .inputs) (h .next)
+    ensures answer { λ r. ⌜ r ≡ passStep (outputStep (now (s .entry)) h) (outputLeft (now (s .entry)) h) (h .outputs) (h .inputs) (h .next)
         (now (work .entry)) ⌝ }
-    ensures left { λ _. ⌜ now (work .exit) ≡ passWords (outputTurn (now (s .entry)) h) (outputLeft (now (s .entry)) h) (h .outputs) (h .inputs) (h .next)
+    ensures left { λ _. ⌜ now (work .exit) ≡ passWords (outputStep (now (s .entry)) h) (outputLeft (now (s .entry)) h) (h .outputs) (h .inputs) (h .next)
         (now (work .entry)) ⌝ }
 {
     let end = h.inputs + h.outputs;
     let mut at = h.next;
     let mut k = h.inputs;
     while k < end {
-        match output_turn(s, at, work, h, k) {
-            Turn::To(next) => at = next,
-            Turn::Refused(n, place) => return Turn::Refused(n, place),
+        match output_step(s, at, work, h, k) {
+            LineResult::To(next) => at = next,
+            LineResult::Refused(n, place) => return LineResult::Refused(n, place),
         }
         k += 1;
     }
-    Turn::To(at)
+    LineResult::To(at)
 }
 
 // ---- "ANDs follow in sequence"
 
-// Due line k, an AND, whose bytes stand at a place: the ANDs' variables follow the inputs'.
-fn gate_turn(s: &[u8], at: usize, work: &mut [u16], h: Header, k: usize) -> Turn
-    requires { ⌜ Fit h (now work) × (h .inputs + h .outputs ≤ k) × (k < dueCount h) ⌝ }
-    ensures answer { λ r. ⌜ r ≡ gateTurn (now (s .entry)) h k at (now (work .entry)) ⌝ }
+// Expected line k, an AND, whose bytes stand at a place: the ANDs' variables follow the inputs'.
+fn gate_step(s: &[u8], at: usize, work: &mut [u16], h: Header, k: usize) -> LineResult
+    requires { ⌜ Fit h (now work) × (h .inputs + h .outputs ≤ k) × (k < expectedCount h) ⌝ }
+    ensures answer { λ r. ⌜ r ≡ gateStep (now (s .entry)) h k at (now (work .entry)) ⌝ }
     ensures left { λ _. ⌜ now (work .exit) ≡ gateLeft (now (s .entry)) h k at (now (work .entry)) ⌝ }
 {
     match read_gate(s, at, 2 * (k - h.outputs + 1)) {
         Gate::Is(l) => {
             graph_loading::store_line(work, h, k, l);
-            Turn::To(l.next)
+            LineResult::To(l.next)
         }
-        Gate::Refused(n, place) => Turn::Refused(n, place),
+        Gate::Refused(n, place) => LineResult::Refused(n, place),
     }
 }
 
 // 20 and 21 "are tried difference by difference after the output lines".
 fn read_gates(s: &[u8], from: usize, work: &mut [u16], h: Header) -> Verdict
     requires { ⌜ Fit h (now work) ⌝ }
-    ensures answer { λ r. ⌜ r ≡ asVerdict (passTurn (gateTurn (now (s .entry)) h) (gateLeft (now (s .entry)) h) (h .ands) (h .inputs + h .outputs) from
+    ensures answer { λ r. ⌜ r ≡ asVerdict (passStep (gateStep (now (s .entry)) h) (gateLeft (now (s .entry)) h) (h .ands) (h .inputs + h .outputs) from
         (now (work .entry))) ⌝ }
-    ensures left { λ _. ⌜ now (work .exit) ≡ passWords (gateTurn (now (s .entry)) h) (gateLeft (now (s .entry)) h) (h .ands) (h .inputs + h .outputs) from
+    ensures left { λ _. ⌜ now (work .exit) ≡ passWords (gateStep (now (s .entry)) h) (gateLeft (now (s .entry)) h) (h .ands) (h .inputs + h .outputs) from
         (now (work .entry)) ⌝ }
 {
     let end = h.inputs + h.outputs + h.ands;
     let mut at = from;
     let mut k = h.inputs + h.outputs;
     while k < end {
-        match gate_turn(s, at, work, h, k) {
-            Turn::To(next) => at = next,
-            Turn::Refused(n, place) => return Verdict::Refused(n, place),
+        match gate_step(s, at, work, h, k) {
+            LineResult::To(next) => at = next,
+            LineResult::Refused(n, place) => return Verdict::Refused(n, place),
         }
         k += 1;
     }
@@ -190,12 +190,12 @@ pub fn load_binary(s: &[u8], h: Header, work: &mut [u16]) -> Verdict
     requires { ⌜ (readHeader (now s) ≡ holds h) × (h .binary ≡ true) × (need (h .size) (h .outputs) ≤ length (now work)) ⌝ }
     ensures answer { λ r. ⌜ r ≡ verdictOf (readGraph (now (s .entry)) h) ⌝ }
     ensures left { λ _. ⌜ now (work .exit) ≡ binaryWords (now (work .entry)) (now (s .entry)) h ⌝ }
-    ensures ruling { λ r. ⌜ verdictRuling r ≡ rulingOf (readGraph (now (s .entry)) h) ⌝ }
+    ensures refusal { λ r. ⌜ verdictRefusal r ≡ refusalOf (readGraph (now (s .entry)) h) ⌝ }
 {
     graph_loading::open_words(work, h.size);
     store_inputs(work, h);
     match read_outputs(s, work, h) {
-        Turn::To(at) => read_gates(s, at, work, h),
-        Turn::Refused(n, place) => Verdict::Refused(n, place),
+        LineResult::To(at) => read_gates(s, at, work, h),
+        LineResult::Refused(n, place) => Verdict::Refused(n, place),
     }
 }

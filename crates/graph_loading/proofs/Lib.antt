@@ -1,14 +1,14 @@
--- `Tests`: the due lines' kinds, and the tests of a line's literals. `Storing`: a graph that grows line by line, and the words that hold it.
--- `States`: the words after k due lines. `Items`: the words after the items of a text, in either form. `Lines`: the lines from a place on.
-pub mod Tests
-pub mod Storing
-pub mod States
-pub mod Items
-pub mod Lines
-pub use Tests.{Short, code, due-and, due-code, due-input, due-output, dueKind, fit-known, fit-right, itemList, itemOf, pickKind, taken-is}
-pub use Storing.{nothing}
-pub use States.{State, andOf, grown, more, state-first, state-more}
-pub use Items.{Stored, accepted-holds, defined-more, due-missing, due-none, due-whole, fault-holds, graph-held, graph-is, next-holds}
-pub use Items.{stored-behind, stored-defined, stored-holding, stored-more, stored-none, verdict-next}
-unfoldable pub use Items.{joined}
-pub use Lines.{item-numbers, linesOf, output-number}
+-- `LineTestLaws`: the expected lines' kinds, and the tests of a line's literals. `DefinitionStores`: a graph that grows line by line, and the words that hold it.
+-- `LoadStates`: the words after k expected lines. `LoadedItems`: the words after the items of a text, in either form. `LoadedLines`: the lines from a place on.
+pub mod LineTestLaws
+pub mod DefinitionStores
+pub mod LoadStates
+pub mod LoadedItems
+pub mod LoadedLines
+pub use LineTestLaws.{Short, code, expected-and, expected-code, expected-input, expected-output, expectedKind, fit-defined, fit-right, itemList, itemOf, pickKind, taken-is}
+pub use DefinitionStores.{nothing}
+pub use LoadStates.{State, andOf, grown, more, state-first, state-more}
+pub use LoadedItems.{Stored, accepted-holds, defined-more, expected-missing, expected-none, expected-whole, fault-holds, graph-represented, graph-is, next-holds}
+pub use LoadedItems.{stored-behind, stored-defined, stored-loaded, stored-more, stored-none, verdict-next}
+unfoldable pub use LoadedItems.{joined}
+pub use LoadedLines.{item-numbers, linesOf, output-number}

@@ -1,6 +1,6 @@
--- `Tests`: the due lines' kinds, and the tests of a line's literals. `Stores`: what a line leaves in the words.
-pub mod Tests
-pub mod Stores
-pub use Tests.{LiteralsFit, dueCode, dueCount, literals, onTurn, pickTurn}
-unfoldable pub use Tests.{isTaken, literalsFit, mayDefine}
-unfoldable pub use Stores.{opened, storedInput, storedLine}
+-- `LineTests`: the expected lines' kinds, and the tests of a line's literals. `StoredLines`: what a line leaves in the words.
+pub mod LineTests
+pub mod StoredLines
+pub use LineTests.{LiteralsFit, expectedCode, expectedCount, literals, onLineResult, pickStep}
+unfoldable pub use LineTests.{isAlreadyDefined, literalsFit, mayDefine}
+unfoldable pub use StoredLines.{opened, storedInput, storedLine}

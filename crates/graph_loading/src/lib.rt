@@ -1,12 +1,12 @@
 // A graph's definitions put into the lent words: what both forms of a graph's text share. "In either form" a graph has I inputs, O outputs and A
-// ANDs, due in this order; due line k is the k-th of them.
+// ANDs, expected in this order; expected line k is the k-th of them.
 ghost use Rattle.base.specs.{_≡_, _+_, _*_, _≤_, _<_};
-ghost use Rattle.base_words.specs.{Room};
-ghost use Rattle.graph_placing.specs.{Fit};
-ghost use Rattle.graph_loading.specs.{dueCode, dueCount, literalsFit, LiteralsFit, mayDefine, isTaken, storedLine, opened};
+ghost use Rattle.base_words.specs.{HasCapacity};
+ghost use Rattle.graph_order.specs.{Fit};
+ghost use Rattle.graph_loading.specs.{expectedCode, expectedCount, literalsFit, LiteralsFit, mayDefine, isAlreadyDefined, storedLine, opened};
 use model::Header;
 
-// The literals of a due line, 0 where it has fewer than three, and the place behind it.
+// The literals of an expected line, 0 where it has fewer than three, and the place behind it.
 pub struct Literals {
     pub first: usize,
     pub left: usize,
@@ -15,17 +15,17 @@ pub struct Literals {
 }
 
 // The place of the next line, or a refusal's number and place.
-pub enum Turn {
+pub enum LineResult {
     To(usize),
     Refused(usize, usize),
 }
 
 // ---- the tests of a line
 
-// The kind of node that due line k defines: an output line defines none.
-pub fn due_kind(h: Header, k: usize) -> usize
+// The kind of node that expected line k defines: an output line defines none.
+pub fn expected_kind(h: Header, k: usize) -> usize
     requires { ⌜ (h .inputs ≤ 4095) × (h .outputs ≤ 4096) ⌝ }
-    ensures { λ r. ⌜ r ≡ dueCode h k ⌝ }
+    ensures { λ r. ⌜ r ≡ expectedCode h k ⌝ }
 {
     if k < h.inputs {
         return base_words::INPUT;
@@ -52,9 +52,9 @@ pub fn may_define(kind: usize, first: usize) -> bool
 }
 
 // "An input or left variable is already defined."
-pub fn taken(work: &[u16], m: usize, kind: usize, first: usize) -> bool
-    requires { ⌜ Room (now work) m × (first ≤ 2 * m + 1) ⌝ }
-    ensures { λ r. ⌜ r ≡ isTaken (now (work .entry)) m kind first ⌝ }
+pub fn is_already_defined(work: &[u16], m: usize, kind: usize, first: usize) -> bool
+    requires { ⌜ HasCapacity (now work) m × (first ≤ 2 * m + 1) ⌝ }
+    ensures { λ r. ⌜ r ≡ isAlreadyDefined (now (work .entry)) m kind first ⌝ }
 {
     kind != base_words::UNDEFINED && base_words::kind(work, m, first / 2) != base_words::UNDEFINED
 }
@@ -63,12 +63,12 @@ pub fn taken(work: &[u16], m: usize, kind: usize, first: usize) -> bool
 
 // "Placing order: variable 0 and the inputs first".
 pub fn store_line(work: &mut [u16], h: Header, k: usize, l: Literals)
-    requires { ⌜ Fit h (now work) × (k < dueCount h) × LiteralsFit (h .size) l ⌝ }
+    requires { ⌜ Fit h (now work) × (k < expectedCount h) × LiteralsFit (h .size) l ⌝ }
     ensures { λ _. ⌜ now (work .exit) ≡ storedLine (now (work .entry)) h k l ⌝ }
 {
     if k < h.inputs {
         base_words::store_node(work, h.size, l.first / 2, base_words::INPUT, 0, 0);
-        graph_placing::place_at(work, h.size, k + 1, l.first / 2);
+        graph_order::order_at(work, h.size, k + 1, l.first / 2);
     } else if k < h.inputs + h.outputs {
         base_words::set_output(work, h.size, h.outputs, k - h.inputs, l.first);
     } else {
@@ -76,12 +76,12 @@ pub fn store_line(work: &mut [u16], h: Header, k: usize, l: Literals)
     }
 }
 
-// Nothing is defined but variable 0, which stands first in the placing order.
+// Nothing is defined but variable 0, which stands first in the topological order.
 pub fn open_words(work: &mut [u16], m: usize)
-    requires { ⌜ Room (now work) m ⌝ }
+    requires { ⌜ HasCapacity (now work) m ⌝ }
     ensures { λ _. ⌜ now (work .exit) ≡ opened (now (work .entry)) m ⌝ }
 {
     base_words::clear_columns(work, m);
     base_words::store_node(work, m, 0, base_words::CONSTANT, 0, 0);
-    graph_placing::place_at(work, m, 0, 0);
+    graph_order::order_at(work, m, 0, 0);
 }

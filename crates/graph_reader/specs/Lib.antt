@@ -1,7 +1,7 @@
--- `Lines`: what each reader of a line finds at a place of the text. `Passes`: what the passes over the due lines leave in the words.
-pub mod Lines
-pub mod Passes
-pub use Lines.{asLine, headerRecord, onLine, onTag, onThree, pickForm, pickJudged, pickTag}
-unfoldable pub use Lines.{aag, aig, andLine, formAt, headerEnds, isKnown, judgedAt, lineRead, numbersForm, oneLine, operandsKnown}
-unfoldable pub use Lines.{outputKnown, tagAt, tagBehind, threeAt, usesKnown, wordsKnown}
-unfoldable pub use Passes.{asciiWords, checkAt, checkVerdict, linesVerdict, linesWords, loadedWords, turnAt, turnWords}
+-- `GraphLines`: what each reader of a line finds at a place of the text. `LinePasses`: what the passes over the expected lines leave in the words.
+pub mod GraphLines
+pub mod LinePasses
+pub use GraphLines.{asLine, headerRecord, onLine, onTag, onThree, pickForm, pickValidated, pickTag}
+unfoldable pub use GraphLines.{aag, aig, andLine, formAt, headerEnds, isDefined, validatedAt, lineRead, numbersForm, oneLine, operandsDefined}
+unfoldable pub use GraphLines.{outputDefined, tagAt, tagBehind, threeAt, usesDefined, wordsDefined}
+unfoldable pub use LinePasses.{asciiWords, checkAt, checkVerdict, linesVerdict, linesWords, loadedWords, stepAt, stepWords}

@@ -1,19 +1,19 @@
-// AIGER, read: the header of either form, the due lines of the ASCII form into the lent words, and the reader that a header's form asks for.
+// AIGER, read: the header of either form, the expected lines of the ASCII form into the lent words, and the reader that a header's form asks for.
 // "`aag M I L O A`, then I input lines, O output lines and A lines `left right right`." "Read the `aig` form too, known by the header's first word."
 ghost use Rattle.base.specs.{_≡_, false, _+_, _*_, _≤_, _<_, length};
-ghost use Rattle.model.specs.{all, below, need, holds, verdictOf, rulingOf, verdictRuling, readHeader, headerAnswer, headerRuling};
+ghost use Rattle.model.specs.{all, below, need, holds, verdictOf, refusalOf, verdictRefusal, readHeader, headerAnswer, headerRefusal};
 ghost use Rattle.model.specs.{headerValues, headerNumbers, inLimits, inSequence, readGraph};
-ghost use Rattle.base_words.specs.{Room};
-ghost use Rattle.graph_placing.specs.{Fit, Operands};
-ghost use Rattle.graph_loading.specs.{dueCount, LiteralsFit};
+ghost use Rattle.base_words.specs.{HasCapacity};
+ghost use Rattle.graph_order.specs.{Fit, Operands};
+ghost use Rattle.graph_loading.specs.{expectedCount, LiteralsFit};
 ghost use Rattle.graph_reader.specs.{threeAt, tagBehind, tagAt, numbersForm, headerEnds, formAt, lineRead, asLine};
-ghost use Rattle.graph_reader.specs.{judgedAt, isKnown, usesKnown, outputKnown, operandsKnown, wordsKnown, turnAt};
-ghost use Rattle.graph_reader.specs.{turnWords, linesVerdict, linesWords, checkAt, checkVerdict, asciiWords, loadedWords};
+ghost use Rattle.graph_reader.specs.{validatedAt, isDefined, usesDefined, outputDefined, operandsDefined, wordsDefined, stepAt};
+ghost use Rattle.graph_reader.specs.{stepWords, linesVerdict, linesWords, checkAt, checkVerdict, asciiWords, loadedWords};
 use base_text::Cursor;
 use base_text::Number;
 use base_text::Step;
+use graph_loading::LineResult;
 use graph_loading::Literals;
-use graph_loading::Turn;
 use model::Header;
 use model::HeaderAnswer;
 use model::Verdict;
@@ -151,7 +151,7 @@ fn in_sequence(h: Header) -> bool
 // The header of a graph's text in either form, or the first refusal of 7 to 9 and 19, which is "tried after 9, place 0".
 pub fn header(s: &[u8]) -> HeaderAnswer
     ensures answer { λ r. ⌜ r ≡ headerAnswer (readHeader (now (s .entry))) ⌝ }
-    ensures ruling { λ r. ⌜ headerRuling r ≡ rulingOf (readHeader (now (s .entry))) ⌝ }
+    ensures refusal { λ r. ⌜ headerRefusal r ≡ refusalOf (readHeader (now (s .entry))) ⌝ }
     ensures values { λ r. ⌜ headerValues r ≡ headerNumbers (readHeader (now (s .entry))) ⌝ }
 {
     match header_form(s) {
@@ -171,7 +171,7 @@ pub fn header(s: &[u8]) -> HeaderAnswer
     }
 }
 
-// ---- a due line
+// ---- an expected line
 
 pub enum LineRead {
     Read(Literals),
@@ -179,7 +179,7 @@ pub enum LineRead {
 }
 
 // A line that is free of 11 to 13, or the number of its refusal.
-pub enum Judged {
+pub enum Validated {
     Good(Literals),
     Bad(usize),
 }
@@ -214,55 +214,55 @@ fn read_line(s: &[u8], at: usize, kind: usize) -> LineRead
 }
 
 // 11, 12 and 13 in this order.
-fn judge(s: &[u8], at: usize, work: &[u16], m: usize, kind: usize) -> Judged
-    requires { ⌜ Room (now work) m ⌝ }
-    ensures { λ r. ⌜ r ≡ judgedAt (now (s .entry)) at (now (work .entry)) m kind ⌝ }
+fn validate(s: &[u8], at: usize, work: &[u16], m: usize, kind: usize) -> Validated
+    requires { ⌜ HasCapacity (now work) m ⌝ }
+    ensures { λ r. ⌜ r ≡ validatedAt (now (s .entry)) at (now (work .entry)) m kind ⌝ }
 {
     match read_line(s, at, kind) {
         LineRead::Read(l) => {
             if !graph_loading::fits(m, l) || !graph_loading::may_define(kind, l.first) {
-                return Judged::Bad(12);
+                return Validated::Bad(12);
             }
-            if graph_loading::taken(work, m, kind, l.first) {
-                return Judged::Bad(13);
+            if graph_loading::is_already_defined(work, m, kind, l.first) {
+                return Validated::Bad(13);
             }
-            Judged::Good(l)
+            Validated::Good(l)
         }
-        LineRead::Broken => Judged::Bad(11),
+        LineRead::Broken => Validated::Bad(11),
     }
 }
 
-// Due line k, at a place of the text.
-fn turn_at(s: &[u8], at: usize, work: &mut [u16], h: Header, k: usize) -> Turn
-    requires { ⌜ Fit h (now work) × (k < dueCount h) ⌝ }
-    ensures answer { λ r. ⌜ r ≡ turnAt (now (s .entry)) at (now (work .entry)) h k ⌝ }
-    ensures left { λ _. ⌜ now (work .exit) ≡ turnWords (now (s .entry)) at (now (work .entry)) h k ⌝ }
+// Expected line k, at a place of the text.
+fn step_at(s: &[u8], at: usize, work: &mut [u16], h: Header, k: usize) -> LineResult
+    requires { ⌜ Fit h (now work) × (k < expectedCount h) ⌝ }
+    ensures answer { λ r. ⌜ r ≡ stepAt (now (s .entry)) at (now (work .entry)) h k ⌝ }
+    ensures left { λ _. ⌜ now (work .exit) ≡ stepWords (now (s .entry)) at (now (work .entry)) h k ⌝ }
 {
     if at >= s.len() {
-        return Turn::Refused(11, s.len());
+        return LineResult::Refused(11, s.len());
     }
-    match judge(s, at, work, h.size, graph_loading::due_kind(h, k)) {
-        Judged::Good(l) => {
+    match validate(s, at, work, h.size, graph_loading::expected_kind(h, k)) {
+        Validated::Good(l) => {
             graph_loading::store_line(work, h, k, l);
-            Turn::To(l.next)
+            LineResult::To(l.next)
         }
-        Judged::Bad(n) => Turn::Refused(n, at),
+        Validated::Bad(n) => LineResult::Refused(n, at),
     }
 }
 
 // "Items 3 to 6 are tried line by line, 11 to 13 too."
 fn read_lines(s: &[u8], work: &mut [u16], h: Header) -> Verdict
     requires { ⌜ Fit h (now work) ⌝ }
-    ensures answer { λ r. ⌜ r ≡ linesVerdict (now (s .entry)) h (dueCount h) 0 (h .next) (now (work .entry)) ⌝ }
-    ensures left { λ _. ⌜ now (work .exit) ≡ linesWords (now (s .entry)) h (dueCount h) 0 (h .next) (now (work .entry)) ⌝ }
+    ensures answer { λ r. ⌜ r ≡ linesVerdict (now (s .entry)) h (expectedCount h) 0 (h .next) (now (work .entry)) ⌝ }
+    ensures left { λ _. ⌜ now (work .exit) ≡ linesWords (now (s .entry)) h (expectedCount h) 0 (h .next) (now (work .entry)) ⌝ }
 {
     let count = h.inputs + h.outputs + h.ands;
     let mut at = h.next;
     let mut k = 0;
     while k < count {
-        match turn_at(s, at, work, h, k) {
-            Turn::To(next) => at = next,
-            Turn::Refused(n, place) => return Verdict::Refused(n, place),
+        match step_at(s, at, work, h, k) {
+            LineResult::To(next) => at = next,
+            LineResult::Refused(n, place) => return Verdict::Refused(n, place),
         }
         k += 1;
     }
@@ -272,40 +272,40 @@ fn read_lines(s: &[u8], work: &mut [u16], h: Header) -> Verdict
 // ---- undefined variables
 
 // "an undefined variable other than 0": variable 0 is defined.
-fn known(work: &[u16], m: usize, l: usize) -> bool
-    requires { ⌜ Room (now work) m × (l ≤ 2 * m + 1) ⌝ }
-    ensures { λ r. ⌜ r ≡ isKnown (now (work .entry)) m l ⌝ }
+fn is_defined(work: &[u16], m: usize, l: usize) -> bool
+    requires { ⌜ HasCapacity (now work) m × (l ≤ 2 * m + 1) ⌝ }
+    ensures { λ r. ⌜ r ≡ isDefined (now (work .entry)) m l ⌝ }
 {
     base_words::kind(work, m, l / 2) != base_words::UNDEFINED
 }
 
 // What an output line or an AND line uses is defined.
-fn uses_known(work: &[u16], m: usize, kind: usize, l: Literals) -> bool
-    requires { ⌜ Room (now work) m × LiteralsFit m l ⌝ }
-    ensures { λ r. ⌜ r ≡ usesKnown (now (work .entry)) m kind l ⌝ }
+fn uses_defined(work: &[u16], m: usize, kind: usize, l: Literals) -> bool
+    requires { ⌜ HasCapacity (now work) m × LiteralsFit m l ⌝ }
+    ensures { λ r. ⌜ r ≡ usesDefined (now (work .entry)) m kind l ⌝ }
 {
     if kind == base_words::UNDEFINED {
-        return known(work, m, l.first);
+        return is_defined(work, m, l.first);
     }
-    known(work, m, l.left) && known(work, m, l.right)
+    is_defined(work, m, l.left) && is_defined(work, m, l.right)
 }
 
 // So it is of output i; a literal beyond 2M+1 has no variable.
-fn output_known(work: &[u16], h: Header, i: usize) -> bool
+fn output_defined(work: &[u16], h: Header, i: usize) -> bool
     requires { ⌜ Fit h (now work) × (i < h .outputs) ⌝ }
-    ensures { λ r. ⌜ r ≡ outputKnown (now (work .entry)) (h .size) i ⌝ }
+    ensures { λ r. ⌜ r ≡ outputDefined (now (work .entry)) (h .size) i ⌝ }
 {
     let l = base_words::output(work, h.size, h.outputs, i);
-    l <= 2 * h.size + 1 && known(work, h.size, l)
+    l <= 2 * h.size + 1 && is_defined(work, h.size, l)
 }
 
-fn outputs_known(work: &[u16], h: Header) -> bool
+fn outputs_defined(work: &[u16], h: Header) -> bool
     requires { ⌜ Fit h (now work) ⌝ }
-    ensures { λ r. ⌜ r ≡ all (outputKnown (now (work .entry)) (h .size)) (below (h .outputs)) ⌝ }
+    ensures { λ r. ⌜ r ≡ all (outputDefined (now (work .entry)) (h .size)) (below (h .outputs)) ⌝ }
 {
     let mut i = 0;
     while i < h.outputs {
-        if !output_known(work, h, i) {
+        if !output_defined(work, h, i) {
             return false;
         }
         i += 1;
@@ -314,23 +314,24 @@ fn outputs_known(work: &[u16], h: Header) -> bool
 }
 
 // And of both operands of a variable that is an AND.
-fn operands_known(work: &[u16], m: usize, v: usize) -> bool
-    requires { ⌜ Room (now work) m × Operands (now work) m × (v ≤ m) ⌝ }
-    ensures { λ r. ⌜ r ≡ operandsKnown (now (work .entry)) m v ⌝ }
+fn operands_defined(work: &[u16], m: usize, v: usize) -> bool
+    requires { ⌜ HasCapacity (now work) m × Operands (now work) m × (v ≤ m) ⌝ }
+    ensures { λ r. ⌜ r ≡ operandsDefined (now (work .entry)) m v ⌝ }
 {
     if base_words::kind(work, m, v) != base_words::AND {
         return true;
     }
-    known(work, m, base_words::left(work, m, v)) && known(work, m, base_words::right(work, m, v))
+    is_defined(work, m, base_words::left(work, m, v))
+        && is_defined(work, m, base_words::right(work, m, v))
 }
 
-fn ands_known(work: &[u16], m: usize) -> bool
-    requires { ⌜ Room (now work) m × Operands (now work) m ⌝ }
-    ensures { λ r. ⌜ r ≡ all (operandsKnown (now (work .entry)) m) (below (m + 1)) ⌝ }
+fn ands_defined(work: &[u16], m: usize) -> bool
+    requires { ⌜ HasCapacity (now work) m × Operands (now work) m ⌝ }
+    ensures { λ r. ⌜ r ≡ all (operandsDefined (now (work .entry)) m) (below (m + 1)) ⌝ }
 {
     let mut v = 0;
     while v <= m {
-        if !operands_known(work, m, v) {
+        if !operands_defined(work, m, v) {
             return false;
         }
         v += 1;
@@ -339,42 +340,42 @@ fn ands_known(work: &[u16], m: usize) -> bool
 }
 
 // All that the stored lines use is defined: no line is 14's.
-fn all_known(work: &[u16], h: Header) -> bool
+fn all_defined(work: &[u16], h: Header) -> bool
     requires { ⌜ Fit h (now work) × Operands (now work) (h .size) ⌝ }
-    ensures { λ r. ⌜ r ≡ wordsKnown (now (work .entry)) h ⌝ }
+    ensures { λ r. ⌜ r ≡ wordsDefined (now (work .entry)) h ⌝ }
 {
-    outputs_known(work, h) && ands_known(work, h.size)
+    outputs_defined(work, h) && ands_defined(work, h.size)
 }
 
-// Due line k again, now that all are read.
-fn check_at(s: &[u8], at: usize, work: &[u16], h: Header, k: usize) -> Turn
+// Expected line k again, now that all are read.
+fn check_at(s: &[u8], at: usize, work: &[u16], h: Header, k: usize) -> LineResult
     requires { ⌜ Fit h (now work) ⌝ }
     ensures { λ r. ⌜ r ≡ checkAt (now (s .entry)) at (now (work .entry)) h k ⌝ }
 {
-    let kind = graph_loading::due_kind(h, k);
+    let kind = graph_loading::expected_kind(h, k);
     match read_line(s, at, kind) {
         LineRead::Read(l) => {
-            if graph_loading::fits(h.size, l) && uses_known(work, h.size, kind, l) {
-                return Turn::To(l.next);
+            if graph_loading::fits(h.size, l) && uses_defined(work, h.size, kind, l) {
+                return LineResult::To(l.next);
             }
-            Turn::Refused(14, at)
+            LineResult::Refused(14, at)
         }
-        LineRead::Broken => Turn::Refused(14, at),
+        LineRead::Broken => LineResult::Refused(14, at),
     }
 }
 
 // "An output or operand uses an undefined variable other than 0; the first such line."
 fn check_lines(s: &[u8], work: &[u16], h: Header) -> Verdict
     requires { ⌜ Fit h (now work) ⌝ }
-    ensures { λ r. ⌜ r ≡ checkVerdict (now (s .entry)) h (dueCount h) 0 (h .next) (now (work .entry)) ⌝ }
+    ensures { λ r. ⌜ r ≡ checkVerdict (now (s .entry)) h (expectedCount h) 0 (h .next) (now (work .entry)) ⌝ }
 {
     let count = h.inputs + h.outputs + h.ands;
     let mut at = h.next;
     let mut k = 0;
     while k < count {
         match check_at(s, at, work, h, k) {
-            Turn::To(next) => at = next,
-            Turn::Refused(n, line) => return Verdict::Refused(n, line),
+            LineResult::To(next) => at = next,
+            LineResult::Refused(n, line) => return Verdict::Refused(n, line),
         }
         k += 1;
     }
@@ -393,7 +394,7 @@ fn load_ascii(s: &[u8], h: Header, work: &mut [u16]) -> Verdict
     graph_loading::open_words(work, h.size);
     match read_lines(s, work, h) {
         Verdict::Accepted => {
-            if all_known(work, h) {
+            if all_defined(work, h) {
                 return Verdict::Accepted;
             }
             check_lines(s, work, h)
@@ -407,7 +408,7 @@ pub fn load(s: &[u8], h: Header, work: &mut [u16]) -> Verdict
     requires { ⌜ (readHeader (now s) ≡ holds h) × (need (h .size) (h .outputs) ≤ length (now work)) ⌝ }
     ensures answer { λ r. ⌜ r ≡ verdictOf (readGraph (now (s .entry)) h) ⌝ }
     ensures left { λ _. ⌜ now (work .exit) ≡ loadedWords (now (work .entry)) (now (s .entry)) h ⌝ }
-    ensures ruling { λ r. ⌜ verdictRuling r ≡ rulingOf (readGraph (now (s .entry)) h) ⌝ }
+    ensures refusal { λ r. ⌜ verdictRefusal r ≡ refusalOf (readGraph (now (s .entry)) h) ⌝ }
 {
     if h.binary {
         return graph_binary::load_binary(s, h, work);

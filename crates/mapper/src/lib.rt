@@ -4,45 +4,42 @@ use model::Header;
 use model::HeaderAnswer;
 use model::Library;
 use model::Verdict;
-ghost use Rattle.base.specs.{_≡_, true, _≤_, length};
-ghost use Rattle.model.specs.{need, holds, readHeader};
-ghost use Rattle.model.specs.Graph.{Graph};
+ghost use Rattle.base.specs.{true, length};
 ghost use Rattle.promises.specs.{Mapping};
-ghost use Rattle.cells_matching.specs.{Blank, SheetOf};
-ghost use Rattle.net_writer.specs.Mapped.{Mapped};
-ghost use Rattle.mapper.specs.{Told, Left, LibraryRead, LibraryOk, allOf, Timed, Timeable, printedFor, placedFor, graphFor, headerFor, libraryFor};
+ghost use Rattle.cells_matching.specs.{Blank};
+ghost use Rattle.mapper.specs.{Left, LibraryRead, LibraryOk, allOf, libraryFor};
+ghost use Rattle.mapper.specs.{Printable, Printed, Cuttable, CutAnswered, GraphMappable, GraphAnswered, HeaderLeft};
 
-// 18, and the netlist: "Text memory is shorter than the netlist; place, the length needed." Where delays are ranges the low arrivals come first, and
+// 18, and the netlist: "Text memory is shorter than the netlist; place, the length needed." Where delays are ranges the minimum arrivals come first, and
 // a timing line per output stands behind the netlist: "18 and the returned length count these lines".
 fn print(
     work: &mut [u16],
     lib: Library,
-    codes: &[u16],
+    ids: &[u16],
     h: Header,
     ranged: bool,
     text: &mut [u8],
 ) -> Answer
-    requires { ⌜ ((g : Graph) × Mapped (now work) lib (now codes) h g × Timeable (now work) lib (now codes) h g) ⌝ }
-    ensures { λ r. ⌜ ((g : Graph) → Mapped (now (work .entry)) lib (now (codes .entry)) h g → Timeable (now (work .entry)) lib (now (codes .entry)) h g →
-        Told (printedFor ranged lib (now (codes .entry)) g (length (now (text .entry)))) (now (text .entry)) r (now (text .exit))) ⌝ }
+    requires { ⌜ Printable (now work) lib (now ids) h ⌝ }
+    ensures { λ r. ⌜ Printed (now (work .entry)) lib (now (ids .entry)) h ranged (now (text .entry)) r (now (text .exit)) ⌝ }
 {
-    let m = net_writer::measure(work, lib, codes, h);
+    let m = net_writer::measure(work, lib, ids, h);
     let length = m.length;
     let figures = m.figures;
     if ranged {
-        net_timing::retime(work, lib, codes, h);
+        net_timing::retime(work, lib, ids, h);
         let whole = length + net_timing::lines_len(work, h.size, h.outputs);
         if text.len() < whole {
             return Answer::Refused(18, whole);
         }
-        net_writer::write(work, lib, codes, h, figures, text);
+        net_writer::write(work, lib, ids, h, figures, text);
         net_timing::put_lines(work, h.size, h.outputs, text, length);
         return Answer::Mapped(whole, figures);
     }
     if text.len() < length {
         return Answer::Refused(18, length);
     }
-    net_writer::write(work, lib, codes, h, figures, text);
+    net_writer::write(work, lib, ids, h, figures, text);
     Answer::Mapped(length, figures)
 }
 
@@ -50,23 +47,22 @@ fn print(
 fn cut_graph(
     work: &mut [u16],
     lib: Library,
-    codes: &[u16],
+    ids: &[u16],
     h: Header,
     ranged: bool,
-    sheet: &[u32],
+    matches: &[u32],
     text: &mut [u8],
 ) -> Answer
-    requires { ⌜ ((g : Graph) × Timed (now work) lib (now codes) h g) × SheetOf (allOf lib (now codes)) (now sheet) ⌝ }
-    ensures { λ r. ⌜ ((g : Graph) → Timed (now (work .entry)) lib (now (codes .entry)) h g → Told
-        (placedFor ranged lib (now (codes .entry)) g (length (now (text .entry)))) (now (text .entry)) r (now (text .exit))) ⌝ }
+    requires { ⌜ Cuttable (now work) lib (now ids) h (now matches) ⌝ }
+    ensures { λ r. ⌜ CutAnswered (now (work .entry)) lib (now (ids .entry)) h ranged (now (text .entry)) r (now (text .exit)) ⌝ }
 {
     match cut_pass::enumerate(work, h) {
         Verdict::Accepted => {
-            cover_choice::choose(work, lib, codes, h, sheet);
+            cover_choice::choose(work, lib, ids, h, matches);
             match cover_choice::uncovered(work, h) {
                 Verdict::Accepted => {
-                    cover_choice::mark(work, lib, codes, h);
-                    print(work, lib, codes, h, ranged, text)
+                    cover_choice::mark(work, lib, ids, h);
+                    print(work, lib, ids, h, ranged, text)
                 }
                 Verdict::Refused(number, place) => Answer::Refused(number, place),
             }
@@ -75,7 +71,7 @@ fn cut_graph(
     }
 }
 
-// All that comes behind 10, for words that hold anything: the graph behind its header, 11 to 14, or 11, 12, 20 and 21; the placing order, the arrivals with
+// All that comes behind 10, for words that hold anything: the graph behind its header, 11 to 14, or 11, 12, 20 and 21; the topological order, the arrivals with
 // 25 and 26, "both line by line after 14", and then 15: an input's variable stands where the order has it; and what follows. The words are left as the
 // last pass leaves them.
 pub fn load_graph(
@@ -83,23 +79,21 @@ pub fn load_graph(
     arrivals: &[u8],
     h: Header,
     lib: Library,
-    codes: &[u16],
+    ids: &[u16],
     ranged: bool,
-    sheet: &[u32],
+    matches: &[u32],
     work: &mut [u16],
     text: &mut [u8],
 ) -> Answer
-    requires { ⌜ LibraryOk lib (now codes) × (readHeader (now graph) ≡ holds h) × (need (h .size) (h .outputs) ≤ length (now work)) × SheetOf
-        (allOf lib (now codes)) (now sheet) ⌝ }
-    ensures { λ r. ⌜ Told (graphFor ranged lib (now (codes .entry)) (now (graph .entry)) (now (arrivals .entry)) h (length (now (text .entry))))
-        (now (text .entry)) r (now (text .exit)) ⌝ }
+    requires { ⌜ GraphMappable (now graph) h lib (now ids) (now matches) (now work) ⌝ }
+    ensures { λ r. ⌜ GraphAnswered (now (graph .entry)) (now (arrivals .entry)) h lib (now (ids .entry)) ranged (now (text .entry)) r (now (text .exit)) ⌝ }
 {
     match graph_reader::load(graph, h, work) {
         Verdict::Accepted => {
-            let placed = graph_placing::place(work, h);
+            let ordered = graph_order::order_graph(work, h);
             match graph_arrivals::read(arrivals, h, work) {
-                Verdict::Accepted => match placed {
-                    Verdict::Accepted => cut_graph(work, lib, codes, h, ranged, sheet, text),
+                Verdict::Accepted => match ordered {
+                    Verdict::Accepted => cut_graph(work, lib, ids, h, ranged, matches, text),
                     Verdict::Refused(number, place) => Answer::Refused(number, place),
                 },
                 Verdict::Refused(number, place) => Answer::Refused(number, place),
@@ -110,28 +104,28 @@ pub fn load_graph(
 }
 
 // The header, 7 to 9 and 19, then 10: "Work memory is unchanged by every refusal tried up to 10, and all zero after a later one and after success." The
-// sheet is blank at first.
+// match table is blank at first.
 fn map_header(
     graph: &[u8],
     arrivals: &[u8],
     lib: Library,
-    codes: &[u16],
+    ids: &[u16],
     ranged: bool,
-    sheet: &mut [u32],
+    matches: &mut [u32],
     work: &mut [u16],
     text: &mut [u8],
 ) -> Answer
-    requires { ⌜ LibraryOk lib (now codes) × Blank (length (allOf lib (now codes))) (now sheet) ⌝ }
-    ensures { λ r. ⌜ Left (headerFor ranged lib (now (codes .entry)) (now (graph .entry)) (now (arrivals .entry)) (length (now (work .entry)))
-        (length (now (text .entry)))) (now (work .entry)) (now (text .entry)) r (now (work .exit)) (now (text .exit)) ⌝ }
+    requires { ⌜ LibraryOk lib (now ids) × Blank (length (allOf lib (now ids))) (now matches) ⌝ }
+    ensures { λ r. ⌜ HeaderLeft (now (graph .entry)) (now (arrivals .entry)) lib (now (ids .entry)) ranged (now (work .entry)) (now (text .entry)) r
+        (now (work .exit)) (now (text .exit)) ⌝ }
 {
     match graph_reader::header(graph) {
         HeaderAnswer::Read(h) => {
             if work.len() < base_words::need_words(h.size, h.outputs) {
                 return Answer::Refused(10, 0);
             }
-            cover_choice::match_library(lib, codes, sheet);
-            let a = load_graph(graph, arrivals, h, lib, codes, ranged, sheet, work, text);
+            cover_choice::match_library(lib, ids, matches);
+            let a = load_graph(graph, arrivals, h, lib, ids, ranged, matches, work, text);
             base_words::clear_all(work);
             a
         }
@@ -157,12 +151,12 @@ fn map_pairs(
     if lib.n + n > 256 {
         return Answer::Refused(30, 0);
     }
-    let codes = &pairs[..n];
-    let mut sheet = cells_matching::no_paired_sheet();
-    map_header(graph, arrivals, lib, codes, ranged, &mut sheet, work, text)
+    let ids = &pairs[..n];
+    let mut matches = cells_matching::empty_paired_match_table();
+    map_header(graph, arrivals, lib, ids, ranged, &mut matches, work, text)
 }
 
-// The cells that the call maps with: "Where a call wants them", pairs too. A call without pairs does not pay for their part of the sheet.
+// The cells that the call maps with: "Where a call wants them", pairs too. A call without pairs does not pay for their part of the match table.
 fn map_cells(
     graph: &[u8],
     arrivals: &[u8],
@@ -180,13 +174,13 @@ fn map_cells(
         return map_pairs(graph, arrivals, lib, ranged, work, text);
     }
     let none = [0u16; 1];
-    let codes = &none[..0];
-    let mut sheet = cells_matching::no_sheet();
-    map_header(graph, arrivals, lib, codes, ranged, &mut sheet, work, text)
+    let ids = &none[..0];
+    let mut matches = cells_matching::empty_match_table();
+    map_header(graph, arrivals, lib, ids, ranged, &mut matches, work, text)
 }
 
 // A library text, a graph text in either form and an arrivals' text mapped, with pairs of cells where the call wants them: the netlist at the
-// start of text memory, or the first refusal that applies. `model.Promised` is the page of what is promised. How cuts are stored is in no field
+// start of text memory, or the first refusal that applies. `promises.Promised` is the page of what is promised. How cuts are stored is in no field
 // of it: `Unseen.store-unseen` says so.
 pub fn map_texts(
     cells: &[u8],

@@ -1,2 +1,2 @@
-pub mod Leaving
-pub mod Whole
+pub mod ChannelMemory
+pub mod TwoChannelLaws

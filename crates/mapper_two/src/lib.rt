@@ -5,13 +5,11 @@ use model::HeaderAnswer;
 use model::Library;
 use model::Two;
 use model::Verdict;
-ghost use Rattle.base.specs.{_≡_, true, length};
-ghost use Rattle.model.specs.{holds, readHeader, channelOf};
+ghost use Rattle.base.specs.{_≡_, true};
 ghost use Rattle.model.specs.declared.Answer.the-variants.{Refused};
 ghost use Rattle.promises.specs.{MappingTwo};
-ghost use Rattle.cells_matching.specs.{Blank};
-ghost use Rattle.mapper.specs.{LibraryRead, LibraryOk, allOf};
-ghost use Rattle.mapper_two.specs.{PairLeft, TwoLeft, sumFor, firstFor};
+ghost use Rattle.mapper.specs.{LibraryRead};
+ghost use Rattle.mapper_two.specs.{PairReady, MatchesReady, PairMapped, HeadersMapped, CellsMapped};
 
 // "both return that number and place"
 fn both(number: usize, place: usize) -> Two
@@ -24,7 +22,7 @@ fn both(number: usize, place: usize) -> Two
 }
 
 // 10: "compares the lent words with the sum of both needs". Then each channel as if alone: a pass asks nothing of what the words hold, so the second may find
-// there what the first left. The sheet is made once for both, and the words are cleared once.
+// there what the first left. The match table is made once for both, and the words are cleared once.
 fn map_pair(
     g1: &[u8],
     a1: &[u8],
@@ -33,27 +31,25 @@ fn map_pair(
     a2: &[u8],
     h2: Header,
     lib: Library,
-    ks: &[u16],
+    ids: &[u16],
     ranged: bool,
-    sheet: &mut [u32],
+    matches: &mut [u32],
     work: &mut [u16],
     t1: &mut [u8],
     t2: &mut [u8],
 ) -> Two
-    requires { ⌜ LibraryOk lib (now ks) × (readHeader (now g1) ≡ holds h1) × (readHeader (now g2) ≡ holds h2) × Blank
-        (length (allOf lib (now ks))) (now sheet) ⌝ }
-    ensures { λ r. ⌜ PairLeft ranged lib (now (ks .entry)) (channelOf (now (g1 .entry)) (now (a1 .entry)) (now (t1 .entry)))
-        (channelOf (now (g2 .entry)) (now (a2 .entry)) (now (t2 .entry))) (sumFor (length (now (work .entry))) h1 h2) (now (work .entry))
-        (now (t1 .entry)) (now (t2 .entry)) r (now (work .exit)) (now (t1 .exit)) (now (t2 .exit)) ⌝ }
+    requires { ⌜ PairReady (now g1) h1 (now g2) h2 lib (now ids) (now matches) ⌝ }
+    ensures { λ r. ⌜ PairMapped ranged lib (now (ids .entry)) h1 h2 (now (g1 .entry)) (now (a1 .entry)) (now (t1 .entry)) (now (g2 .entry))
+        (now (a2 .entry)) (now (t2 .entry)) (now (work .entry)) r (now (work .exit)) (now (t1 .exit)) (now (t2 .exit)) ⌝ }
 {
     let need1 = base_words::need_words(h1.size, h1.outputs);
     let need2 = base_words::need_words(h2.size, h2.outputs);
     if work.len() < need1 + need2 {
         return both(10, 0);
     }
-    cover_choice::match_library(lib, ks, sheet);
-    let first = mapper::load_graph(g1, a1, h1, lib, ks, ranged, sheet, work, t1);
-    let second = mapper::load_graph(g2, a2, h2, lib, ks, ranged, sheet, work, t2);
+    cover_choice::match_library(lib, ids, matches);
+    let first = mapper::load_graph(g1, a1, h1, lib, ids, ranged, matches, work, t1);
+    let second = mapper::load_graph(g2, a2, h2, lib, ids, ranged, matches, work, t2);
     base_words::clear_all(work);
     Two { first, second }
 }
@@ -65,19 +61,16 @@ fn map_headers(
     g2: &[u8],
     a2: &[u8],
     lib: Library,
-    ks: &[u16],
+    ids: &[u16],
     ranged: bool,
-    sheet: &mut [u32],
+    matches: &mut [u32],
     work: &mut [u16],
     t1: &mut [u8],
     t2: &mut [u8],
 ) -> Two
-    requires { ⌜ LibraryOk lib (now ks) × Blank (length (allOf lib (now ks))) (now sheet) ⌝ }
-    ensures { λ r. ⌜ PairLeft ranged lib (now (ks .entry)) (channelOf (now (g1 .entry)) (now (a1 .entry)) (now (t1 .entry)))
-        (channelOf (now (g2 .entry)) (now (a2 .entry)) (now (t2 .entry)))
-        (firstFor (length (now (work .entry))) (channelOf (now (g1 .entry)) (now (a1 .entry)) (now (t1 .entry)))
-        (channelOf (now (g2 .entry)) (now (a2 .entry)) (now (t2 .entry)))) (now (work .entry)) (now (t1 .entry)) (now (t2 .entry)) r
-        (now (work .exit)) (now (t1 .exit)) (now (t2 .exit)) ⌝ }
+    requires { ⌜ MatchesReady lib (now ids) (now matches) ⌝ }
+    ensures { λ r. ⌜ HeadersMapped ranged lib (now (ids .entry)) (now (g1 .entry)) (now (a1 .entry)) (now (t1 .entry)) (now (g2 .entry)) (now (a2 .entry))
+        (now (t2 .entry)) (now (work .entry)) r (now (work .exit)) (now (t1 .exit)) (now (t2 .exit)) ⌝ }
 {
     match graph_reader::header(g1) {
         HeaderAnswer::Read(h1) => {
@@ -86,7 +79,21 @@ fn map_headers(
             }
             match graph_reader::header(g2) {
                 HeaderAnswer::Read(h2) => {
-                    map_pair(g1, a1, h1, g2, a2, h2, lib, ks, ranged, sheet, work, t1, t2)
+                    map_pair(
+                        g1,
+                        a1,
+                        h1,
+                        g2,
+                        a2,
+                        h2,
+                        lib,
+                        ids,
+                        ranged,
+                        matches,
+                        work,
+                        t1,
+                        t2,
+                    )
                 }
                 HeaderAnswer::Refused(number, place) => both(number, place),
             }
@@ -108,21 +115,20 @@ fn map_pairs(
     t2: &mut [u8],
 ) -> Two
     requires { ⌜ LibraryRead lib ⌝ }
-    ensures { λ r. ⌜ TwoLeft true ranged lib (channelOf (now (g1 .entry)) (now (a1 .entry)) (now (t1 .entry)))
-        (channelOf (now (g2 .entry)) (now (a2 .entry)) (now (t2 .entry))) (now (work .entry)) (now (t1 .entry)) (now (t2 .entry)) r
-        (now (work .exit)) (now (t1 .exit)) (now (t2 .exit)) ⌝ }
+    ensures { λ r. ⌜ CellsMapped true ranged lib (now (g1 .entry)) (now (a1 .entry)) (now (t1 .entry)) (now (g2 .entry)) (now (a2 .entry)) (now (t2 .entry))
+        (now (work .entry)) r (now (work .exit)) (now (t1 .exit)) (now (t2 .exit)) ⌝ }
 {
     let mut pairs = [0u16; 4096];
     let n = cells_pairs::form(&mut pairs, lib);
     if lib.n + n > 256 {
         return both(30, 0);
     }
-    let ks = &pairs[..n];
-    let mut sheet = cells_matching::no_paired_sheet();
-    map_headers(g1, a1, g2, a2, lib, ks, ranged, &mut sheet, work, t1, t2)
+    let ids = &pairs[..n];
+    let mut matches = cells_matching::empty_paired_match_table();
+    map_headers(g1, a1, g2, a2, lib, ids, ranged, &mut matches, work, t1, t2)
 }
 
-// The cells that both channels are mapped with: "Where a call wants them", pairs too. A call without pairs does not pay for their part of the sheet.
+// The cells that both channels are mapped with: "Where a call wants them", pairs too. A call without pairs does not pay for their part of the match table.
 fn map_cells(
     g1: &[u8],
     a1: &[u8],
@@ -136,20 +142,19 @@ fn map_cells(
     t2: &mut [u8],
 ) -> Two
     requires { ⌜ LibraryRead lib ⌝ }
-    ensures { λ r. ⌜ TwoLeft paired ranged lib (channelOf (now (g1 .entry)) (now (a1 .entry)) (now (t1 .entry)))
-        (channelOf (now (g2 .entry)) (now (a2 .entry)) (now (t2 .entry))) (now (work .entry)) (now (t1 .entry)) (now (t2 .entry)) r
-        (now (work .exit)) (now (t1 .exit)) (now (t2 .exit)) ⌝ }
+    ensures { λ r. ⌜ CellsMapped paired ranged lib (now (g1 .entry)) (now (a1 .entry)) (now (t1 .entry)) (now (g2 .entry)) (now (a2 .entry)) (now (t2 .entry))
+        (now (work .entry)) r (now (work .exit)) (now (t1 .exit)) (now (t2 .exit)) ⌝ }
 {
     if paired {
         return map_pairs(g1, a1, g2, a2, lib, ranged, work, t1, t2);
     }
     let none = [0u16; 1];
-    let ks = &none[..0];
-    let mut sheet = cells_matching::no_sheet();
-    map_headers(g1, a1, g2, a2, lib, ks, ranged, &mut sheet, work, t1, t2)
+    let ids = &none[..0];
+    let mut matches = cells_matching::empty_match_table();
+    map_headers(g1, a1, g2, a2, lib, ids, ranged, &mut matches, work, t1, t2)
 }
 
-// Two channels mapped: each netlist at the start of its text memory, or its refusal. `model.TwoDemands.TwoPromised` is the page of what is promised.
+// Two channels mapped: each netlist at the start of its text memory, or its refusal. `promises.TwoDemands.TwoPromised` is the page of what is promised.
 pub fn map_two(
     cells: &[u8],
     graph1: &[u8],

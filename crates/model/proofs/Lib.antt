@@ -1,4 +1,4 @@
-pub mod Answers
+pub mod AnswerLaws
 pub mod GenlibTables
-pub use Answers.{answer-returns, check-tells, counted-ruled, header-ruled, library-ruled, verdict-ruled, verdict-rules, written-ruled}
+pub use AnswerLaws.{answer-returns, check-tells, counted-refusal, header-refusal, library-refusal, verdict-refusal, verdict-rules, written-refusal}
 pub use GenlibTables.{row-bit, row-none, rows-less, rows-most, table-above, table-value}

@@ -236,8 +236,8 @@ fedBy cells t = map (netAt (t .bindings)) (pinNames (named cells (t .cell) .pins
 
 -- the nets' values w hold: an input net has its input's value, a gate's net its cell's value at its pins, and an output "is read at its `o` name",
 -- which has its net's value
-pub record NetValues (cells : List Cell) (n : Blif) (setting : List Bool) (w : List ℕ → Bool) : Type 0 where
-  pub atInputs : map w (n .inputs) ≡ setting
+pub record NetValues (cells : List Cell) (n : Blif) (assignment : List Bool) (w : List ℕ → Bool) : Type 0 where
+  pub atInputs : map w (n .inputs) ≡ assignment
   pub atGates : (t : GateLine) → List·Memᴰ t (n .gates) → w (drives t) ≡ value (named cells (t .cell) .table) (rowOf (map w (fedBy cells t)))
   pub atWires : (x : Wire) → List·Memᴰ x (n .wires) → w (x .target) ≡ w (x .source)
 
@@ -265,4 +265,4 @@ NetArrivals cells n times at = NetTimes cells (λ t. named cells (t .cell) .dela
 abbrev pub InRange : List Cell → Delays → Blif → Type 0
 InRange cells delays n =
     (t : GateLine) → List·Memᴰ t (n .gates) → (j : ℕ)
-    → (getD (named cells (t .cell) .lows) j 0 ≤ getD (delaysAt delays t) j 0) × (getD (delaysAt delays t) j 0 ≤ getD (named cells (t .cell) .delays) j 0)
+    → (getD (named cells (t .cell) .mins) j 0 ≤ getD (delaysAt delays t) j 0) × (getD (delaysAt delays t) j 0 ≤ getD (named cells (t .cell) .delays) j 0)

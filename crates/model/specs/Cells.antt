@@ -1,6 +1,6 @@
 -- A cell of the library, and the library as the code holds it.
 use Rattle.base.specs.{ℕ, _-_, Bool, _&&_, List, [], _++_, eqb, ltb, length, take, getD, replicate}
-use Rattle.model.specs.Reading.{Read, holds, fault}
+use Rattle.model.specs.ReadResult.{Read, holds, fault}
 use Rattle.model.specs.declared.Cell.{Cell}
 use Rattle.model.specs.declared.Library.{Library}
 use Rattle.model.specs.declared.LibraryAnswer.{LibraryAnswer}
@@ -12,7 +12,7 @@ nameOf c = take (c .len) (c .name)
 
 -- what stands at a line that is not there: the element that Rattle's own rules take past the end of an array
 abbrev pub noCell : Cell
-noCell = record { name = []; len = 0; pins = 0; table = 0; area = 0; delays = []; lows = [] }
+noCell = record { name = []; len = 0; pins = 0; table = 0; area = 0; delays = []; mins = [] }
 
 -- the cell at a line, from 0
 unfoldable pub cellAt : List Cell → ℕ → Cell
@@ -26,7 +26,7 @@ isInverter c = eqb (c .pins) 1 && (eqb (c .table) 1 && ltb 0 (c .len))
 
 -- the cell of zeros
 abbrev pub blank : Cell
-blank = record { name = replicate 8 0; len = 0; pins = 0; table = 0; area = 0; delays = replicate 4 0; lows = replicate 4 0 }
+blank = record { name = replicate 8 0; len = 0; pins = 0; table = 0; area = 0; delays = replicate 4 0; mins = replicate 4 0 }
 
 -- the library that holds cells: they, and blank ones behind them
 unfoldable pub libraryOf : List Cell → Library

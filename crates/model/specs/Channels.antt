@@ -1,7 +1,7 @@
 -- Request N8, "Two channels, one library and one store": two graphs mapped in one call over one cell list and one work memory, "with a text memory each".
 use Rattle.base.specs.{ℕ, _+_, Bool, List, leb, length, replicate}
 use Rattle.model.specs.Limits.{need}
-use Rattle.model.specs.Reading.{Read, holds, fault, next, unless}
+use Rattle.model.specs.ReadResult.{Read, holds, fault, next, unless}
 use Rattle.model.specs.GraphText.{readHeader}
 use Rattle.model.specs.Netlist.{Outcome, refused}
 use Rattle.model.specs.Mapper.{Call, short, readListed, mapTexts, answerOf}

@@ -1,13 +1,13 @@
--- Request N14, "Netlists edited by the layout group": a netlist's text read, its nets judged, and its outputs compared with the graph's.
+-- Request N14, "Netlists edited by the layout group": a netlist's text read, its nets validated, and its outputs compared with the graph's.
 use Rattle.base.specs.{ℕ, zero, suc, _+_, _*_, _^_, Bool, false, not, cond, _&&_, _||_, Bool·beq, Option, none, some, List, [], _∷_, _++_}
 use Rattle.base.specs.{map, eqb, leb, length, take, getD, replicate}
 use Rattle.model.specs.Base.{bit, all, any, keep, each, same, below, andThen, only, lowest}
 use Rattle.model.specs.Limits.{need}
 use Rattle.model.specs.Text.{Line, endedByTen, text, linesFrom, fields, between, isLetter}
-use Rattle.model.specs.Reading.{Read, holds, fault, next, unless, from?}
+use Rattle.model.specs.ReadResult.{Read, holds, fault, next, unless, from?}
 use Rattle.model.specs.Table.{value, rowOf}
 use Rattle.model.specs.Cells.{nameOf}
-use Rattle.model.specs.Graph.{Graph, literal, unplaced, literalValue, valueOf}
+use Rattle.model.specs.Graph.{Graph, literal, unordered, literalValue, valueOf}
 use Rattle.model.specs.LibraryText.{readLibrary}
 use Rattle.model.specs.GraphText.{readHeader, readGraph}
 use Rattle.model.specs.Netlist.{netName, outName}
@@ -128,9 +128,9 @@ unfolding outName below
 outputNets g = map outName (below (length (g .outputs)))
 
 -- `.model top`, `.inputs` and `.outputs` as they are printed for the graph
-unfoldable pub frameOf : Graph → List (List ℕ)
+unfoldable pub preambleOf : Graph → List (List ℕ)
 unfolding text each inputNets outputNets
-frameOf g =
+preambleOf g =
     text ".model top"
     ∷ (text ".inputs" ++ each (λ (n : List ℕ). 32 ∷ n) (inputNets g))
     ∷ (text ".outputs" ++ each (λ (n : List ℕ). 32 ∷ n) (outputNets g))
@@ -138,9 +138,9 @@ frameOf g =
 
 -- "32 when a line breaks its form, names no listed cell or has other inputs or outputs than the graph"
 unfoldable pub readNetlist : List Cell → Graph → List ℕ → Read (List Driver)
-unfolding next pastLines frameOf readDrivers linesFrom
+unfolding next pastLines preambleOf readDrivers linesFrom
 readNetlist cells g bytes =
-    next (pastLines (length bytes) (frameOf g) (linesFrom 0 [] bytes)) (readDrivers cells (length bytes) (length (g .outputs)))
+    next (pastLines (length bytes) (preambleOf g) (linesFrom 0 [] bytes)) (readDrivers cells (length bytes) (length (g .outputs)))
 
 -- ---- the nets, 33
 
@@ -180,9 +180,9 @@ feeding zero ds seen = seen
 feeding (suc fuel) ds seen = feeding fuel ds (added (each (λ (d : Driver). d .uses) (keep (λ (d : Driver). among (d .net) seen) ds)) seen)
 
 -- "when one drives a net on a circle": a net that feeds itself
-unfoldable pub onCircle : List Driver → Driver → Bool
+unfoldable pub onCycle : List Driver → Driver → Bool
 unfolding among feeding added
-onCircle ds d = among (d .net) (feeding (suc (length ds)) ds (added (d .uses) []))
+onCycle ds d = among (d .net) (feeding (suc (length ds)) ds (added (d .uses) []))
 
 -- a fault at a line, if there is one
 unfoldable pub unlessAt : {A : Type 0} → Option ℕ → ℕ → Read A → Read A
@@ -191,12 +191,12 @@ unlessAt (some k) n r = fault n k
 
 -- "33 when a line drives a net already driven, then when one uses a net that no line drives, then when one drives a net on a circle": each part over
 -- all lines, "at the first such line"
-unfoldable pub judgeNets : List (List ℕ) → List Driver → Read (List Driver)
-unfolding unlessAt drivenTwice undriven firstLine onCircle
-judgeNets inputs ds =
+unfoldable pub validateNets : List (List ℕ) → List Driver → Read (List Driver)
+unfolding unlessAt drivenTwice undriven firstLine onCycle
+validateNets inputs ds =
     unlessAt (drivenTwice inputs ds) 33
     (unlessAt (undriven inputs ds) 33
-    (unlessAt (firstLine (onCircle ds) ds) 33 (holds ds)))
+    (unlessAt (firstLine (onCycle ds) ds) 33 (holds ds)))
 
 -- ---- values
 
@@ -235,11 +235,12 @@ unfolding bit
 inputValues s k [] = []
 inputValues s k (n ∷ ns) = (n, bit s k) ∷ inputValues s (suc k) ns
 
--- the setting by variable
-unfoldable pub settingOf : ℕ → ℕ → List ℕ → ℕ → Bool
+-- the assignment by variable
+-- document 02: "setting"
+unfoldable pub assignmentOf : ℕ → ℕ → List ℕ → ℕ → Bool
 unfolding bit
-settingOf s k [] v = false
-settingOf s k (u ∷ us) v = let r = settingOf s (suc k) us v in cond (eqb u v) (bit s k) r
+assignmentOf s k [] v = false
+assignmentOf s k (u ∷ us) v = let r = assignmentOf s (suc k) us v in cond (eqb u v) (bit s k) r
 
 -- the first place at which two lists of values differ, from k on
 unfoldable pub firstWrong : ℕ → List Bool → List Bool → Option ℕ
@@ -249,14 +250,14 @@ firstWrong k (x ∷ xs) (y ∷ ys) = let r = firstWrong (suc k) xs ys in cond (B
 
 -- "that setting's first wrong output": `order` are the drivers, each behind those that feed it
 unfoldable pub wrongAt : Graph → List Driver → ℕ → Option ℕ
-unfolding firstWrong valueOf literalValue runNets netValue inputValues settingOf inputNets outputNets
+unfolding firstWrong valueOf literalValue runNets netValue inputValues assignmentOf inputNets outputNets
 wrongAt g order s =
     let known = runNets order (inputValues s 0 (inputNets g)) in
-    firstWrong 0 (map (literalValue (valueOf g (settingOf s 0 (g .inputs)))) (g .outputs)) (map (netValue known) (outputNets g))
+    firstWrong 0 (map (literalValue (valueOf g (assignmentOf s 0 (g .inputs)))) (g .outputs)) (map (netValue known) (outputNets g))
 
 -- ---- the answer
 
--- "the lowest setting that differs", of the n settings from s on
+-- "the lowest setting that differs", of the n assignments from s on
 unfoldable pub compareFrom : ℕ → ℕ → (ℕ → Option ℕ) → Checked
 compareFrom zero s wrong = Accepted
 compareFrom (suc n) s wrong = elim (wrong s) [
@@ -276,17 +277,17 @@ pub record Edited : Type 0 where
 
 -- "1 covers the netlist, and 10 wants 8 more words for each byte 10 in it"; 31 to 33 "are tried after 15 in place of 16 to 18, in this order"
 unfoldable pub readEdited : List ℕ → List ℕ → List ℕ → ℕ → Read Edited
-unfolding next unless unlessAt readLibrary readHeader readGraph need lineEnds lowest unplaced readNetlist judgeNets inputNets
+unfolding next unless unlessAt readLibrary readHeader readGraph need lineEnds lowest unordered readNetlist validateNets inputNets
 readEdited library graph netlist words =
     unless (leb (length library) 65536 && (leb (length graph) 65536 && leb (length netlist) 65536)) 1 0
     (next (readLibrary library) (λ cells.
     next (readHeader graph) (λ h.
     unless (leb (need (h .size) (h .outputs) + 8 * lineEnds netlist) words) 10 0
     (next (readGraph graph h) (λ g.
-    unlessAt (lowest (unplaced g)) 15
+    unlessAt (lowest (unordered g)) 15
     (unless (leb (length (g .inputs)) 12) 31 0
     (next (readNetlist cells g netlist) (λ ds.
-    next (judgeNets (inputNets g) ds) (λ es. holds (record { graph = g; drivers = es }))))))))))
+    next (validateNets (inputNets g) ds) (λ es. holds (record { graph = g; drivers = es }))))))))))
 
 -- the answer for what was read: "the 2^I input settings"
 unfoldable pub checkRead : Read Edited → Checked
@@ -304,32 +305,32 @@ checkTexts library graph netlist words = checkRead (readEdited library graph net
 
 -- ---- what is returned, and the lent words
 
--- what the interface returns of a check: 0 where the netlist is accepted, 1 with the setting and the output that differ, 2 with a refusal's number and place
-pub record Told : Type 0 where
+-- what the interface returns of a check: 0 where the netlist is accepted, 1 with the assignment and the output that differ, 2 with a refusal's number and place
+pub record CheckResult : Type 0 where
   pub verdict : ℕ
   pub first : ℕ
   pub second : ℕ
 
-unfoldable pub toldOf : Checked → Told
-toldOf Accepted = record { verdict = 0; first = 0; second = 0 }
-toldOf (Differs s k) = record { verdict = 1; first = s; second = k }
-toldOf (Refused n k) = record { verdict = 2; first = n; second = k }
+unfoldable pub resultOf : Checked → CheckResult
+resultOf Accepted = record { verdict = 0; first = 0; second = 0 }
+resultOf (Differs s k) = record { verdict = 1; first = s; second = k }
+resultOf (Refused n k) = record { verdict = 2; first = n; second = k }
 
 -- the same of what was read: what the interface returns, whatever the answer is made of
-unfoldable pub toldFrom : ℕ → ℕ → (ℕ → Option ℕ) → Told
-toldFrom zero s wrong = record { verdict = 0; first = 0; second = 0 }
-toldFrom (suc n) s wrong = elim (wrong s) [
-  | none ↦ toldFrom n (suc s) wrong
+unfoldable pub resultFrom : ℕ → ℕ → (ℕ → Option ℕ) → CheckResult
+resultFrom zero s wrong = record { verdict = 0; first = 0; second = 0 }
+resultFrom (suc n) s wrong = elim (wrong s) [
+  | none ↦ resultFrom n (suc s) wrong
   | some k ↦ record { verdict = 1; first = s; second = k }
 ]
 
-unfoldable pub toldBy : Read Edited → Told
-unfolding toldFrom wrongAt settled inputNets
-toldBy (fault n k) = record { verdict = 2; first = n; second = k }
-toldBy (holds e) =
+unfoldable pub resultBy : Read Edited → CheckResult
+unfolding resultFrom wrongAt settled inputNets
+resultBy (fault n k) = record { verdict = 2; first = n; second = k }
+resultBy (holds e) =
     let g = e .graph in
     let ds = e .drivers in
-    toldFrom (2 ^ length (g .inputs)) 0 (wrongAt g (settled (length ds) (inputNets g) ds))
+    resultFrom (2 ^ length (g .inputs)) 0 (wrongAt g (settled (length ds) (inputNets g) ds))
 
 -- "Work memory is unchanged by every refusal tried up to 10, and all zero after a later one and after success."
 unfoldable pub checkedWork : Checked → List ℕ → List ℕ

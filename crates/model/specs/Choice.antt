@@ -3,7 +3,7 @@ use Rattle.base.specs.{ℕ, suc, _+_, _^_, max, Bool, true, false, not, cond, _
 use Rattle.model.specs.Base.{any, keep, each, find, run, below, same}
 use Rattle.model.specs.Table.{orders}
 use Rattle.model.specs.Cells.{noCell, cellAt, isInverter}
-use Rattle.model.specs.Graph.{Graph, Node, constant, input, undefined, both, node, placingOrder, varOf, negated, opposite}
+use Rattle.model.specs.Graph.{Graph, Node, constant, input, undefined, both, node, topologicalOrder, varOf, negated, opposite}
 use Rattle.model.specs.Cuts.{cutLists, cutAt, cutTable}
 use Rattle.model.specs.Matching.{phaseTable, fits, matchNets}
 use Rattle.model.specs.declared.Cell.{Cell}
@@ -120,28 +120,28 @@ inverterPhases (c ∷ cs) line other =
     rest
 
 -- a phase without inverters: "for an input's positive phase its own net", else the best match
-unfoldable pub direct : List Cell → Graph → (ℕ → Phases) → ℕ → List (List ℕ) → Bool → Node → Phase
+unfoldable pub uninverted : List Cell → Graph → (ℕ → Phases) → ℕ → List (List ℕ) → Bool → Node → Phase
 unfolding choose matchPhases noPhase
-direct cells g known v cuts neg constant = choose (matchPhases cells g known v neg 0 cuts)
-direct cells g known v cuts neg input = cond neg noPhase (record { source = Input; arrival = g .late v })
-direct cells g known v cuts neg undefined = noPhase
-direct cells g known v cuts neg (both l r) = choose (matchPhases cells g known v neg 0 cuts)
+uninverted cells g known v cuts neg constant = choose (matchPhases cells g known v neg 0 cuts)
+uninverted cells g known v cuts neg input = cond neg noPhase (record { source = Input; arrival = g .inputArrival v })
+uninverted cells g known v cuts neg undefined = noPhase
+uninverted cells g known v cuts neg (both l r) = choose (matchPhases cells g known v neg 0 cuts)
 
 -- "then a matched cell before the inverter"
 unfoldable pub joined : List Cell → Phase → Phase → Phases
 unfolding choose inverterPhases
 joined cells p m = record { positive = choose (p ∷ inverterPhases cells 0 m); negative = choose (m ∷ inverterPhases cells 0 p) }
 
--- the choice for all variables, in placing order
+-- the choice for all variables, in topological order
 unfoldable pub choices : List Cell → Graph → List (ℕ × Phases)
-unfolding run find placingOrder node cutLists direct joined noPhases
+unfolding run find topologicalOrder node cutLists uninverted joined noPhases
 choices cells g =
     let cuts = cutLists g in
     run (λ known v.
     let look : ℕ → Phases = λ u. find noPhases u known in
     let cs : List (List ℕ) = find [] v cuts in
-    joined cells (direct cells g look v cs false (node g v)) (direct cells g look v cs true (node g v)))
-    (placingOrder g) []
+    joined cells (uninverted cells g look v cs false (node g v)) (uninverted cells g look v cs true (node g v)))
+    (topologicalOrder g) []
 
 -- the chosen phase of a literal
 unfoldable pub chosen : List Cell → Graph → ℕ → Phase

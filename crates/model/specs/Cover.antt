@@ -14,14 +14,14 @@ use Rattle.model.specs.declared.Source.the-variants.{Input, Cell as Matc
 -- "a cell matched on a cut other than the variable alone"
 pub record IsMatch (cells : List Cell) (g : Graph) (l : ℕ) (m : Match) : Type 0 where
   pub hasCut : m .cut < length (cutsOf g (varOf l))
-  pub notAlone : ¬ (cutAt (cutsOf g) (varOf l) (m .cut) ≡ varOf l ∷ [])
+  pub nontrivial : ¬ (cutAt (cutsOf g) (varOf l) (m .cut) ≡ varOf l ∷ [])
   pub hasCell : m .cell < length cells
   pub hasOrder : m .order < 24
   pub agrees : T (fits (cellAt cells (m .cell)) (getD orders (m .order) []) (m .mask) (length (cutAt (cutsOf g) (varOf l) (m .cut)))
       (phaseTable (negated l) (cutTable g (cutAt (cutsOf g) (varOf l) (m .cut)) (varOf l))))
 
 -- "an input's own positive net"
-pub record IsOwn (g : Graph) (l : ℕ) : Type 0 where
+pub record IsInputSource (g : Graph) (l : ℕ) : Type 0 where
   pub positive : T (not (negated l))
   pub isInput : List·Memᴰ (varOf l) (g .inputs)
 
@@ -32,7 +32,7 @@ pub record IsInverting (cells : List Cell) (line : ℕ) : Type 0 where
 
 -- what may be the source of phase l
 abbrev pub Allowed : List Cell → Graph → ℕ → Source → Type 0
-Allowed cells g l Input = IsOwn g l
+Allowed cells g l Input = IsInputSource g l
 Allowed cells g l Nothing = ⊥
 Allowed cells g l (Matched m) = IsMatch cells g l m
 Allowed cells g l (Inverted c) = IsInverting cells c
@@ -51,7 +51,7 @@ pub data Feeds (cells : List Cell) (g : Graph) (source : ℕ → Source) (x : �
 -- arrival, and "every arrival starts from it"
 unfoldable pub arrivalBy : List Cell → Graph → (ℕ → ℕ) → ℕ → Source → ℕ
 unfolding latest feeds cellOf cutsOf
-arrivalBy cells g arrival l Input = g .late (varOf l)
+arrivalBy cells g arrival l Input = g .inputArrival (varOf l)
 arrivalBy cells g arrival l Nothing = 0
 arrivalBy cells g arrival l (Matched m) = latest (map arrival (feeds cells (cutsOf g) l (Matched m))) (cellOf cells (Matched m) .delays)
 arrivalBy cells g arrival l (Inverted c) = latest (map arrival (feeds cells (cutsOf g) l (Inverted c))) (cellOf cells (Inverted c) .delays)
@@ -60,7 +60,8 @@ arrivalBy cells g arrival l (Inverted c) = latest (map arrival (feeds cells (cut
 pub record Cover (cells : List Cell) (g : Graph) (outs : List ℕ) : Type 0 where
   pub source : ℕ → Source
   pub allowed : (l : ℕ) → Needed cells g outs source l → Allowed cells g l (source l)
-  pub noCircle : (l : ℕ) → Needed cells g outs source l → ¬ Feeds cells g source l l
+  -- document 01: "circle"
+  pub noCycle : (l : ℕ) → Needed cells g outs source l → ¬ Feeds cells g source l l
 
 -- the arrivals of the phases that a cover needs, by the rule
 pub record CoverArrivals (cells : List Cell) (g : Graph) (outs : List ℕ) (c : Cover cells g outs) (at : ℕ → ℕ) : Type 0 where

@@ -3,7 +3,7 @@ use Rattle.base.specs.{ℕ, zero, suc, _+_, _*_, compare, Ordering, Ordering·l
 use Rattle.base.specs.{some, List, [], _∷_, map, eqb, leb, ltb, length, getD}
 use Rattle.model.specs.Base.{bit, one, union, keep, each, find, run, orElse}
 use Rattle.model.specs.Limits.{cutLimit}
-use Rattle.model.specs.Graph.{Graph, Node, constant, input, undefined, both, node, placingOrder, span, varOf, nodeValue}
+use Rattle.model.specs.Graph.{Graph, Node, constant, input, undefined, both, node, topologicalOrder, span, varOf, nodeValue}
 
 -- one comparison, and the other where the first finds no difference
 unfoldable pub after : Ordering → Ordering → Ordering
@@ -37,10 +37,10 @@ nodeCuts cuts v input = (v ∷ []) ∷ []
 nodeCuts cuts v undefined = []
 nodeCuts cuts v (both l r) = union compareCuts ((v ∷ []) ∷ unions (cuts (varOf l)) (cuts (varOf r))) []
 
--- the cut lists of all variables, in placing order
+-- the cut lists of all variables, in topological order
 unfoldable pub cutLists : Graph → List (ℕ × List (List ℕ))
-unfolding run find placingOrder node nodeCuts
-cutLists g = run (λ known v. nodeCuts (λ u. find [] u known) v (node g v)) (placingOrder g) []
+unfolding run find topologicalOrder node nodeCuts
+cutLists g = run (λ known v. nodeCuts (λ u. find [] u known) v (node g v)) (topologicalOrder g) []
 
 -- the cut list of a variable
 unfoldable pub cutsOf : Graph → ℕ → List (List ℕ)
@@ -51,10 +51,10 @@ cutsOf g v = find [] v (cutLists g)
 unfoldable pub cutAt : (ℕ → List (List ℕ)) → ℕ → ℕ → List ℕ
 cutAt cuts v k = getD (cuts v) k []
 
--- "An AND, used or not, has more than 18 cuts": those that have, in placing order
-unfoldable pub crowded : Graph → List ℕ
-unfolding keep find cutLists placingOrder
-crowded g = let cuts = cutLists g in keep (λ (v : ℕ). ltb cutLimit (length (find [] v cuts))) (placingOrder g)
+-- "An AND, used or not, has more than 18 cuts": those that have, in topological order
+unfoldable pub overLimit : Graph → List ℕ
+unfolding keep find cutLists topologicalOrder
+overLimit g = let cuts = cutLists g in keep (λ (v : ℕ). ltb cutLimit (length (find [] v cuts))) (topologicalOrder g)
 
 -- "leaf number i (ascending, from 0) is bit i of the row"
 unfoldable pub leafBit : List ℕ → ℕ → ℕ → ℕ → Option Bool

@@ -6,21 +6,21 @@ use Rattle.base.specs.{_↔_, Ordering·gt, eqb, leb, length, take, drop, getD}
 use Rattle.model.specs.Base.{each, below, same}
 use Rattle.model.specs.Limits.{need}
 use Rattle.model.specs.Text.{Line, text, linesFrom, shown, fields}
-use Rattle.model.specs.Reading.{Read, holds, fault, next, unless}
+use Rattle.model.specs.ReadResult.{Read, holds, fault, next, unless}
 use Rattle.model.specs.Cells.{nameOf, cellAt}
-use Rattle.model.specs.Graph.{Graph, literal, varOf, negated, unplaced, placingOrder, literalValue, GraphValues}
+use Rattle.model.specs.Graph.{Graph, literal, varOf, negated, unordered, topologicalOrder, literalValue, GraphValues}
 use Rattle.model.specs.LibraryText.{isRanged}
 use Rattle.model.specs.Pairs.{pairAt, cellsFor}
 use Rattle.model.specs.PairDemands.{PairsKept}
 use Rattle.model.specs.FormerLibrary.{formerLibrary}
 use Rattle.model.specs.GraphText.{readHeader, readGraph, asciiText}
-use Rattle.model.specs.ArrivalsText.{Late, readArrivals, timedBy}
-use Rattle.model.specs.Cuts.{cutsOf, compareLeaves, crowded}
+use Rattle.model.specs.ArrivalsText.{InputArrival, readArrivals, timedBy}
+use Rattle.model.specs.Cuts.{cutsOf, compareLeaves, overLimit}
 use Rattle.model.specs.Choice.{feeds, absent, chosen, preference}
-use Rattle.model.specs.Cover.{IsOwn, Allowed, Needed, arrivalBy, Cover, CoverArrivals}
+use Rattle.model.specs.Cover.{IsInputSource, Allowed, Needed, arrivalBy, Cover, CoverArrivals}
 use Rattle.model.specs.Netlist.{Outcome, refused, mapped, mapGraph, gates, numberOf, figuresOf, netlistText, netName, outName, sum}
 use Rattle.model.specs.Netlist.{largest}
-use Rattle.model.specs.Timing.{lowOf, timingLines}
+use Rattle.model.specs.Timing.{minArrivalOf, timingLines}
 use Rattle.model.specs.Blif.{GateLine, Binding, Wire, Blif, readBlif, readFigures, TimingLine, readTimings, named, drives, fedBy}
 use Rattle.model.specs.Blif.{pinNames, outputName, NetValues, Delays, delaysAt, NetTimes, NetArrivals, InRange}
 use Rattle.model.specs.Mapper.{Call, Design, designOf, short, readListed, readTexts, within, mapDesign, mapTexts, answerOf, returned}
@@ -122,26 +122,26 @@ pub data LinesOf (listed : List Cell) (number : ℕ → ℕ) (nets : ℕ → Lis
 -- other phase's; they are the lines of these phases, in this order, each of its phase's chosen cell, fed by the nets of the phases that the chosen source
 -- is fed by
 pub record Gated (listed cells : List Cell) (g : Graph) (f : Figures) (n : Blif) : Type 0 where
-  pub nets : (l : ℕ) → List·Memᴰ (netName l) (map drives (n .gates)) ↔ (Needed cells g (g .outputs) (λ x. chosen cells g x .source) l × (¬ IsOwn g l))
+  pub nets : (l : ℕ) → List·Memᴰ (netName l) (map drives (n .gates)) ↔ (Needed cells g (g .outputs) (λ x. chosen cells g x .source) l × (¬ IsInputSource g l))
   pub order : (ls : List ℕ) × InOrder ls
       × LinesOf listed (λ l. numberOf (chosen cells g l .source)) (λ l. map netName (feeds cells (cutsOf g) l (chosen cells g l .source))) ls (n .gates)
 
 -- ---- Demand 2: "the printed netlist, read by BLIF's rules with the listed cells' tables, gives every output the value that the AIGER graph
 -- gives it, for every setting of the inputs": both have values, and with any such values each output, at its `o` name, has the graph's
 pub record SameValues (listed cells : List Cell) (g : Graph) (f : Figures) (n : Blif) : Type 0 where
-  pub graphHas : (setting : ℕ → Bool) → (v : ℕ → Bool) × GraphValues g setting v
-  pub netlistHas : (setting : ℕ → Bool) → (w : List ℕ → Bool) × NetValues listed n (map setting (g .inputs)) w
-  pub same : (setting v : ℕ → Bool) → GraphValues g setting v → (w : List ℕ → Bool) → NetValues listed n (map setting (g .inputs)) w
+  pub graphHas : (assignment : ℕ → Bool) → (v : ℕ → Bool) × GraphValues g assignment v
+  pub netlistHas : (assignment : ℕ → Bool) → (w : List ℕ → Bool) × NetValues listed n (map assignment (g .inputs)) w
+  pub same : (assignment v : ℕ → Bool) → GraphValues g assignment v → (w : List ℕ → Bool) → NetValues listed n (map assignment (g .inputs)) w
       → map w (n .outputs) ≡ map (literalValue v) (g .outputs)
 
 -- "the figures equal those of the printed text": nets have arrivals, from those of the graph's inputs on, and with any such arrivals, an output's
 -- "read at its `o` name", the figures are the text's.
 -- "Gates number at most 2(M+1)." With pairs "the gate bound becomes 4(M+1)"
 pub record SameFigures (listed cells : List Cell) (g : Graph) (f : Figures) (n : Blif) : Type 0 where
-  pub hasArrivals : (at : List ℕ → ℕ) × NetArrivals listed n (map (g .late) (g .inputs)) at
+  pub hasArrivals : (at : List ℕ → ℕ) × NetArrivals listed n (map (g .inputArrival) (g .inputs)) at
   pub count : f .gates ≡ length (n .gates)
   pub area : f .area ≡ sum (map (λ (t : GateLine). named listed (t .cell) .area) (n .gates))
-  pub arrival : (at : List ℕ → ℕ) → NetArrivals listed n (map (g .late) (g .inputs)) at → f .arrival ≡ largest (map at (n .outputs))
+  pub arrival : (at : List ℕ → ℕ) → NetArrivals listed n (map (g .inputArrival) (g .inputs)) at → f .arrival ≡ largest (map at (n .outputs))
   pub bound : f .gates ≤ 4 * suc (g .size)
   pub boundListed : cells ≡ listed → f .gates ≤ 2 * suc (g .size)
 
@@ -149,22 +149,22 @@ pub record SameFigures (listed cells : List Cell) (g : Graph) (f : Figures) (n :
 -- "A cover has a net if it needs that net's phase". "The earliest-arrival promise, for `p` and `m` nets, .. range over covers with pairs too". Both arrivals start from the inputs' own: "no cover so timed gives a printed net earlier"
 abbrev pub NoEarlier : List Cell → List Cell → Graph → Figures → Blif → Type 0
 NoEarlier listed cells g f n =
-    (at : List ℕ → ℕ) → NetArrivals listed n (map (g .late) (g .inputs)) at → (l : ℕ) → List·Memᴰ (netName l) (drivenNets n)
+    (at : List ℕ → ℕ) → NetArrivals listed n (map (g .inputArrival) (g .inputs)) at → (l : ℕ) → List·Memᴰ (netName l) (drivenNets n)
     → (c : Cover cells g (g .outputs)) (arrival : ℕ → ℕ) → CoverArrivals cells g (g .outputs) c arrival → Needed cells g (g .outputs) (c .source) l
     → at (netName l) ≤ arrival l
 
 -- the same of the nets `o0`, `o1` and so on: output k's own name arrives as its net, which every cover of the outputs has
 abbrev pub OutputsNoEarlier : List Cell → List Cell → Graph → Figures → Blif → Type 0
 OutputsNoEarlier listed cells g f n =
-    (at : List ℕ → ℕ) → NetArrivals listed n (map (g .late) (g .inputs)) at → (k : ℕ) → k < length (g .outputs)
+    (at : List ℕ → ℕ) → NetArrivals listed n (map (g .inputArrival) (g .inputs)) at → (k : ℕ) → k < length (g .outputs)
     → (at (outName k) ≡ at (netName (getD (g .outputs) k 0)))
     × ((c : Cover cells g (g .outputs)) (arrival : ℕ → ℕ) → CoverArrivals cells g (g .outputs) c arrival → at (outName k) ≤ arrival (getD (g .outputs) k 0))
 
 -- "Where no refusal tried before 16 applies and no AND is over 18 cuts"
 pub record Mappable (c : Call) (d : Design) : Type 0 where
   pub design : readTexts c ≡ holds d
-  pub placed : unplaced (d .graph) ≡ []
-  pub few : crowded (d .graph) ≡ []
+  pub ordered : unordered (d .graph) ≡ []
+  pub few : overLimit (d .graph) ≡ []
 
 -- a statement of the outcome of a call whose texts can be mapped
 abbrev pub OfMappable : (Bool → ℕ → Outcome → List Cell → List Cell → Graph → Type 0) → Call → Type 0
@@ -176,7 +176,7 @@ pub record Timed (cells : List Cell) (g : Graph) (outs : List ℕ) (c : Cover ce
   pub has : (at : ℕ → ℕ) × CoverArrivals cells g outs c at
   pub alone : (at bt : ℕ → ℕ) → CoverArrivals cells g outs c at → CoverArrivals cells g outs c bt
       → (l : ℕ) → Needed cells g outs (c .source) l → at l ≡ bt l
-  pub starts : (at : ℕ → ℕ) → CoverArrivals cells g outs c at → (l : ℕ) → Needed cells g outs (c .source) l → IsOwn g l → at l ≡ g .late (varOf l)
+  pub starts : (at : ℕ → ℕ) → CoverArrivals cells g outs c at → (l : ℕ) → Needed cells g outs (c .source) l → IsInputSource g l → at l ≡ g .inputArrival (varOf l)
 
 abbrev pub CoversTimed : Bool → ℕ → Outcome → List Cell → List Cell → Graph → Type 0
 CoversTimed ranged bytes outcome listed cells g = (outs : List ℕ) (c : Cover cells g outs) → Timed cells g outs c
@@ -198,7 +198,7 @@ choiceText listed cells g = netlistText g (gates listed cells g (chosen cells g)
 -- what is printed: the netlist, and where delays are ranges it is "followed by a line per output"
 abbrev pub printedText : Bool → List Cell → List Cell → Graph → List ℕ
 printedText ranged listed cells g =
-    cond ranged (choiceText listed cells g ++ timingLines (lowOf cells g) (λ (l : ℕ). chosen cells g l .arrival) 0 (g .outputs)) (choiceText listed cells g)
+    cond ranged (choiceText listed cells g ++ timingLines (minArrivalOf cells g) (λ (l : ℕ). chosen cells g l .arrival) 0 (g .outputs)) (choiceText listed cells g)
 
 -- "refusal 17 comes exactly when some output has no cover, and names the lowest; else the netlist of the cover that 01's choice gives is
 -- printed, or 18 exactly when it applies"
@@ -215,7 +215,7 @@ pub record ChosenCover (cells : List Cell) (g : Graph) : Type 0 where
   pub sources : (l : ℕ) → cover .source l ≡ chosen cells g l .source
   pub arrivals : CoverArrivals cells g (g .outputs) cover (λ l. chosen cells g l .arrival)
 
--- the choice by 01's order of preference: no allowed source of a placed phase whose pins have sources comes before the chosen one, and the
+-- the choice by 01's order of preference: no allowed source of an ordered phase whose pins have sources comes before the chosen one, and the
 -- chosen one is allowed and timed by the rule
 pub record Preferred (cells : List Cell) (g : Graph) (l : ℕ) : Type 0 where
   pub allowed : absent (chosen cells g l .source) ≡ false → Allowed cells g l (chosen cells g l .source)
@@ -229,7 +229,7 @@ pub record Preferred (cells : List Cell) (g : Graph) (l : ℕ) : Type 0 where
 -- what is said of the choice
 pub record Chosen (ranged : Bool) (bytes : ℕ) (outcome : Outcome) (listed cells : List Cell) (g : Graph) : Type 0 where
   pub covers : ((l : ℕ) → List·Memᴰ l (g .outputs) → Cover cells g (l ∷ [])) → ChosenCover cells g
-  pub preferred : (l : ℕ) → List·Memᴰ (varOf l) (placingOrder g) → Preferred cells g l
+  pub preferred : (l : ℕ) → List·Memᴰ (varOf l) (topologicalOrder g) → Preferred cells g l
 
 -- ---- "Delays given as a range"
 
@@ -240,13 +240,13 @@ pub record Chosen (ranged : Bool) (bytes : ℕ) (outcome : Outcome) (listed cell
 pub record WithinRanges (listed : List Cell) (g : Graph) (n : Blif) (ts : List TimingLine) : Type 0 where
   pub names : map (λ (x : TimingLine). x .output) ts ≡ n .outputs
   pub separate : (ds : List (List ℕ)) → length ds ≡ length (n .gates) → (delays : Delays) × (map (delaysAt delays) (n .gates) ≡ ds)
-  pub hasTimes : (delays : Delays) → (at : List ℕ → ℕ) × NetTimes listed delays n (map (g .late) (g .inputs)) at
-  pub within : (delays : Delays) → InRange listed delays n → (at : List ℕ → ℕ) → NetTimes listed delays n (map (g .late) (g .inputs)) at
+  pub hasTimes : (delays : Delays) → (at : List ℕ → ℕ) × NetTimes listed delays n (map (g .inputArrival) (g .inputs)) at
+  pub within : (delays : Delays) → InRange listed delays n → (at : List ℕ → ℕ) → NetTimes listed delays n (map (g .inputArrival) (g .inputs)) at
       → (x : TimingLine) → List·Memᴰ x ts → (x .low ≤ at (x .output)) × (at (x .output) ≤ x .high)
   pub lowest : (delays : Delays) × InRange listed delays n
-      × ((at : List ℕ → ℕ) → NetTimes listed delays n (map (g .late) (g .inputs)) at → map at (n .outputs) ≡ map (λ (x : TimingLine). x .low) ts)
+      × ((at : List ℕ → ℕ) → NetTimes listed delays n (map (g .inputArrival) (g .inputs)) at → map at (n .outputs) ≡ map (λ (x : TimingLine). x .low) ts)
   pub highest : (delays : Delays) × InRange listed delays n
-      × ((at : List ℕ → ℕ) → NetTimes listed delays n (map (g .late) (g .inputs)) at → map at (n .outputs) ≡ map (λ (x : TimingLine). x .high) ts)
+      × ((at : List ℕ → ℕ) → NetTimes listed delays n (map (g .inputArrival) (g .inputs)) at → map at (n .outputs) ≡ map (λ (x : TimingLine). x .high) ts)
 
 -- what a printed text says behind its `# gates` line, read there: under the longer names line these lines, under the shorter nothing
 pub record Ranges (c : Call) : Type 0 where
@@ -291,10 +291,11 @@ pub record Means (bytes : List ℕ) (g : Graph) : Type 0 where
 abbrev pub onGraph : Call → List ℕ → Call
 onGraph c t = record { paired = c .paired; library = c .library; graph = t; arrivals = c .arrivals; words = c .words; bytes = c .bytes }
 
--- "A file free of 19 to 21 and its ASCII twin, each within the length in 1, must give the same netlist": what a call's text means, its ASCII twin
+-- "A file free of 19 to 21 and its ASCII twin, each within the length in 1, must give the same netlist": what a call's text means, its ASCII form
 -- means; and whatever else differs in two texts that mean the same graph, the outcome is the same, netlist, figures or refusal
-pub record Twins (c : Call) : Type 0 where
-  pub twin : (g : Graph) → Means (c .graph) g → length (asciiText g) ≤ 65536 → Means (asciiText g) g
+-- document 02: "ASCII twin"
+pub record AsciiForms (c : Call) : Type 0 where
+  pub ascii : (g : Graph) → Means (c .graph) g → length (asciiText g) ≤ 65536 → Means (asciiText g) g
   pub same : (t : List ℕ) (g : Graph) → Means (c .graph) g → Means t g → mapTexts (onGraph c t) ≡ mapTexts c
 
 -- "Inputs are variables 1 to I and ANDs follow in sequence": 13, 14 and 15 refuse no text in the binary form
@@ -389,22 +390,22 @@ readUntimed c =
 pub record Untimed (c : Call) : Type 0 where
   pub reads : c .arrivals ≡ [] → readTexts c ≡ readUntimed c
   pub outcome : c .arrivals ≡ [] → mapTexts c ≡ mapDesign (c .bytes) (readUntimed c)
-  pub zero : (d : Design) → readUntimed c ≡ holds d → (v : ℕ) → d .graph .late v ≡ 0
+  pub zero : (d : Design) → readUntimed c ≡ holds d → (v : ℕ) → d .graph .inputArrival v ≡ 0
 
 -- these lines list input k, "an input's index from 0"
-abbrev pub Lists : List Late → ℕ → Type 0
-Lists es k = List·Memᴰ k (map (λ (e : Late). e .index) es)
+abbrev pub Lists : List InputArrival → ℕ → Type 0
+Lists es k = List·Memᴰ k (map (λ (e : InputArrival). e .index) es)
 
 -- what a call reads of arrivals: each line's index is an input's place in the file, no index is listed twice, the input there arrives as its line says,
 -- and "Inputs not listed arrive at 0."
-pub record ListedFor (g : Graph) (es : List Late) : Type 0 where
+pub record ListedFor (g : Graph) (es : List InputArrival) : Type 0 where
   pub inside : (k : ℕ) → Lists es k → k < length (g .inputs)
-  pub once : Distinct (map (λ (e : Late). e .index) es)
-  pub listed : (e : Late) → List·Memᴰ e es → g .late (getD (g .inputs) (e .index) 0) ≡ e .arrival
-  pub others : (k : ℕ) → k < length (g .inputs) → (¬ Lists es k) → g .late (getD (g .inputs) k 0) ≡ 0
+  pub once : Distinct (map (λ (e : InputArrival). e .index) es)
+  pub listed : (e : InputArrival) → List·Memᴰ e es → g .inputArrival (getD (g .inputs) (e .index) 0) ≡ e .arrival
+  pub others : (k : ℕ) → k < length (g .inputs) → (¬ Lists es k) → g .inputArrival (getD (g .inputs) k 0) ≡ 0
 
 abbrev pub Listed : Call → Type 0
-Listed c = (d : Design) → readTexts c ≡ holds d → (es : List Late) × (readArrivals (length (d .graph .inputs)) (c .arrivals) ≡ holds es) × ListedFor (d .graph) es
+Listed c = (d : Design) → readTexts c ≡ holds d → (es : List InputArrival) × (readArrivals (length (d .graph .inputs)) (c .arrivals) ≡ holds es) × ListedFor (d .graph) es
 
 -- ---- the shorter names line and no pairs: what was printed and refused before there were ranges and pairs is so still
 

@@ -3,7 +3,7 @@
 use Rattle.base.specs.{ℕ, suc, _^_, Bool, not, _&&_, Option, List, [], _∷_, eqb, leb, ltb, length, getD, drop}
 use Rattle.model.specs.Base.{all, any, same, andThen, only}
 use Rattle.model.specs.Text.{Line, ended, text, linesFrom, fields, numbers, hexTable, isName}
-use Rattle.model.specs.Reading.{Read, holds, fault, next, unless, from?}
+use Rattle.model.specs.ReadResult.{Read, holds, fault, next, unless, from?}
 use Rattle.model.specs.Cells.{nameOf}
 use Rattle.model.specs.LibraryText.{nameBytes}
 use Rattle.model.specs.declared.Cell.{Cell}
@@ -16,7 +16,7 @@ formerFields ws =
     andThen (numbers (getD ws 1 [] ∷ drop 3 ws)) (λ ns.
     andThen (hexTable (getD ws 2 [])) (λ table.
     only (leb (getD ns 0 0) 4)
-    (record { name = nameBytes (getD ws 0 []); len = length (getD ws 0 []); pins = getD ns 0 0; table = table; area = getD ns 1 0; delays = drop 2 ns; lows = drop 2 ns }))))
+    (record { name = nameBytes (getD ws 0 []); len = length (getD ws 0 []); pins = getD ns 0 0; table = table; area = getD ns 1 0; delays = drop 2 ns; mins = drop 2 ns }))))
 
 unfoldable pub formerLine : Line → Option Cell
 unfolding andThen only formerFields fields

@@ -3,7 +3,7 @@ use Rattle.base.specs.{ℕ, _+_, _/_, _%_, _^_, max, Bool, true, false, cond, _
 use Rattle.base.specs.{leb, ltb, length, drop, getD}
 use Rattle.model.specs.Base.{all, each, keep, same, andThen}
 use Rattle.model.specs.Text.{Line, text, decimal, linesFrom, ended, isNameByte}
-use Rattle.model.specs.Reading.{Read, holds, fault, next, unless, from?}
+use Rattle.model.specs.ReadResult.{Read, holds, fault, next, unless, from?}
 use Rattle.model.specs.GenlibWords.{tokens, isBlank, isSign, isWord, isFigure, thousandths, span}
 use Rattle.model.specs.GenlibFormula.{formed, shallow, isPin, pinsOf, nameValue, valueOf, rowBits}
 use Rattle.model.specs.declared.Written.{Written}

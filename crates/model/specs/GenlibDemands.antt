@@ -3,7 +3,7 @@ use Rattle.base.specs.{ℕ, _^_, _≤_, _<_, max, _≡_, Bool, true, false, not
 use Rattle.base.specs.{getD}
 use Rattle.model.specs.Base.{all, bit}
 use Rattle.model.specs.Text.{linesFrom, isName}
-use Rattle.model.specs.Reading.{holds}
+use Rattle.model.specs.ReadResult.{holds}
 use Rattle.model.specs.LibraryText.{nameBytes, readLibrary}
 use Rattle.model.specs.Demands.{Distinct}
 use Rattle.model.specs.GenlibWords.{isSign, isWord, thousandths}
@@ -14,7 +14,7 @@ use Rattle.model.specs.declared.Cell.{Cell}
 -- the cell of a gate's line, under the shorter names line: its lowest delays are its delays
 unfoldable pub cellOfGate : Gate → Cell
 unfolding nameBytes
-cellOfGate g = record { name = nameBytes (g .name); len = length (g .name); pins = g .pins; table = g .table; area = g .area; delays = g .delays; lows = g .delays }
+cellOfGate g = record { name = nameBytes (g .name); len = length (g .name); pins = g .pins; table = g .table; area = g .area; delays = g .delays; mins = g .delays }
 
 -- what 3, 4 and 5 ask of names and counts, "tried when the written text is read": at most 32 cells, names of "1 to 8 letters, digits or underscores, a
 -- letter first", none repeated
@@ -35,7 +35,7 @@ pub data Means (value : List ℕ → Bool) : Part → List (List ℕ) → Bool �
   named : (t : List ℕ) → isWord t ≡ true → Means value factor (t ∷ []) (value t)
   bracketed : {ts : List (List ℕ)} {v : Bool} (t u : List ℕ) → isSign 40 t ≡ true → Means value sum ts v → isSign 41 u ≡ true → Means value factor (t ∷ ts ++ (u ∷ [])) v
   -- "any number of `!` before a factor and of `'` after it"
-  turned : {ts : List (List ℕ)} {v : Bool} (t : List ℕ) → isSign 33 t ≡ true → Means value factor ts v → Means value factor (t ∷ ts) (not v)
+  signNegated : {ts : List (List ℕ)} {v : Bool} (t : List ℕ) → isSign 33 t ≡ true → Means value factor ts v → Means value factor (t ∷ ts) (not v)
   primed : {ts : List (List ℕ)} {v : Bool} (t : List ℕ) → Means value factor ts v → isSign 39 t ≡ true → Means value factor (ts ++ (t ∷ [])) (not v)
   -- "a product of factors"
   one : {ts : List (List ℕ)} {v : Bool} → Means value factor ts v → Means value product ts v
@@ -90,7 +90,7 @@ pub record WrittenCells (genlib : List ℕ) (bytes : ℕ) (t : List ℕ) : Type 
   pub isRead : readGenlib genlib ≡ holds gates
   pub mean : GatesMean (groups (linesFrom 0 [] genlib)) gates
   pub isText : t ≡ cellsText gates
-  pub room : length t ≤ bytes
+  pub capacity : length t ≤ bytes
   pub back : Listable gates → readLibrary t ≡ holds (map cellOfGate gates)
 
 abbrev pub GenlibDemand : List ℕ → ℕ → Type 0

@@ -5,16 +5,16 @@ use Rattle.model.specs.Base.{bit, one, flip, any, same, andThen}
 use Rattle.model.specs.Text.{text}
 use Rattle.model.specs.GenlibWords.{isSign, isWord}
 use Rattle.model.specs.declared.Scan.{Scan}
-use Rattle.model.specs.declared.Scan.the-variants.{Due, After, Done, Broken}
+use Rattle.model.specs.declared.Scan.the-variants.{Expected, After, Done, Broken}
 
 -- ---- the form, at any depth of brackets
 
--- The scan of a form: a factor is due, or one has ended, where so many brackets are open; the `;` has ended it, and nothing more may stand there.
+-- The scan of a form: a factor is expected, or one has ended, where so many brackets are open; the `;` has ended it, and nothing more may stand there.
 
--- where a factor is due: `!`, a bracket that opens, or a name
-unfoldable pub scanDue : ℕ → List ℕ → Scan
+-- where a factor is expected: `!`, a bracket that opens, or a name
+unfoldable pub scanExpected : ℕ → List ℕ → Scan
 unfolding isSign isWord
-scanDue depth t = cond (isSign 33 t) (Due depth) (cond (isSign 40 t) (Due (depth + 1)) (cond (isWord t) (After depth) Broken))
+scanExpected depth t = cond (isSign 33 t) (Expected depth) (cond (isSign 40 t) (Expected (depth + 1)) (cond (isWord t) (After depth) Broken))
 
 -- behind a factor: `'`, a bracket that closes, an operator, or the `;` where no bracket is open
 unfoldable pub scanAfter : ℕ → List ℕ → Scan
@@ -22,12 +22,12 @@ unfolding isSign
 scanAfter depth t =
     cond (isSign 39 t) (After depth)
     (cond (isSign 41 t) (cond (ltb 0 depth) (After (depth - 1)) Broken)
-    (cond (isSign 42 t || isSign 43 t) (Due depth)
+    (cond (isSign 42 t || isSign 43 t) (Expected depth)
     (cond (isSign 59 t && eqb depth 0) Done Broken)))
 
 unfoldable pub scanToken : Scan → List ℕ → Scan
-unfolding scanDue scanAfter
-scanToken (Due depth) t = scanDue depth t
+unfolding scanExpected scanAfter
+scanToken (Expected depth) t = scanExpected depth t
 scanToken (After depth) t = scanAfter depth t
 scanToken Done t = Broken
 scanToken Broken t = Broken
@@ -38,7 +38,7 @@ scan s [] = s
 scan s (t ∷ ts) = scan (scanToken s t) ts
 
 unfoldable pub isDone : Scan → Bool
-isDone (Due depth) = false
+isDone (Expected depth) = false
 isDone (After depth) = false
 isDone Done = true
 isDone Broken = false
@@ -46,7 +46,7 @@ isDone Broken = false
 -- the tokens are an expression and its `;`
 unfoldable pub formed : List (List ℕ) → Bool
 unfolding scan isDone
-formed ts = isDone (scan (Due 0) ts)
+formed ts = isDone (scan (Expected 0) ts)
 
 -- the brackets that are open behind a token
 unfoldable pub opened : ℕ → List ℕ → ℕ
@@ -107,10 +107,10 @@ abbrev pub Taken : Type 0
 Taken = Option (Bool × List (List ℕ))
 
 -- a value, turned once for each sign b that stands there, and the tokens behind them
-unfoldable pub turns : ℕ → Bool → List (List ℕ) → Bool × List (List ℕ)
+unfoldable pub negatedBySigns : ℕ → Bool → List (List ℕ) → Bool × List (List ℕ)
 unfolding isSign
-turns b v [] = (v, [])
-turns b v (t ∷ ts) = let r = turns b (not v) ts in cond (isSign b t) r (v, t ∷ ts)
+negatedBySigns b v [] = (v, [])
+negatedBySigns b v (t ∷ ts) = let r = negatedBySigns b (not v) ts in cond (isSign b t) r (v, t ∷ ts)
 
 -- the first token is the sign b
 unfoldable pub begins : ℕ → List (List ℕ) → Bool
@@ -130,8 +130,8 @@ chain b join part (suc fuel) v ts =
 
 -- a value, with the `'` behind it
 unfoldable pub quoted : Bool → List (List ℕ) → Taken
-unfolding turns
-quoted v ts = some (turns 39 v ts)
+unfolding negatedBySigns
+quoted v ts = some (negatedBySigns 39 v ts)
 
 -- the bracket that must close behind a value
 unfoldable pub closeBracket : Bool → List (List ℕ) → Taken
@@ -153,8 +153,8 @@ atom value inside odd ts =
 
 -- "any number of `!` before a factor and of `'` after it"
 unfoldable pub factorOf : (List ℕ → Bool) → (List (List ℕ) → Taken) → List (List ℕ) → Taken
-unfolding turns atom
-factorOf value inside ts = atom value inside (turns 33 false ts .0) (turns 33 false ts .1)
+unfolding negatedBySigns atom
+factorOf value inside ts = atom value inside (negatedBySigns 33 false ts .0) (negatedBySigns 33 false ts .1)
 
 -- "a product of factors"
 unfoldable pub productOf : (List ℕ → Bool) → ℕ → (List (List ℕ) → Taken) → List (List ℕ) → Taken

@@ -22,16 +22,16 @@ startsWord [] = false
 startsWord (b ∷ bs) = isWordByte b
 
 -- a byte in front of tokens: a blank is none, a word's byte joins the word behind it, any other stands alone
-abbrev pub placed : Bool → Bool → ℕ → List (List ℕ) → List (List ℕ)
-placed true joins b ts = ts
-placed false true b ts = onto b ts
-placed false false b ts = (b ∷ []) ∷ ts
+abbrev pub tokenPrepended : Bool → Bool → ℕ → List (List ℕ) → List (List ℕ)
+tokenPrepended true joins b ts = ts
+tokenPrepended false true b ts = onto b ts
+tokenPrepended false false b ts = (b ∷ []) ∷ ts
 
 -- the tokens of a line: its words, each the longest that it can be, and its signs, each a byte that is neither a word's nor a blank
 unfoldable pub tokens : List ℕ → List (List ℕ)
 unfolding isBlank isWordByte startsWord onto
 tokens [] = []
-tokens (b ∷ bs) = let ts = tokens bs in placed (isBlank b) (isWordByte b && startsWord bs) b ts
+tokens (b ∷ bs) = let ts = tokens bs in tokenPrepended (isBlank b) (isWordByte b && startsWord bs) b ts
 
 -- a token's first byte; a sign is known by it, since no word begins with a sign
 unfoldable pub lead : List ℕ → ℕ

@@ -1,4 +1,4 @@
--- The graph, the placing order, and the value of a variable as AIGER has it.
+-- The graph, the topological order, and the value of a variable as AIGER has it.
 use Rattle.base.specs.{ℕ, zero, suc, _+_, _*_, _/_, _%_, Bool, false, not, cond, _&&_, Option, none, some, List, [], _∷_, _++_, map}
 use Rattle.base.specs.{List·Memᴰ, _≡_, eqb, length}
 use Rattle.model.specs.Base.{flip, elem, keep, lowest, find, run}
@@ -16,7 +16,7 @@ pub record Graph : Type 0 where
   pub inputs : List ℕ
   pub outputs : List ℕ
   pub ands : List And
-  pub late : ℕ → ℕ
+  pub inputArrival : ℕ → ℕ
 
 -- "Literal 2v is variable v, 2v+1 its complement"
 unfoldable pub varOf : ℕ → ℕ
@@ -50,40 +50,41 @@ unfoldable pub node : Graph → ℕ → Node
 unfolding findAnd elem
 node g v = cond (eqb v 0) constant (cond (elem v (g .inputs)) input (findAnd v (g .ands)))
 
--- an AND "whose operands are both placed", and that is not placed itself
+-- an AND "whose operands are both placed", and that is not ordered itself
 unfoldable pub ready : List ℕ → And → Bool
 unfolding elem varOf
-ready placed a = not (elem (a .var) placed) && (elem (varOf (a .left)) placed && elem (varOf (a .right)) placed)
+ready ordered a = not (elem (a .var) ordered) && (elem (varOf (a .left)) ordered && elem (varOf (a .right)) ordered)
 
 -- v, and what comes after it; nothing where there is no v
 unfoldable pub andOn : Option ℕ → (ℕ → List ℕ) → List ℕ
 andOn none on = []
 andOn (some v) on = v ∷ on v
 
--- the ANDs that can be placed after those placed already, one after the other
-unfoldable pub placeF : ℕ → List And → List ℕ → List ℕ
+-- the ANDs that can be ordered after those ordered already, one after the other
+unfoldable pub orderFrom : ℕ → List And → List ℕ → List ℕ
 unfolding lowest ready keep andOn
-placeF zero ands placed = []
-placeF (suc fuel) ands placed =
-    andOn (lowest (map (λ (a : And). a .var) (keep (ready placed) ands))) (λ v. placeF fuel ands (v ∷ placed))
+orderFrom zero ands ordered = []
+orderFrom (suc fuel) ands ordered =
+    andOn (lowest (map (λ (a : And). a .var) (keep (ready ordered) ands))) (λ v. orderFrom fuel ands (v ∷ ordered))
 
 -- the variables of the ANDs
 abbrev pub andVars : Graph → List ℕ
 andVars g = map (λ (a : And). a .var) (g .ands)
 
 -- "variable 0 and the inputs first, then again and again the lowest-numbered AND whose operands are both placed"
-unfoldable pub placingOrder : Graph → List ℕ
-unfolding placeF
-placingOrder g = 0 ∷ g .inputs ++ placeF (length (g .ands)) (g .ands) (0 ∷ g .inputs)
+-- document 01: "placing order"
+unfoldable pub topologicalOrder : Graph → List ℕ
+unfolding orderFrom
+topologicalOrder g = 0 ∷ g .inputs ++ orderFrom (length (g .ands)) (g .ands) (0 ∷ g .inputs)
 
--- as many as variable 0, the inputs and the ANDs: no walk down from a placed variable is longer
+-- as many as variable 0, the inputs and the ANDs: no walk down from an ordered variable is longer
 unfoldable pub span : Graph → ℕ
 span g = suc (length (g .inputs) + length (g .ands))
 
 -- "Some AND can't be placed"
-unfoldable pub unplaced : Graph → List ℕ
-unfolding keep elem placingOrder
-unplaced g = let placed = placingOrder g in keep (λ (v : ℕ). not (elem v placed)) (andVars g)
+unfoldable pub unordered : Graph → List ℕ
+unfolding keep elem topologicalOrder
+unordered g = let ordered = topologicalOrder g in keep (λ (v : ℕ). not (elem v ordered)) (andVars g)
 
 -- ---- values
 
@@ -92,26 +93,26 @@ unfoldable pub literalValue : (ℕ → Bool) → ℕ → Bool
 unfolding flip negated varOf
 literalValue w l = flip (negated l) (w (varOf l))
 
--- the value of a variable, given the setting of the inputs and the values of the variables placed before it
+-- the value of a variable, given the assignment of the inputs and the values of the variables ordered before it
 unfoldable pub nodeValue : (ℕ → Bool) → (ℕ → Bool) → ℕ → Node → Bool
 unfolding literalValue
-nodeValue setting w v constant = false
-nodeValue setting w v input = setting v
-nodeValue setting w v undefined = false
-nodeValue setting w v (both l r) = literalValue w l && literalValue w r
+nodeValue assignment w v constant = false
+nodeValue assignment w v input = assignment v
+nodeValue assignment w v undefined = false
+nodeValue assignment w v (both l r) = literalValue w l && literalValue w r
 
--- the values of all variables under a setting of the inputs (by variable), in placing order
+-- the values of all variables under an assignment of the inputs (by variable), in topological order
 unfoldable pub values : Graph → (ℕ → Bool) → List (ℕ × Bool)
-unfolding run find placingOrder node nodeValue
-values g setting = run (λ known v. nodeValue setting (λ u. find false u known) v (node g v)) (placingOrder g) []
+unfolding run find topologicalOrder node nodeValue
+values g assignment = run (λ known v. nodeValue assignment (λ u. find false u known) v (node g v)) (topologicalOrder g) []
 
--- the value of a variable under a setting of the inputs
+-- the value of a variable under an assignment of the inputs
 unfoldable pub valueOf : Graph → (ℕ → Bool) → ℕ → Bool
 unfolding values find
-valueOf g setting v = find false v (values g setting)
+valueOf g assignment v = find false v (values g assignment)
 
--- AIGER's value of each variable, as a relation: the constant is false, an input has its setting, an AND is the AND of its literals
-pub record GraphValues (g : Graph) (setting w : ℕ → Bool) : Type 0 where
+-- AIGER's value of each variable, as a relation: the constant is false, an input has its assignment, an AND is the AND of its literals
+pub record GraphValues (g : Graph) (assignment w : ℕ → Bool) : Type 0 where
   pub atConstant : w 0 ≡ false
-  pub atInputs : (v : ℕ) → List·Memᴰ v (g .inputs) → w v ≡ setting v
+  pub atInputs : (v : ℕ) → List·Memᴰ v (g .inputs) → w v ≡ assignment v
   pub atAnds : (a : And) → List·Memᴰ a (g .ands) → w (a .var) ≡ (literalValue w (a .left) && literalValue w (a .right))

@@ -4,7 +4,7 @@ use Rattle.base.specs.{ℕ, zero, suc, _+_, _-_, _*_, _%_, Bool, true, false, n
 use Rattle.base.specs.{map, eqb, leb, ltb, length, getD, drop, replicate}
 use Rattle.model.specs.Base.{from, all, keep, each, elem, same, andThen, only}
 use Rattle.model.specs.Text.{Line, ended, endedByTen, nextOf, text, decimal, linesFrom, fields, numbers}
-use Rattle.model.specs.Reading.{Read, holds, fault, next, unless, from?, Ruling}
+use Rattle.model.specs.ReadResult.{Read, holds, fault, next, unless, from?, Refusal}
 use Rattle.model.specs.Graph.{And, Graph, varOf}
 use Rattle.model.specs.declared.Header.{Header}
 use Rattle.model.specs.declared.HeaderAnswer.{HeaderAnswer}
@@ -59,9 +59,9 @@ headerAnswer (holds h) = WasRead h
 headerAnswer (fault n k) = Refused n k
 
 -- the documents' number and place for each case of that answer
-unfoldable pub headerRuling : HeaderAnswer → Ruling
-headerRuling (WasRead h) = record { number = 0; place = 0 }
-headerRuling (Refused n k) = record { number = n; place = k }
+unfoldable pub headerRefusal : HeaderAnswer → Refusal
+headerRefusal (WasRead h) = record { number = 0; place = 0 }
+headerRefusal (Refused n k) = record { number = n; place = k }
 
 -- and its values, the numbers M, I, L, O and A of the line; a refusal has none
 unfoldable pub headerValues : HeaderAnswer → List ℕ
@@ -73,13 +73,13 @@ unfoldable pub headerNumbers : Read Header → List ℕ
 headerNumbers (holds h) = h .size ∷ h .inputs ∷ h .latches ∷ h .outputs ∷ h .ands ∷ []
 headerNumbers (fault n k) = []
 
--- ---- the due lines
+-- ---- the expected lines
 
--- the kinds of line that are due
+-- the kinds of line that are expected
 pub data Kind : Type 0 where
   anInput anOutput anAnd : Kind
 
--- how many numbers a due line has
+-- how many numbers an expected line has
 unfoldable pub howMany : Kind → ℕ
 howMany anInput = 1
 howMany anOutput = 1
@@ -92,31 +92,31 @@ defines anOutput = false
 defines anAnd = true
 
 -- "I input lines, O output lines and A lines"
-unfoldable pub due : Header → List Kind
-due h = replicate (h .inputs) anInput ++ (replicate (h .outputs) anOutput ++ replicate (h .ands) anAnd)
+unfoldable pub expected : Header → List Kind
+expected h = replicate (h .inputs) anInput ++ (replicate (h .outputs) anOutput ++ replicate (h .ands) anAnd)
 
--- a due line that is read
+-- an expected line that is read
 pub record Item : Type 0 where
   pub kind : Kind
   pub offset : ℕ
   pub literals : List ℕ
 
--- the literals of a due line: "one space between", and the line's end behind them; `isClosed` is the test of this end
+-- the literals of a expected line: "one space between", and the line's end behind them; `isClosed` is the test of this end
 unfoldable pub itemLiterals : (Line → Bool) → Kind → Line → Option (List ℕ)
 unfolding andThen only numbers fields howMany
 itemLiterals isClosed k l = let ws = fields (l .bytes) in andThen (only (isClosed l && eqb (length ws) (howMany k)) ws) numbers
 
--- the due lines, 11 to 13 "line by line"; `end` is the text's length, `size` is M, `before` the variables defined so far
-unfoldable pub readDue : (Line → Bool) → ℕ → ℕ → List ℕ → List Kind → List Line → Read (List Item)
+-- the expected lines, 11 to 13 "line by line"; `end` is the text's length, `size` is M, `before` the variables defined so far
+unfoldable pub readExpected : (Line → Bool) → ℕ → ℕ → List ℕ → List Kind → List Line → Read (List Item)
 unfolding next unless from? itemLiterals defines all elem varOf
-readDue isClosed end size before [] ls = holds []
-readDue isClosed end size before (k ∷ ks) [] = fault 11 end
-readDue isClosed end size before (k ∷ ks) (l ∷ ls) =
+readExpected isClosed end size before [] ls = holds []
+readExpected isClosed end size before (k ∷ ks) [] = fault 11 end
+readExpected isClosed end size before (k ∷ ks) (l ∷ ls) =
     next (from? (itemLiterals isClosed k l) 11 (l .offset)) (λ ns.
     let first = getD ns 0 0 in
     unless (all (λ (n : ℕ). leb n (2 * size + 1)) ns && (not (defines k) || (eqb (first % 2) 0 && not (eqb first 0)))) 12 (l .offset)
     (unless (not (defines k && elem (varOf first) before)) 13 (l .offset)
-    (next (readDue isClosed end size (cond (defines k) (varOf first ∷ before) before) ks ls) (λ is. holds (record { kind = k; offset = l .offset; literals = ns } ∷ is)))))
+    (next (readExpected isClosed end size (cond (defines k) (varOf first ∷ before) before) ks ls) (λ is. holds (record { kind = k; offset = l .offset; literals = ns } ∷ is)))))
 
 -- ---- the binary form: "Inputs are variables 1 to I and ANDs follow in sequence."
 
@@ -166,10 +166,10 @@ inputItems h = map (λ (v : ℕ). record { kind = anInput; offset = h .next; lit
 
 -- "Output lines are text as before and keep 11 and 12"; the ANDs begin behind them with variable I + 1
 unfoldable pub readBinary : List ℕ → Header → Read (List Item)
-unfolding next readDue readAnds behindLines inputItems linesFrom
+unfolding next readExpected readAnds behindLines inputItems linesFrom
 readBinary bytes h =
     let ls = linesFrom (h .next) [] (drop (h .next) bytes) in
-    next (readDue (closed true) (length bytes) (h .size) [] (replicate (h .outputs) anOutput) ls) (λ os.
+    next (readExpected (closed true) (length bytes) (h .size) [] (replicate (h .outputs) anOutput) ls) (λ os.
     next (readAnds bytes (behindLines (h .next) (h .outputs) ls) (2 * suc (h .inputs)) (h .ands)) (λ gs.
     holds (inputItems h ++ (os ++ gs))))
 
@@ -177,9 +177,9 @@ readBinary bytes h =
 
 -- the lines of the ASCII form, and what the binary form has in their place
 unfoldable pub readItems : List ℕ → Header → Read (List Item)
-unfolding readDue due readBinary linesFrom
+unfolding readExpected expected readBinary linesFrom
 readItems bytes h =
-    let ascii = readDue (closed false) (length bytes) (h .size) [] (due h) (linesFrom (h .next) [] (drop (h .next) bytes)) in
+    let ascii = readExpected (closed false) (length bytes) (h .size) [] (expected h) (linesFrom (h .next) [] (drop (h .next) bytes)) in
     let binary = readBinary bytes h in
     cond (h .binary) binary ascii
 
@@ -226,7 +226,7 @@ graphOf size is = record {
   inputs = map (λ (i : Item). varOf (getD (i .literals) 0 0)) (keep (isKind anInput) is);
   outputs = map (λ (i : Item). getD (i .literals) 0 0) (keep (isKind anOutput) is);
   ands = map (λ (i : Item). record { var = varOf (getD (i .literals) 0 0); left = getD (i .literals) 1 0; right = getD (i .literals) 2 0 }) (keep (isKind anAnd) is);
-  late = λ _. 0;
+  inputArrival = λ _. 0;
 }
 
 -- the graph behind a header that is accepted: 11 to 14, or 11, 12, 20 and 21, over what stands behind the header's line
@@ -236,7 +236,7 @@ readGraph bytes h =
     next (readItems bytes h) (λ is.
     next (checkUses (definedBy is) is) (λ js. holds (graphOf (h .size) js)))
 
--- ---- the ASCII twin
+-- ---- the ASCII form
 
 -- a line of numbers: "one space between, byte 10 after each line"
 unfoldable pub numbersLine : ℕ → List ℕ → List ℕ

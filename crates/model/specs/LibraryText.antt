@@ -3,7 +3,7 @@ use Rattle.base.specs.{ℕ, suc, _-_, _^_, Bool, true, false, not, cond, _&&_, 
 use Rattle.base.specs.{take, drop, replicate}
 use Rattle.model.specs.Base.{all, any, same, andThen, only}
 use Rattle.model.specs.Text.{Line, ended, text, linesFrom, fields, numbers, hexTable, isName}
-use Rattle.model.specs.Reading.{Read, holds, fault, next, unless, from?}
+use Rattle.model.specs.ReadResult.{Read, holds, fault, next, unless, from?}
 use Rattle.model.specs.Cells.{nameOf}
 use Rattle.model.specs.declared.Cell.{Cell}
 
@@ -26,7 +26,7 @@ cellOfFields ranged ws =
       table = table;
       area = getD ns 1 0;
       delays = take 4 (drop 2 ns);
-      lows = drop (cond ranged 6 2) ns;
+      mins = drop (cond ranged 6 2) ns;
     }))))
 
 -- "Accept either ending, line by line": a line without its end is no cell's
@@ -37,7 +37,7 @@ cellOfLine ranged l = andThen (only (ended l) (fields (l .bytes))) (cellOfFields
 -- no "table bit at or above row 2^pins", and no "delay of an absent pin" that "isn't 0": "An absent pin has lowest delay 0, else 6 applies."
 unfoldable pub isClean : Cell → Bool
 unfolding all
-isClean c = ltb (c .table) (2 ^ 2 ^ c .pins) && (all (eqb 0) (drop (c .pins) (c .delays)) && all (eqb 0) (drop (c .pins) (c .lows)))
+isClean c = ltb (c .table) (2 ^ 2 ^ c .pins) && (all (eqb 0) (drop (c .pins) (c .delays)) && all (eqb 0) (drop (c .pins) (c .mins)))
 
 -- no "lowest delay exceeds its `d`"
 unfoldable pub noLower : List ℕ → List ℕ → Bool
@@ -55,7 +55,7 @@ readCells ranged k before (l ∷ ls) =
     (next (from? (cellOfLine ranged l) 4 (l .offset)) (λ c.
     unless (not (any (λ (d : Cell). same (nameOf c) (nameOf d)) before)) 5 (l .offset)
     (unless (isClean c) 6 (l .offset)
-    (unless (noLower (c .lows) (c .delays)) 27 (l .offset)
+    (unless (noLower (c .mins) (c .delays)) 27 (l .offset)
     (next (readCells ranged (suc k) (c ∷ before) ls) (λ cs. holds (c ∷ cs)))))))
 
 -- document 01's names line

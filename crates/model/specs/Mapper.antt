@@ -1,7 +1,7 @@
 -- The whole: three texts, the lent words and bytes, the answer "in checking order", and what the lent memory then holds.
 use Rattle.base.specs.{ℕ, Bool, cond, _&&_, _||_, List, _++_, eqb, leb, length, drop, replicate}
 use Rattle.model.specs.Limits.{need}
-use Rattle.model.specs.Reading.{Read, holds, fault, next, unless}
+use Rattle.model.specs.ReadResult.{Read, holds, fault, next, unless}
 use Rattle.model.specs.LibraryText.{readLibrary, isRanged}
 use Rattle.model.specs.Pairs.{cellsFor}
 use Rattle.model.specs.GraphText.{readHeader, readGraph}

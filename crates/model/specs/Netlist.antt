@@ -3,11 +3,11 @@ use Rattle.base.specs.{ℕ, suc, _+_, _*_, max, Bool, true, false, cond, not, O
 use Rattle.base.specs.{length, take, drop}
 use Rattle.model.specs.Base.{keep, each, find, elem, below, lowest}
 use Rattle.model.specs.Text.{text, decimal}
-use Rattle.model.specs.Reading.{refusedAt, firstOf}
+use Rattle.model.specs.ReadResult.{refusedAt, firstOf}
 use Rattle.model.specs.Cells.{nameOf, cellAt}
 use Rattle.model.specs.Pairs.{splice, pairAt}
-use Rattle.model.specs.Graph.{Graph, placingOrder, unplaced, varOf, negated, literal}
-use Rattle.model.specs.Cuts.{cutsOf, crowded}
+use Rattle.model.specs.Graph.{Graph, topologicalOrder, unordered, varOf, negated, literal}
+use Rattle.model.specs.Cuts.{cutsOf, overLimit}
 use Rattle.model.specs.Choice.{Phases, noPhases, phaseOf, feeds, absent, choices, chosen}
 use Rattle.model.specs.declared.Cell.{Cell}
 use Rattle.model.specs.declared.Source.{Source}
@@ -40,8 +40,8 @@ spread cells cuts phase (l ∷ ls) needed =
 
 -- the needed phases
 unfoldable pub needed : List Cell → Graph → (ℕ → Phase) → List ℕ
-unfolding spread backwards placingOrder each cutsOf
-needed cells g phase = spread cells (cutsOf g) phase (each (backwards phase) (reverse (placingOrder g))) (g .outputs)
+unfolding spread backwards topologicalOrder each cutsOf
+needed cells g phase = spread cells (cutsOf g) phase (each (backwards phase) (reverse (topologicalOrder g))) (g .outputs)
 
 -- ---- gates
 
@@ -76,11 +76,11 @@ gatesBy listed k fed l =
     cond (ltb k (length listed)) (oneGate (cellAt listed k) fed l) (twoGates (cellAt listed (p .root)) (p .pin) (cellAt listed (p .inner)) fed l)
 
 -- "inputs' own positive nets"
-unfoldable pub isOwn : Source → Bool
-isOwn Input = true
-isOwn Nothing = false
-isOwn (Matched m) = false
-isOwn (Inverted c) = false
+unfoldable pub isInputSource : Source → Bool
+isInputSource Input = true
+isInputSource Nothing = false
+isInputSource (Matched m) = false
+isInputSource (Inverted c) = false
 
 -- the number of a source's cell
 unfoldable pub numberOf : Source → ℕ
@@ -91,11 +91,11 @@ numberOf (Inverted c) = c
 
 -- "Needed phases, inputs' own positive nets apart, become gates by ascending variable, `p` first."
 unfoldable pub gates : List Cell → List Cell → Graph → (ℕ → Phase) → List Gate
-unfolding keep needed elem below feeds gatesBy numberOf isOwn cutsOf each
+unfolding keep needed elem below feeds gatesBy numberOf isInputSource cutsOf each
 gates listed cells g phase =
     let nets = needed cells g phase in
     each (λ (l : ℕ). gatesBy listed (numberOf (phase l .source)) (feeds cells (cutsOf g) l (phase l .source)) l)
-    (keep (λ (l : ℕ). cond (elem l nets) (not (isOwn (phase l .source))) false) (below (2 * suc (g .size))))
+    (keep (λ (l : ℕ). cond (elem l nets) (not (isInputSource (phase l .source))) false) (below (2 * suc (g .size))))
 
 -- ---- the text
 
@@ -183,14 +183,14 @@ uncovered phase k (l ∷ ls) = let rest = uncovered phase (suc k) ls in cond (ab
 -- ---- the verdicts of the layers
 
 -- "Some AND can't be placed; place, the lowest such variable."
-unfoldable pub placingVerdict : Graph → Verdict
-unfolding refusedAt lowest unplaced
-placingVerdict g = refusedAt 15 (lowest (unplaced g))
+unfoldable pub orderVerdict : Graph → Verdict
+unfolding refusedAt lowest unordered
+orderVerdict g = refusedAt 15 (lowest (unordered g))
 
 -- "place, the first such variable in placing order"
 unfoldable pub cutsVerdict : Graph → Verdict
-unfolding refusedAt firstOf crowded
-cutsVerdict g = refusedAt 16 (firstOf (crowded g))
+unfolding refusedAt firstOf overLimit
+cutsVerdict g = refusedAt 16 (firstOf (overLimit g))
 
 -- "place, the lowest such index, from 0"
 unfoldable pub coverVerdict : List Cell → Graph → Verdict
@@ -221,13 +221,13 @@ unfolding mapChosen choices
 mapCut listed cells g (v ∷ vs) = refused 16 v
 mapCut listed cells g [] = mapChosen listed cells g (choices cells g)
 
--- the cuts, unless some AND can't be placed: "place, the lowest such variable"
-unfoldable pub mapPlaced : List Cell → List Cell → Graph → Option ℕ → Outcome
-unfolding mapCut crowded
-mapPlaced listed cells g (some v) = refused 15 v
-mapPlaced listed cells g none = mapCut listed cells g (crowded g)
+-- the cuts, unless some AND can't be ordered: "place, the lowest such variable"
+unfoldable pub mapOrdered : List Cell → List Cell → Graph → Option ℕ → Outcome
+unfolding mapCut overLimit
+mapOrdered listed cells g (some v) = refused 15 v
+mapOrdered listed cells g none = mapCut listed cells g (overLimit g)
 
 -- what is printed for a library and a graph, 15 to 17 tried in this order: `cells` are the listed cells, and pairs where they are wanted
 unfoldable pub mapGraph : List Cell → List Cell → Graph → Outcome
-unfolding mapPlaced lowest unplaced
-mapGraph listed cells g = mapPlaced listed cells g (lowest (unplaced g))
+unfolding mapOrdered lowest unordered
+mapGraph listed cells g = mapOrdered listed cells g (lowest (unordered g))

@@ -1,7 +1,7 @@
 -- Orders of the ANDs and sets of cuts as document 01's sentences have them, apart from the definitions that compute them: what 15 and 16 are stated by.
 use Rattle.base.specs.{ℕ, _≤_, _<_, _≡_, _⊎_, _↔_, List, [], _∷_, _++_, List·Memᴰ, length}
 use Rattle.model.specs.Limits.{cutLimit}
-use Rattle.model.specs.Graph.{And, Graph, varOf, andVars, placingOrder}
+use Rattle.model.specs.Graph.{And, Graph, varOf, andVars, topologicalOrder}
 use Rattle.model.specs.Demands.{Distinct}
 
 -- ---- orders
@@ -60,9 +60,9 @@ pub record Many (g : Graph) (v : ℕ) : Type 0 where
   pub over : cutLimit < length cuts
 
 -- "place, the first such variable in placing order"
-pub record FirstCrowded (g : Graph) (v : ℕ) : Type 0 where
+pub record FirstOverLimit (g : Graph) (v : ℕ) : Type 0 where
   pub before : List ℕ
   pub behind : List ℕ
-  pub isPlaced : placingOrder g ≡ before ++ (v ∷ behind)
+  pub isOrdered : topologicalOrder g ≡ before ++ (v ∷ behind)
   pub many : Many g v
   pub fewBefore : (u : ℕ) → List·Memᴰ u before → ¬ Many g u

@@ -48,7 +48,7 @@ pairOf root pin inner = record {
   table = pairTable root pin inner;
   area = root .area + inner .area;
   delays = pairDelays pin (inner .pins) (root .delays) (inner .delays);
-  lows = pairDelays pin (inner .pins) (root .lows) (inner .lows);
+  mins = pairDelays pin (inner .pins) (root .mins) (inner .mins);
 }
 
 -- a pair by the lines of its cells, from 0, and the fed pin

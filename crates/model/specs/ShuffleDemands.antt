@@ -1,9 +1,9 @@
 -- Request N13, "Shuffled libraries": what "two accepted libraries holding the same cell lines in any orders" agree on. Nothing is said of the gates, of the
--- area, of low arrivals and of 18, which "may differ".
+-- area, of minimum arrivals and of 18, which "may differ".
 use Rattle.base.specs.{ℕ, _≤_, _≡_, _↔_, List, [], _∷_, map, List·Memᴰ}
 use Rattle.model.specs.Text.{Line, linesFrom}
-use Rattle.model.specs.Reading.{holds}
-use Rattle.model.specs.Graph.{Graph, unplaced}
+use Rattle.model.specs.ReadResult.{holds}
+use Rattle.model.specs.Graph.{Graph, unordered}
 use Rattle.model.specs.Cover.{Needed, Cover, CoverArrivals}
 use Rattle.model.specs.Netlist.{refused, mapped, netName}
 use Rattle.model.specs.Blif.{Blif, NetArrivals}
@@ -39,12 +39,12 @@ pub record EarliestAt (cells : List Cell) (g : Graph) (l t : ℕ) : Type 0 where
 abbrev pub onLibrary : Call → List ℕ → Call
 onLibrary c library = record { paired = c .paired; library = library; graph = c .graph; arrivals = c .arrivals; words = c .words; bytes = c .bytes }
 
--- "with no refusal before 16, two accepted libraries": the texts hold d with the call's library and d′ with the other, and all ANDs can be placed
+-- "with no refusal before 16, two accepted libraries": the texts hold d with the call's library and d′ with the other, and all ANDs can be ordered
 pub record Shuffled (c : Call) (library : List ℕ) (d d′ : Design) : Type 0 where
   pub lines : SameLines (c .library) library
   pub design : readTexts c ≡ holds d
   pub design′ : readTexts (onLibrary c library) ≡ holds d′
-  pub placed : unplaced (d .graph) ≡ []
+  pub ordered : unordered (d .graph) ≡ []
 
 -- they "agree on the earliest arrival of every `p` and `m` net, on whether 16 or 17 occurs and its place, and, where both print, on the printed arrival".
 -- "Where pairs are formed, both libraries form theirs": the covers of each are over its own cells and pairs. And a `p` or `m` net that both print arrives
@@ -59,8 +59,8 @@ pub record Agree (c : Call) (library : List ℕ) (d d′ : Design) : Type 0 wher
   pub seventeen : (k : ℕ) → (mapTexts c ≡ refused 17 k) ↔ (mapTexts (onLibrary c library) ≡ refused 17 k)
   pub arrival : (t t′ : List ℕ) (f f′ : Figures) → mapTexts c ≡ mapped t f → mapTexts (onLibrary c library) ≡ mapped t′ f′ → f .arrival ≡ f′ .arrival
   pub nets : (t t′ : List ℕ) (f f′ : Figures) (n n′ : Blif) → Printed c t f d n → Printed (onLibrary c library) t′ f′ d′ n′
-      → (at at′ : List ℕ → ℕ) → NetArrivals (d .listed) n (map (d .graph .late) (d .graph .inputs)) at
-      → NetArrivals (d′ .listed) n′ (map (d′ .graph .late) (d′ .graph .inputs)) at′
+      → (at at′ : List ℕ → ℕ) → NetArrivals (d .listed) n (map (d .graph .inputArrival) (d .graph .inputs)) at
+      → NetArrivals (d′ .listed) n′ (map (d′ .graph .inputArrival) (d′ .graph .inputs)) at′
       → (l : ℕ) → List·Memᴰ (netName l) (drivenNets n) → List·Memᴰ (netName l) (drivenNets n′) → at (netName l) ≡ at′ (netName l)
 
 -- so with every library of the same cell lines

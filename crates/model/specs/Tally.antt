@@ -4,7 +4,7 @@ use Rattle.base.specs.{ℕ, suc, _+_, _-_, _*_, _^_, Bool, cond, _&&_, Option, 
 use Rattle.base.specs.{take, getD, replicate}
 use Rattle.model.specs.Base.{one, all, each, same, below}
 use Rattle.model.specs.Text.{Line, endedByTen, text, decimal, linesFrom, fields}
-use Rattle.model.specs.Reading.{Read, holds, fault, next, unless}
+use Rattle.model.specs.ReadResult.{Read, holds, fault, next, unless}
 use Rattle.model.specs.Cells.{nameOf, cellAt}
 use Rattle.model.specs.LibraryText.{readLibrary, isRanged}
 use Rattle.model.specs.Netlist.{sum}
@@ -29,12 +29,12 @@ inWidth t =
 
 -- ---- the netlist, 29
 
--- lines due one after the other, and those behind them; a missing line's place is the text's length, `end`
-unfoldable pub dueLines : ℕ → List (List ℕ → Bool) → List Line → Read (List Line)
+-- lines expected one after the other, and those behind them; a missing line's place is the text's length, `end`
+unfoldable pub expectedLines : ℕ → List (List ℕ → Bool) → List Line → Read (List Line)
 unfolding unless
-dueLines end [] ls = holds ls
-dueLines end (p ∷ ps) [] = fault 29 end
-dueLines end (p ∷ ps) (l ∷ ls) = let r = dueLines end ps ls in unless (endedByTen l && p (l .bytes)) 29 (l .offset) r
+expectedLines end [] ls = holds ls
+expectedLines end (p ∷ ps) [] = fault 29 end
+expectedLines end (p ∷ ps) (l ∷ ls) = let r = expectedLines end ps ls in unless (endedByTen l && p (l .bytes)) 29 (l .offset) r
 
 -- a line too many
 unfoldable pub nothingLeft : List Line → Read (List Line)
@@ -63,9 +63,10 @@ unfolding sum cellAt
 areaOf cells used = sum (map (λ (i : ℕ). cellAt cells i .area) used)
 
 -- the first three lines
-unfoldable pub frame : List (List ℕ → Bool)
+-- document 01: "frame"
+unfoldable pub preamble : List (List ℕ → Bool)
 unfolding same text isNameList
-frame = same (text ".model top") ∷ isNameList (text ".inputs") 112 ∷ isNameList (text ".outputs") 111 ∷ []
+preamble = same (text ".model top") ∷ isNameList (text ".inputs") 112 ∷ isNameList (text ".outputs") 111 ∷ []
 
 -- `.names` and `1 1` for so many outputs
 unfoldable pub wirePairs : ℕ → List (List ℕ → Bool)
@@ -90,12 +91,12 @@ outputsOf ls = length (fields (getD ls 2 (record { offset = 0; bytes = []; endin
 -- the cells of a netlist's gates: "29 when a line isn't of the kind and form mapping prints there .., names no listed cell, or gives a gate count or area that
 -- isn't that of the gates above it"
 unfoldable pub readCounted : Bool → List Cell → List ℕ → Read (List ℕ)
-unfolding next dueLines frame gatesIn afterGates areaOf behindGates outputsOf nothingLeft linesFrom
+unfolding next expectedLines preamble gatesIn afterGates areaOf behindGates outputsOf nothingLeft linesFrom
 readCounted ranged cells bytes =
     let ls = linesFrom 0 [] bytes in
-    next (dueLines (length bytes) frame ls) (λ ms.
+    next (expectedLines (length bytes) preamble ls) (λ ms.
     let used = gatesIn cells ms in
-    next (dueLines (length bytes) (behindGates ranged (outputsOf ls) (length used) (areaOf cells used)) (afterGates cells ms)) (λ rest.
+    next (expectedLines (length bytes) (behindGates ranged (outputsOf ls) (length used) (areaOf cells used)) (afterGates cells ms)) (λ rest.
     next (nothingLeft rest) (λ _. holds used)))
 
 -- ---- counting

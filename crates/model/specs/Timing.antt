@@ -1,9 +1,9 @@
 -- The arrivals of the chosen phases under other pin delays: the sources stay, and `delays l` are those of the cell that drives phase l.
--- With the lowest delays they are the low arrivals of the `# timing` lines.
+-- With the lowest delays they are the minimum arrivals of the `# timing` lines.
 use Rattle.base.specs.{ℕ, suc, Bool, true, false, cond, List, [], _∷_, _++_, map}
 use Rattle.model.specs.Base.{find, run}
 use Rattle.model.specs.Text.{text, decimal}
-use Rattle.model.specs.Graph.{Graph, placingOrder, varOf, negated, literal}
+use Rattle.model.specs.Graph.{Graph, topologicalOrder, varOf, negated, literal}
 use Rattle.model.specs.Cuts.{cutsOf}
 use Rattle.model.specs.Choice.{feeds, cellOf, latest, chosen}
 use Rattle.model.specs.Netlist.{Outcome, refused, mapped, outName}
@@ -28,43 +28,44 @@ timeOf known l = let t = known (varOf l) in cond (negated l) (t .negative) (t .p
 -- an input's being its own
 unfoldable pub ownTime : List Cell → Graph → List ℕ → (ℕ → Times) → ℕ → Source → ℕ
 unfolding timeOf latest feeds cutsOf
-ownTime cells g delays known l Input = g .late (varOf l)
+ownTime cells g delays known l Input = g .inputArrival (varOf l)
 ownTime cells g delays known l Nothing = 0
 ownTime cells g delays known l (Matched m) = latest (map (timeOf known) (feeds cells (cutsOf g) l (Matched m))) delays
 ownTime cells g delays known l (Inverted c) = 0
 
 -- an inverter, which the other phase's own arrival feeds
-unfoldable pub turnedTime : List ℕ → ℕ → ℕ → Source → ℕ
+unfoldable pub inverterTime : List ℕ → ℕ → ℕ → Source → ℕ
 unfolding latest
-turnedTime delays own other Input = own
-turnedTime delays own other Nothing = own
-turnedTime delays own other (Matched m) = own
-turnedTime delays own other (Inverted c) = latest (other ∷ []) delays
+inverterTime delays own other Input = own
+inverterTime delays own other Nothing = own
+inverterTime delays own other (Matched m) = own
+inverterTime delays own other (Inverted c) = latest (other ∷ []) delays
 
 -- the two phases of a variable
 unfoldable pub timesAt : List Cell → Graph → (ℕ → Source) → (ℕ → List ℕ) → (ℕ → Times) → ℕ → Times
-unfolding ownTime turnedTime literal
+unfolding ownTime inverterTime literal
 timesAt cells g source delays known v =
     let p = ownTime cells g (delays (literal false v)) known (literal false v) (source (literal false v)) in
     let m = ownTime cells g (delays (literal true v)) known (literal true v) (source (literal true v)) in
     record {
-      positive = turnedTime (delays (literal false v)) p m (source (literal false v));
-      negative = turnedTime (delays (literal true v)) m p (source (literal true v));
+      positive = inverterTime (delays (literal false v)) p m (source (literal false v));
+      negative = inverterTime (delays (literal true v)) m p (source (literal true v));
     }
 
--- all variables, in placing order
+-- all variables, in topological order
 unfoldable pub retimes : List Cell → Graph → (ℕ → Source) → (ℕ → List ℕ) → List (ℕ × Times)
-unfolding run find placingOrder timesAt
-retimes cells g source delays = run (λ known v. timesAt cells g source delays (λ u. find noTimes u known) v) (placingOrder g) []
+unfolding run find topologicalOrder timesAt
+retimes cells g source delays = run (λ known v. timesAt cells g source delays (λ u. find noTimes u known) v) (topologicalOrder g) []
 
 unfoldable pub retimed : List Cell → Graph → (ℕ → Source) → (ℕ → List ℕ) → ℕ → ℕ
 unfolding retimes timeOf find
 retimed cells g source delays l = let known = retimes cells g source delays in timeOf (λ u. find noTimes u known) l
 
--- the low arrival of a phase: "the lowest delays", the sources being those that "the `d` figures" choose
-unfoldable pub lowOf : List Cell → Graph → ℕ → ℕ
+-- the minimum arrival of a phase: "the lowest delays", the sources being those that "the `d` figures" choose
+-- document 02: "low arrivals"
+unfoldable pub minArrivalOf : List Cell → Graph → ℕ → ℕ
 unfolding retimed chosen cellOf
-lowOf cells g l = retimed cells g (λ x. chosen cells g x .source) (λ x. cellOf cells (chosen cells g x .source) .lows) l
+minArrivalOf cells g l = retimed cells g (λ x. chosen cells g x .source) (λ x. cellOf cells (chosen cells g x .source) .mins) l
 
 -- ---- the lines
 
@@ -77,7 +78,7 @@ timingLines low high k (l ∷ ls) =
 
 -- "The netlist is then followed by a line per output"
 unfoldable pub followed : Bool → List Cell → Graph → Outcome → Outcome
-unfolding timingLines lowOf chosen
+unfolding timingLines minArrivalOf chosen
 followed ranged cells g (refused n k) = refused n k
 followed false cells g (mapped t f) = mapped t f
-followed true cells g (mapped t f) = mapped (t ++ timingLines (lowOf cells g) (λ (l : ℕ). chosen cells g l .arrival) 0 (g .outputs)) f
+followed true cells g (mapped t f) = mapped (t ++ timingLines (minArrivalOf cells g) (λ (l : ℕ). chosen cells g l .arrival) 0 (g .outputs)) f

@@ -9,7 +9,7 @@ pub struct Cell {
     pub table: u16,
     pub area: u16,
     pub delays: [u16; 4],
-    pub lows: [u16; 4],
+    pub mins: [u16; 4],
 }
 
 // "No cells and 32 cells are accepted." The first `n` are the library's, in the order of their lines.
@@ -94,9 +94,9 @@ pub enum Written {
     Refused(usize, usize),
 }
 
-// The scan of a genlib expression: a factor is due, or one has ended, where so many brackets are open; or the `;` has ended it.
+// The scan of a genlib expression: a factor is expected, or one has ended, where so many brackets are open; or the `;` has ended it.
 pub enum Scan {
-    Due(usize),
+    Expected(usize),
     After(usize),
     Done,
     Broken,
@@ -123,7 +123,7 @@ pub struct Counted {
     pub tally: Tally,
 }
 
-// What a check of a netlist answers: it computes the graph; or the lowest setting that differs and that setting's first wrong output; or a
+// What a check of a netlist answers: it computes the graph; or the lowest assignment that differs and that assignment's first wrong output; or a
 // refusal's number and place.
 pub enum Checked {
     Accepted,

@@ -1,3 +1,3 @@
--- `Feeding`: the nets of a match, and its gates.
-pub mod Feeding
-pub use Feeding.{drives-by, drives-inverted, four-taken, number-pins}
+-- `GateFeeds`: the nets of a match, and its gates.
+pub mod GateFeeds
+pub use GateFeeds.{drives-by, drives-inverted, four-taken, number-pins}

@@ -1,5 +1,5 @@
--- `Gates`: a phase's gates as the code holds them, and what in the book they are made of.
-pub mod Gates
-pub use Gates.{Drives, FewPins, LineReady, NumberReady, PairReady, fourNets, innerFour, innerIn, innerNets, insideNet, noInstance}
-pub use Gates.{oneDriver, pairDriver, phaseNet, rootFour, rootIn, rootNet, rootNets, twoDriver}
-unfoldable pub use Gates.{driverBy, gateOf, gatesOf, gatesUnder, netOf, pinsBy, rootPick}
+-- `PhaseGates`: a phase's gates as the code holds them, and what in the list of cell records they are made of.
+pub mod PhaseGates
+pub use PhaseGates.{Drives, FewPins, LineReady, NumberReady, PairReady, fourNets, innerFour, innerIn, innerNets, insideNet, noInstance}
+pub use PhaseGates.{oneDriver, pairDriver, phaseNet, rootFour, rootIn, rootNet, rootNets, twoDriver}
+unfoldable pub use PhaseGates.{driverBy, gateOf, gatesOf, gatesUnder, netOf, pinsBy, rootPick}

@@ -89,7 +89,7 @@ fn no_instance() -> Instance
         table: 0,
         area: 0,
         delays: [0; 4],
-        lows: [0; 4],
+        mins: [0; 4],
     };
     Instance {
         cell,
@@ -162,25 +162,25 @@ fn two_gates(a: Cell, pin: usize, b: Cell, nets: [u32; 4], l: usize) -> Driver
 }
 
 // The pair of a number: its cells, and the fed pin.
-fn pair_gates(book: &[u8], code: usize, nets: [u32; 4], l: usize) -> Driver
-    requires { ⌜ PairReady (now book) code × (l < 65536) ⌝ }
-    ensures { λ r. ⌜ r ≡ pairDriver (now (book .entry)) code nets l ⌝ }
+fn pair_gates(records: &[u8], id: usize, nets: [u32; 4], l: usize) -> Driver
+    requires { ⌜ PairReady (now records) id × (l < 65536) ⌝ }
+    ensures { λ r. ⌜ r ≡ pairDriver (now (records .entry)) id nets l ⌝ }
 {
-    let a = cells_pairs::cell_at(book, code / 128);
-    let b = cells_pairs::cell_at(book, code % 32);
-    two_gates(a, code / 32 % 4, b, nets, l)
+    let a = cells_pairs::cell_at(records, id / 128);
+    let b = cells_pairs::cell_at(records, id % 32);
+    two_gates(a, id / 32 % 4, b, nets, l)
 }
 
 // The cell of number k that drives phase l, a listed one or a pair.
-pub fn gates_by(book: &[u8], k: usize, nets: [u32; 4], l: usize) -> Driver
-    requires { ⌜ NumberReady (now book) k × (l < 65536) ⌝ }
-    ensures { λ r. ⌜ r ≡ driverBy (now (book .entry)) k nets l ⌝ }
+pub fn gates_by(records: &[u8], k: usize, nets: [u32; 4], l: usize) -> Driver
+    requires { ⌜ NumberReady (now records) k × (l < 65536) ⌝ }
+    ensures { λ r. ⌜ r ≡ driverBy (now (records .entry)) k nets l ⌝ }
 {
-    if k < cells_pairs::count(book) {
-        let cell = cells_pairs::cell_at(book, k);
+    if k < cells_pairs::count(records) {
+        let cell = cells_pairs::cell_at(records, k);
         one_gate(cell, nets, cell.pins as usize, l)
     } else {
-        let code = cells_pairs::code_at(book, k);
-        pair_gates(book, code, nets, l)
+        let id = cells_pairs::pair_id_at(records, k);
+        pair_gates(records, id, nets, l)
     }
 }

@@ -1,7 +1,7 @@
--- `Lowest`: laws of the pass. `Retimed`: what it leaves is `model`'s low arrival of every phase that has a source. `Counting`: the timing lines.
-pub mod Lowest
-pub mod Retimed
-pub mod Counting
-pub use Lowest.{LowsKept, lows-leaves, lows-phase}
-pub use Retimed.{Ready, retime-kept, retime-lows}
-pub use Counting.{lines-are}
+-- `MinDelayLaws`: laws of the pass. `RetimedArrivals`: what it leaves is `model`'s minimum arrival of every phase that has a source. `TimingLength`: the timing lines.
+pub mod MinDelayLaws
+pub mod RetimedArrivals
+pub mod TimingLength
+pub use MinDelayLaws.{MinsKept, mins-leaves, mins-phase}
+pub use RetimedArrivals.{Ready, retime-kept, retime-mins}
+pub use TimingLength.{lines-are}

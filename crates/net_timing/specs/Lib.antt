@@ -1,7 +1,10 @@
--- `Retiming`: the low arrivals, from the words and into them. `Lines`: the timing lines.
-pub mod Retiming
-pub mod Lines
-pub use Retiming.{InverterIn, LowsOf, Retimable, after, ownAt, putLow}
-unfoldable pub use Retiming.{fourAt, latestLow, matchLow, ownLow, retimedTurn, retimedUp, turnedLow}
-pub use Lines.{lineLength, lineOf}
-unfoldable pub use Lines.{lineText, linesFrom}
+-- `MinArrivalWords`: the minimum arrivals, from the words and into them. `TimingLines`: the timing lines.
+-- `TimingContracts`: what the minimum arrivals are, for whatever cells the tables of pins and delays are of.
+pub mod MinArrivalWords
+pub mod TimingLines
+pub mod TimingContracts
+pub use MinArrivalWords.{InverterIn, MinsOf, Retimable, after, ownAt, putMin}
+unfoldable pub use MinArrivalWords.{fourAt, latestMin, matchMin, ownMin, retimedStep, retimedUp, inverterMin}
+pub use TimingLines.{lineLength, lineOf}
+unfoldable pub use TimingLines.{lineText, linesFrom}
+pub use TimingContracts.{MatchTimable, MatchTimed, SourceTimed, VariableTimed, VariablesTimable, VariablesTimed}

@@ -1,8 +1,8 @@
--- `Counting`: lengths and figures of lines. `Walking`: the walk over the gates. `Behind`: writers one behind the other. `Held`: what the
+-- `NetlistLength`: lengths and figures of lines. `GateWalk`: the walk over the gates. `FollowingText`: writers one behind the other. `WrittenGates`: what the
 -- words hold is what `model` defines.
-pub mod Counting
-pub mod Walking
-pub mod Behind
-pub mod Held
-pub use Counting.{each-next, each-none, ten-digits}
-pub use Behind.{left, then}
+pub mod NetlistLength
+pub mod GateWalk
+pub mod FollowingText
+pub mod WrittenGates
+pub use NetlistLength.{each-next, each-none, ten-digits}
+pub use FollowingText.{left, then}

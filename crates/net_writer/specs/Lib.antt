@@ -1,9 +1,12 @@
--- `Lines`: the gates, names and figures as the lent words have them. `Mapped`: what the words hold when a netlist is written.
-pub mod Lines
-pub mod Mapped
-pub use Lines.{Bounded, Gated, Grown, MatchReady, Named, Roomy, Small, SourceReady, figuresLength, frameLength, lineLength, lineOf}
-pub use Lines.{netWords, noTally, pinWord, textLength, wireLength}
-unfoldable pub use Lines.{allGates, figuresIn, figuresText, frameText, gateAt, gateBy, gateFrom, gatesFrom, inputNamesFrom, inputNet}
-unfoldable pub use Lines.{invertedGates, isGateAt, latestFrom, matchedGates, measuredIn, outputNamesFrom, pinPart, spaced, tallied, textIn}
-unfoldable pub use Lines.{wireLinesFrom}
-pub use Mapped.{gatesFor, measuredFor, textFor}
+-- `NetlistText`: the gates, names and figures as the lent words have them. `MappedWords`: what the words hold when a netlist is written.
+-- `WriterContracts`: what the functions that write the netlist ask, and what they leave in the bytes.
+pub mod NetlistText
+pub mod MappedWords
+pub mod WriterContracts
+pub use NetlistText.{Bounded, GatesWritable, Grown, MatchReady, Named, OneMoreFits, Small, SourceReady, figuresLength, preambleLength, lineLength, lineOf}
+pub use NetlistText.{netWords, noTally, pinWord, textLength, wireLength}
+unfoldable pub use NetlistText.{allGates, figuresIn, figuresText, preambleText, gateAt, gateBy, gateFrom, gatesFrom, inputNamesFrom, inputNet}
+unfoldable pub use NetlistText.{invertedGates, isGateAt, latestFrom, matchedGates, measuredIn, outputNamesFrom, pinPart, spaced, tallied, textIn}
+unfoldable pub use NetlistText.{wireLinesFrom}
+pub use MappedWords.{gatesFor, measuredFor, textFor}
+pub use WriterContracts.{NetlistWritten, Writable, gateLinesOf}

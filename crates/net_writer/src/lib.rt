@@ -9,18 +9,19 @@ use model::Match;
 use model::Source;
 use net_gates::Driver;
 use net_gates::Instance;
-ghost use Rattle.base.specs.{_≡_, _∷_, [], _++_, _+_, _-_, _*_, _/_, _≤_, _<_, max, length, take, drop};
+ghost use Rattle.base.specs.{_≡_, _∷_, [], _+_, _-_, _*_, _/_, _≤_, _<_, max, length, take};
 ghost use Rattle.model.specs.{each, decimal, netName, label, gateLine, outName, wireLine};
 ghost use Rattle.model.specs.Graph.{Graph};
-ghost use Rattle.base_words.specs.{Room, RoomFor, outputAt, phaseAt};
+ghost use Rattle.base_words.specs.{HasCapacity, HasCapacityFor, outputAt, phaseAt};
 ghost use Rattle.base_text.specs.{Wrote};
 ghost use Rattle.net_gates.specs.{netOf, gateOf, gatesOf, FewPins, LineReady, Drives};
-ghost use Rattle.net_writer.specs.{netWords, pinWord, pinPart, lineLength, MatchReady, SourceReady, Gated, matchedGates};
-ghost use Rattle.net_writer.specs.{invertedGates, gateBy, gateAt, isGateAt, gateFrom, gatesFrom, tallied, noTally, Bounded, Roomy};
+ghost use Rattle.net_writer.specs.{netWords, pinWord, pinPart, lineLength, MatchReady, SourceReady, GatesWritable, matchedGates};
+ghost use Rattle.net_writer.specs.{invertedGates, gateBy, gateAt, isGateAt, gateFrom, gatesFrom, tallied, noTally, Bounded, OneMoreFits};
 ghost use Rattle.net_writer.specs.{Grown, Named, inputNet, inputNamesFrom, outputNamesFrom, spaced, wireLength, wireLinesFrom};
-ghost use Rattle.net_writer.specs.{latestFrom, frameText, frameLength, figuresText, figuresLength, textIn, textLength, measuredIn};
-ghost use Rattle.net_writer.specs.{Small, textFor, measuredFor};
-ghost use Rattle.net_writer.specs.Mapped.{Mapped};
+ghost use Rattle.net_writer.specs.{latestFrom, preambleText, preambleLength, figuresText, figuresLength, textIn, textLength, measuredIn};
+ghost use Rattle.net_writer.specs.{Small, measuredFor};
+ghost use Rattle.net_writer.specs.MappedWords.{Mapped};
+ghost use Rattle.net_writer.specs.{gateLinesOf, Writable, NetlistWritten};
 
 // "A walk over the mapped gates holds the lent words and the next gate": `next` is the gate's phase, as a literal, past the last phase at the
 // end.
@@ -177,48 +178,48 @@ fn gate_len(c: Cell, nets: [u32; 4], count: usize, net: u32) -> usize
 // ---- what drives a net
 
 // A cell matched on a cut of phase l's variable.
-fn matched(work: &[u16], book: &[u8], m: usize, l: usize, x: Match) -> Driver
-    requires { ⌜ Room (now work) m × (l / 2 ≤ m) × MatchReady (now book) x ⌝ }
-    ensures { λ r. ⌜ Drives r (matchedGates (now (work .entry)) (now (book .entry)) m l x) ⌝ }
+fn matched(work: &[u16], records: &[u8], m: usize, l: usize, x: Match) -> Driver
+    requires { ⌜ HasCapacity (now work) m × (l / 2 ≤ m) × MatchReady (now records) x ⌝ }
+    ensures { λ r. ⌜ Drives r (matchedGates (now (work .entry)) (now (records .entry)) m l x) ⌝ }
 {
     let cut = base_words::load_cut(work, m, l / 2, x.cut);
     let leaves = cut.leaves;
     let nets = net_gates::four_nets(leaves, x.order, x.mask);
-    net_gates::gates_by(book, x.cell, nets, l)
+    net_gates::gates_by(records, x.cell, nets, l)
 }
 
 // "a one-pin cell with table 0001 fed by the opposite phase of that variable"
-fn inverted(book: &[u8], l: usize, i: usize) -> Driver
-    requires { ⌜ (l < 65536) × LineReady (now book) i ⌝ }
-    ensures { λ r. ⌜ Drives r (invertedGates (now (book .entry)) l i) ⌝ }
+fn inverted(records: &[u8], l: usize, i: usize) -> Driver
+    requires { ⌜ (l < 65536) × LineReady (now records) i ⌝ }
+    ensures { λ r. ⌜ Drives r (invertedGates (now (records .entry)) l i) ⌝ }
 {
-    let cell = cells_pairs::cell_at(book, i);
+    let cell = cells_pairs::cell_at(records, i);
     let fed = base_truth::opposite(l);
     let nets = [2 * fed as u32, 0, 0, 0];
     net_gates::one_gate(cell, nets, 1, l)
 }
 
-fn driver_of(work: &[u16], book: &[u8], m: usize, l: usize, s: Source) -> Driver
-    requires { ⌜ Room (now work) m × (l / 2 ≤ m) × SourceReady (now book) s ⌝ }
-    ensures { λ r. ⌜ Drives r (gateBy (now (work .entry)) (now (book .entry)) m l s) ⌝ }
+fn driver_of(work: &[u16], records: &[u8], m: usize, l: usize, s: Source) -> Driver
+    requires { ⌜ HasCapacity (now work) m × (l / 2 ≤ m) × SourceReady (now records) s ⌝ }
+    ensures { λ r. ⌜ Drives r (gateBy (now (work .entry)) (now (records .entry)) m l s) ⌝ }
 {
     match s {
         Source::Input => net_gates::no_driver(),
-        Source::Cell(x) => matched(work, book, m, l, x),
-        Source::Inverter(i) => inverted(book, l, i),
+        Source::Cell(x) => matched(work, records, m, l, x),
+        Source::Inverter(i) => inverted(records, l, i),
         Source::Nothing => net_gates::no_driver(),
     }
 }
 
 // What drives phase l, if it is needed and no input's own net.
-fn driver_at(work: &[u16], book: &[u8], m: usize, l: usize) -> Driver
-    requires { ⌜ Gated (now work) (now book) m × (l / 2 ≤ m) ⌝ }
-    ensures { λ r. ⌜ Drives r (gateAt (now (work .entry)) (now (book .entry)) m l) ⌝ }
+fn driver_at(work: &[u16], records: &[u8], m: usize, l: usize) -> Driver
+    requires { ⌜ GatesWritable (now work) (now records) m × (l / 2 ≤ m) ⌝ }
+    ensures { λ r. ⌜ Drives r (gateAt (now (work .entry)) (now (records .entry)) m l) ⌝ }
 {
     if base_words::is_needed(work, m, l) {
         let p = base_words::phase(work, m, l);
         let s = p.source;
-        driver_of(work, book, m, l, s)
+        driver_of(work, records, m, l, s)
     } else {
         net_gates::no_driver()
     }
@@ -228,7 +229,7 @@ fn driver_at(work: &[u16], book: &[u8], m: usize, l: usize) -> Driver
 
 // Whether phase l becomes a gate: "Needed phases, inputs' own positive nets apart, become gates".
 fn is_gate(work: &[u16], m: usize, l: usize) -> bool
-    requires { ⌜ Room (now work) m × (l / 2 ≤ m) ⌝ }
+    requires { ⌜ HasCapacity (now work) m × (l / 2 ≤ m) ⌝ }
     ensures { λ r. ⌜ r ≡ isGateAt (now (work .entry)) m l ⌝ }
 {
     if base_words::is_needed(work, m, l) {
@@ -240,7 +241,7 @@ fn is_gate(work: &[u16], m: usize, l: usize) -> bool
 
 // The first gate at or after phase l, or the end of the phases where there is none.
 fn gate_from(work: &[u16], m: usize, l: usize) -> usize
-    requires { ⌜ Room (now work) m ⌝ }
+    requires { ⌜ HasCapacity (now work) m ⌝ }
     ensures { λ r. ⌜ r ≡ gateFrom (now (work .entry)) m l (2 * (m + 1) - l) ⌝ }
 {
     let mut g = l;
@@ -256,7 +257,7 @@ fn gate_from(work: &[u16], m: usize, l: usize) -> usize
 // The walk at the gate after: thin above `gate_from`, which takes the slice and the number. The borrow checker covers no function that takes,
 // makes or has a local of such a struct, so this one and the next are proved by hand.
 fn step<'a>(w: Walk<'a>, m: usize) -> Walk<'a>
-    requires { ⌜ Room (now (w .words)) m × (w .next < 2 * (m + 1)) ⌝ }
+    requires { ⌜ HasCapacity (now (w .words)) m × (w .next < 2 * (m + 1)) ⌝ }
     ensures { λ r. ⌜ (r .words ≡ w .entry .words) × (r .next ≡ gateFrom (now (w .entry .words)) m (w .entry .next + 1) (2 * (m + 1) - (w .entry .next + 1))) ⌝ }
 {
     Walk {
@@ -268,7 +269,7 @@ fn step<'a>(w: Walk<'a>, m: usize) -> Walk<'a>
 // The gate after gate l: a step of the walk that stands there. Its parameters are plain, so that a loop along the gates needs no proof by
 // hand.
 fn gate_after(work: &[u16], m: usize, l: usize) -> usize
-    requires { ⌜ Room (now work) m × (l < 2 * (m + 1)) ⌝ }
+    requires { ⌜ HasCapacity (now work) m × (l < 2 * (m + 1)) ⌝ }
     ensures { λ r. ⌜ r ≡ gateFrom (now (work .entry)) m (l + 1) (2 * (m + 1) - (l + 1)) ⌝ }
 {
     let w = step(
@@ -301,15 +302,15 @@ fn put_driver(out: &mut [u8], at: usize, d: Driver) -> usize
 }
 
 // "become gates by ascending variable, `p` first"
-fn put_gates(work: &[u16], book: &[u8], m: usize, out: &mut [u8], at: usize) -> usize
-    requires { ⌜ Gated (now work) (now book) m × (at + length (each gateLine (gatesFrom (now work) (now book) m 0 (2 * (m + 1)))) ≤ length (now out)) ⌝ }
-    ensures { λ r. ⌜ Wrote (now (out .entry)) (now (out .exit)) at r (each gateLine (gatesFrom (now (work .entry)) (now (book .entry)) m 0 (2 * (m + 1)))) ⌝ }
+fn put_gates(work: &[u16], records: &[u8], m: usize, out: &mut [u8], at: usize) -> usize
+    requires { ⌜ GatesWritable (now work) (now records) m × (at + length (gateLinesOf (now work) (now records) m) ≤ length (now out)) ⌝ }
+    ensures { λ r. ⌜ Wrote (now (out .entry)) (now (out .exit)) at r (gateLinesOf (now (work .entry)) (now (records .entry)) m) ⌝ }
 {
     let end = 2 * (m + 1);
     let mut next = at;
     let mut l = gate_from(work, m, 0);
     while l < end {
-        let d = driver_at(work, book, m, l);
+        let d = driver_at(work, records, m, l);
         next = put_driver(out, next, d);
         l = gate_after(work, m, l);
     }
@@ -317,7 +318,7 @@ fn put_gates(work: &[u16], book: &[u8], m: usize, out: &mut [u8], at: usize) -> 
 }
 
 fn count_instance(t: Tally, g: Instance) -> Tally
-    requires { ⌜ (g .count ≤ 4) × Roomy t ⌝ }
+    requires { ⌜ (g .count ≤ 4) × OneMoreFits t ⌝ }
     ensures { λ r. ⌜ (r ≡ tallied t (gateOf g ∷ [])) × Grown t r ⌝ }
 {
     let c = g.cell;
@@ -346,9 +347,9 @@ fn count_driver(t: Tally, d: Driver, n: usize) -> Tally
 }
 
 // The gates counted, before a byte is written.
-fn count_gates(work: &[u16], book: &[u8], m: usize) -> Tally
-    requires { ⌜ Gated (now work) (now book) m ⌝ }
-    ensures { λ r. ⌜ (r ≡ tallied noTally (gatesFrom (now (work .entry)) (now (book .entry)) m 0 (2 * (m + 1)))) × Bounded r 8192 ⌝ }
+fn count_gates(work: &[u16], records: &[u8], m: usize) -> Tally
+    requires { ⌜ GatesWritable (now work) (now records) m ⌝ }
+    ensures { λ r. ⌜ (r ≡ tallied noTally (gatesFrom (now (work .entry)) (now (records .entry)) m 0 (2 * (m + 1)))) × Bounded r 8192 ⌝ }
 {
     let end = 2 * (m + 1);
     let mut t = Tally {
@@ -358,7 +359,7 @@ fn count_gates(work: &[u16], book: &[u8], m: usize) -> Tally
     };
     let mut l = gate_from(work, m, 0);
     while l < end {
-        let d = driver_at(work, book, m, l);
+        let d = driver_at(work, records, m, l);
         t = count_driver(t, d, l);
         l = gate_after(work, m, l);
     }
@@ -369,7 +370,7 @@ fn count_gates(work: &[u16], book: &[u8], m: usize) -> Tally
 
 // The net of input i.
 fn input_net(work: &[u16], m: usize, i: usize) -> u32
-    requires { ⌜ Room (now work) m × (i < m) ⌝ }
+    requires { ⌜ HasCapacity (now work) m × (i < m) ⌝ }
     ensures { λ r. ⌜ r ≡ inputNet (now (work .entry)) m i ⌝ }
 {
     2 * base_words::slot(work, m, i + 1) as u32
@@ -377,7 +378,7 @@ fn input_net(work: &[u16], m: usize, i: usize) -> u32
 
 // "Inputs and outputs keep the file's order."
 fn put_inputs(work: &[u16], m: usize, n: usize, out: &mut [u8], at: usize) -> usize
-    requires { ⌜ Room (now work) m × (n ≤ m) × (at + length (spaced (inputNamesFrom (now work) m 0 n)) ≤ length (now out)) ⌝ }
+    requires { ⌜ HasCapacity (now work) m × (n ≤ m) × (at + length (spaced (inputNamesFrom (now work) m 0 n)) ≤ length (now out)) ⌝ }
     ensures { λ r. ⌜ Wrote (now (out .entry)) (now (out .exit)) at r (spaced (inputNamesFrom (now (work .entry)) m 0 n)) ⌝ }
 {
     let mut next = at;
@@ -392,7 +393,7 @@ fn put_inputs(work: &[u16], m: usize, n: usize, out: &mut [u8], at: usize) -> us
 }
 
 fn inputs_len(work: &[u16], m: usize, n: usize) -> usize
-    requires { ⌜ Room (now work) m × (n ≤ m) ⌝ }
+    requires { ⌜ HasCapacity (now work) m × (n ≤ m) ⌝ }
     ensures { λ r. ⌜ (r ≡ length (spaced (inputNamesFrom (now (work .entry)) m 0 n))) × (r ≤ 12 * n) ⌝ }
 {
     let mut len: usize = 0;
@@ -448,9 +449,9 @@ fn outputs_len(n: usize) -> usize
 }
 
 // "The first line is always `.model top`"; "With no names the second or third line is the keyword alone."
-fn put_frame(work: &[u16], m: usize, inputs: usize, outputs: usize, out: &mut [u8]) -> usize
-    requires { ⌜ Named (now work) m inputs outputs × (frameLength (now work) m inputs outputs ≤ length (now out)) ⌝ }
-    ensures { λ r. ⌜ Wrote (now (out .entry)) (now (out .exit)) 0 r (frameText (now (work .entry)) m inputs outputs) ⌝ }
+fn put_preamble(work: &[u16], m: usize, inputs: usize, outputs: usize, out: &mut [u8]) -> usize
+    requires { ⌜ Named (now work) m inputs outputs × (preambleLength (now work) m inputs outputs ≤ length (now out)) ⌝ }
+    ensures { λ r. ⌜ Wrote (now (out .entry)) (now (out .exit)) 0 r (preambleText (now (work .entry)) m inputs outputs) ⌝ }
 {
     let a = base_text::put_bytes(out, 0, b".model top\n.inputs");
     let b = put_inputs(work, m, inputs, out, a);
@@ -459,9 +460,9 @@ fn put_frame(work: &[u16], m: usize, inputs: usize, outputs: usize, out: &mut [u
     base_text::put_byte(out, d, b'\n')
 }
 
-fn frame_len(work: &[u16], m: usize, inputs: usize, outputs: usize) -> usize
+fn preamble_len(work: &[u16], m: usize, inputs: usize, outputs: usize) -> usize
     requires { ⌜ Named (now work) m inputs outputs ⌝ }
-    ensures { λ r. ⌜ (r ≡ frameLength (now (work .entry)) m inputs outputs) × (r ≤ 100000) ⌝ }
+    ensures { λ r. ⌜ (r ≡ preambleLength (now (work .entry)) m inputs outputs) × (r ≤ 100000) ⌝ }
 {
     inputs_len(work, m, inputs) + outputs_len(outputs) + 28
 }
@@ -470,7 +471,7 @@ fn frame_len(work: &[u16], m: usize, inputs: usize, outputs: usize) -> usize
 
 // The net of output i.
 fn output_net(work: &[u16], m: usize, outputs: usize, i: usize) -> u32
-    requires { ⌜ RoomFor (now work) m outputs × (i < outputs) ⌝ }
+    requires { ⌜ HasCapacityFor (now work) m outputs × (i < outputs) ⌝ }
     ensures { λ r. ⌜ r ≡ outputAt (now (work .entry)) m i ⌝ }
 {
     base_words::output(work, m, outputs, i) as u32
@@ -496,7 +497,7 @@ fn wire_len(k: u32, l: u32) -> usize
 
 // "Before `.end`, each gets `.names`"
 fn put_wires(work: &[u16], m: usize, outputs: usize, out: &mut [u8], at: usize) -> usize
-    requires { ⌜ RoomFor (now work) m outputs × (outputs ≤ 4096) × (at + length (wireLinesFrom (now work) m 0 outputs) ≤ length (now out)) ⌝ }
+    requires { ⌜ HasCapacityFor (now work) m outputs × (outputs ≤ 4096) × (at + length (wireLinesFrom (now work) m 0 outputs) ≤ length (now out)) ⌝ }
     ensures { λ r. ⌜ Wrote (now (out .entry)) (now (out .exit)) at r (wireLinesFrom (now (work .entry)) m 0 outputs) ⌝ }
 {
     let mut next = at;
@@ -510,7 +511,7 @@ fn put_wires(work: &[u16], m: usize, outputs: usize, out: &mut [u8], at: usize) 
 }
 
 fn wires_len(work: &[u16], m: usize, outputs: usize) -> usize
-    requires { ⌜ RoomFor (now work) m outputs × (outputs ≤ 4096) ⌝ }
+    requires { ⌜ HasCapacityFor (now work) m outputs × (outputs ≤ 4096) ⌝ }
     ensures { λ r. ⌜ (r ≡ length (wireLinesFrom (now (work .entry)) m 0 outputs)) × (r ≤ 35 * outputs) ⌝ }
 {
     let mut len: usize = 0;
@@ -555,7 +556,7 @@ pub fn larger(a: u32, b: u32) -> u32
 
 // When output i arrives.
 fn output_arrival(work: &[u16], m: usize, outputs: usize, i: usize) -> u32
-    requires { ⌜ RoomFor (now work) m outputs × (i < outputs) × (outputAt (now work) m i / 2 ≤ m) ⌝ }
+    requires { ⌜ HasCapacityFor (now work) m outputs × (i < outputs) × (outputAt (now work) m i / 2 ≤ m) ⌝ }
     ensures { λ r. ⌜ r ≡ phaseAt (now (work .entry)) m (outputAt (now (work .entry)) m i) .arrival ⌝ }
 {
     let l = base_words::output(work, m, outputs, i);
@@ -579,58 +580,57 @@ fn latest(work: &[u16], m: usize, inputs: usize, outputs: usize) -> u32
 
 // ---- the netlist
 
-fn measure_words(work: &[u16], book: &[u8], h: Header) -> Measured
-    requires { ⌜ Gated (now work) (now book) (h .size) × Named (now work) (h .size) (h .inputs) (h .outputs) ⌝ }
-    ensures { λ r. ⌜ (r ≡ measuredIn (now (work .entry)) (now (book .entry)) h) × Small r ⌝ }
+fn measure_words(work: &[u16], records: &[u8], h: Header) -> Measured
+    requires { ⌜ GatesWritable (now work) (now records) (h .size) × Named (now work) (h .size) (h .inputs) (h .outputs) ⌝ }
+    ensures { λ r. ⌜ (r ≡ measuredIn (now (work .entry)) (now (records .entry)) h) × Small r ⌝ }
 {
-    let t = count_gates(work, book, h.size);
+    let t = count_gates(work, records, h.size);
     let arrival = latest(work, h.size, h.inputs, h.outputs);
     let figures = Figures {
         gates: t.gates,
         area: t.area,
         arrival,
     };
-    let frame = frame_len(work, h.size, h.inputs, h.outputs);
+    let preamble = preamble_len(work, h.size, h.inputs, h.outputs);
     let wires = wires_len(work, h.size, h.outputs);
-    let length = frame + t.length + wires + figures_len(figures);
+    let length = preamble + t.length + wires + figures_len(figures);
     Measured { length, figures }
 }
 
-fn write_words(work: &[u16], book: &[u8], h: Header, f: Figures, out: &mut [u8]) -> usize
-    requires { ⌜ Gated (now work) (now book) (h .size) × Named (now work) (h .size) (h .inputs) (h .outputs) ×
-        (textLength (now work) (now book) h f ≤ length (now out)) ⌝ }
-    ensures { λ r. ⌜ Wrote (now (out .entry)) (now (out .exit)) 0 r (textIn (now (work .entry)) (now (book .entry)) h f) ⌝ }
+fn write_words(work: &[u16], records: &[u8], h: Header, f: Figures, out: &mut [u8]) -> usize
+    requires { ⌜ GatesWritable (now work) (now records) (h .size) × Named (now work) (h .size) (h .inputs) (h .outputs) ×
+        (textLength (now work) (now records) h f ≤ length (now out)) ⌝ }
+    ensures { λ r. ⌜ Wrote (now (out .entry)) (now (out .exit)) 0 r (textIn (now (work .entry)) (now (records .entry)) h f) ⌝ }
 {
-    let a = put_frame(work, h.size, h.inputs, h.outputs, out);
-    let b = put_gates(work, book, h.size, out, a);
+    let a = put_preamble(work, h.size, h.inputs, h.outputs, out);
+    let b = put_gates(work, records, h.size, out, a);
     let c = put_wires(work, h.size, h.outputs, out, b);
     put_figures(out, c, f)
 }
 
 // The netlist's length and figures, before a byte is written.
-pub fn measure(work: &[u16], lib: Library, codes: &[u16], h: Header) -> Measured
-    requires { ⌜ ((g : Graph) × Mapped (now work) lib (now codes) h g) ⌝ }
-    ensures { λ r. ⌜ ((g : Graph) → Mapped (now (work .entry)) lib (now (codes .entry)) h g → r ≡ measuredFor lib (now (codes .entry)) g) × Small r ⌝ }
+pub fn measure(work: &[u16], lib: Library, ids: &[u16], h: Header) -> Measured
+    requires { ⌜ ((g : Graph) × Mapped (now work) lib (now ids) h g) ⌝ }
+    ensures { λ r. ⌜ ((g : Graph) → Mapped (now (work .entry)) lib (now (ids .entry)) h g → r ≡ measuredFor lib (now (ids .entry)) g) × Small r ⌝ }
 {
-    let mut book = [0u8; 833];
-    cells_pairs::put_book(&mut book, lib, codes);
-    measure_words(work, &book, h)
+    let mut records = [0u8; 833];
+    cells_pairs::put_cell_records(&mut records, lib, ids);
+    measure_words(work, &records, h)
 }
 
 // "On success text memory begins with the netlist and keeps its other bytes."
 pub fn write(
     work: &[u16],
     lib: Library,
-    codes: &[u16],
+    ids: &[u16],
     h: Header,
     f: Figures,
     out: &mut [u8],
 ) -> usize
-    requires { ⌜ ((g : Graph) × Mapped (now work) lib (now codes) h g × (length (textFor lib (now codes) g f) ≤ length (now out))) ⌝ }
-    ensures { λ r. ⌜ ((g : Graph) → Mapped (now (work .entry)) lib (now (codes .entry)) h g → (r ≡ length (textFor lib (now (codes .entry)) g f)) ×
-        (now (out .exit) ≡ textFor lib (now (codes .entry)) g f ++ drop (length (textFor lib (now (codes .entry)) g f)) (now (out .entry)))) ⌝ }
+    requires { ⌜ Writable (now work) lib (now ids) h f (now out) ⌝ }
+    ensures { λ r. ⌜ NetlistWritten (now (work .entry)) lib (now (ids .entry)) h f (now (out .entry)) r (now (out .exit)) ⌝ }
 {
-    let mut book = [0u8; 833];
-    cells_pairs::put_book(&mut book, lib, codes);
-    write_words(work, &book, h, f, out)
+    let mut records = [0u8; 833];
+    cells_pairs::put_cell_records(&mut records, lib, ids);
+    write_words(work, &records, h, f, out)
 }

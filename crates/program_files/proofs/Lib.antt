@@ -1,2 +1,2 @@
--- `Ends`: an end is no earlier than its text's beginning and within the input.
-pub mod Ends
+-- `FileEnds`: an end is no earlier than its text's beginning and within the input.
+pub mod FileEnds

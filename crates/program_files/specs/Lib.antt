@@ -1,6 +1,6 @@
--- `Parts`: where a text of several ends.
--- `Loading`: what a file that was read leaves in the buffer.
-pub mod Parts
-pub mod Loading
-unfoldable pub use Parts.{before, endFrom}
-pub use Loading.{Found-in, Loaded-in}
+-- `TextParts`: where a text of several ends.
+-- `FileLoading`: what a file that was read leaves in the buffer.
+pub mod TextParts
+pub mod FileLoading
+unfoldable pub use TextParts.{before, endFrom}
+pub use FileLoading.{Found-in, Loaded-in}

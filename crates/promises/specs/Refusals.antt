@@ -1,14 +1,14 @@
--- The refusals as conditions over the bytes of the texts, a constructor for each number, by the forms of `Forms`. A text is refused with a number at a place
+-- The refusals as conditions over the bytes of the texts, a constructor for each number, by the forms of `LineForms`. A text is refused with a number at a place
 -- where what stands before the place is accepted, and what stands there meets the number's condition and none that is tried before it. No reader's definition
--- is used: a reader is named only where `Exactly` says what it does.
+-- is used but `graphOf`, which gathers the accepted lines' literals by kind: a reader is named only where `Exactly` says what it does.
 use Rattle.base.specs.{ℕ, suc, _+_, _-_, _*_, _^_, _≤_, _<_, _≡_, _⊎_, _↔_, Bool, true, false, List, [], _∷_, _++_, map, List·Memᴰ, length}
 use Rattle.base.specs.{getD, drop, replicate}
-use Rattle.model.specs.{bit, from, Read, holds, fault, nameOf, varOf, Kind, anInput, anOutput, anAnd, Item, graphOf, Late, timedBy}
+use Rattle.model.specs.{bit, from, Read, holds, fault, nameOf, varOf, Kind, anInput, anOutput, anAnd, Item, graphOf, InputArrival, timedBy}
 use Rattle.model.specs.{cellsFor, Call, Design, designOf, readTexts}
 use Rattle.model.specs.Graph.{Graph}
 use Rattle.model.specs.declared.Cell.{Cell}
 use Rattle.model.specs.declared.Header.{Header}
-use Rattle.promises.specs.Forms.{Begins, BeginsNone, NamesLine, CellLine, HeaderLine, NumberLine, TitleLine, Difference}
+use Rattle.promises.specs.LineForms.{Begins, BeginsNone, NamesLine, CellLine, HeaderLine, NumberLine, TitleLine, Difference}
 
 -- a reading holds a exactly where `Holds a`, and is refused with number n at place k exactly where `Refuses n k`
 pub record Exactly {A : Type 0} (Holds : A → Type 0) (Refuses : ℕ → ℕ → Type 0) (r : Read A) : Type 0 where
@@ -25,11 +25,11 @@ Repeated c cs = (d : Cell) × List·Memᴰ d cs × (nameOf d ≡ nameOf c)
 pub record Clean (c : Cell) : Type 0 where
   pub rows : (r : ℕ) → 2 ^ c .pins ≤ r → bit (c .table) r ≡ false
   pub delays : (j : ℕ) → c .pins ≤ j → getD (c .delays) j 0 ≡ 0
-  pub lows : (j : ℕ) → c .pins ≤ j → getD (c .lows) j 0 ≡ 0
+  pub mins : (j : ℕ) → c .pins ≤ j → getD (c .mins) j 0 ≡ 0
 
 -- no "lowest delay exceeds its `d`"
 abbrev pub Ranged : Cell → Type 0
-Ranged c = (j : ℕ) → getD (c .lows) j 0 ≤ getD (c .delays) j 0
+Ranged c = (j : ℕ) → getD (c .mins) j 0 ≤ getD (c .delays) j 0
 
 -- bytes that are the names line and lines of these cells, none of which is refused: "No cells and 32 cells are accepted."
 pub data CellsIn (ranged : Bool) : List ℕ → List Cell → Type 0 where
@@ -84,9 +84,9 @@ pub record HeaderHolds (t : List ℕ) (h : Header) : Type 0 where
   pub inLimits : ¬ Exceeds h
   pub inSequence : ¬ OutOfSequence h
 
--- ---- due lines: 11, 12, 13 and 14
+-- ---- expected lines: 11, 12, 13 and 14
 
--- how many numbers a due line has: an input or output line one, an AND line three
+-- how many numbers an expected line has: an input or output line one, an AND line three
 pub data Wants : Kind → ℕ → Type 0 where
   inputWants : Wants anInput 1
   outputWants : Wants anOutput 1
@@ -102,8 +102,8 @@ abbrev pub firstVar : List ℕ → ℕ
 firstVar ns = varOf (getD ns 0 0)
 
 -- a line of the kind, wherever it stands in a text of the form
-abbrev pub DueLine : Bool → Kind → List ℕ → List ℕ → Type 0
-DueLine isBinary k s ns = (n : ℕ) × Wants k n × NumberLine isBinary n s ns
+abbrev pub ExpectedLine : Bool → Kind → List ℕ → List ℕ → Type 0
+ExpectedLine isBinary k s ns = (n : ℕ) × Wants k n × NumberLine isBinary n s ns
 
 -- no "literal exceeds 2M+1", and no "input or left literal is odd or 0": it is 2v of a variable v other than 0
 pub record Lawful (m : ℕ) (k : Kind) (ns : List ℕ) : Type 0 where
@@ -118,45 +118,45 @@ DefinedBy is v = (i : Item) × List·Memᴰ i is × Defining (i .kind) × (v ≡
 abbrev pub Again : Kind → List Item → List ℕ → Type 0
 Again k is ns = Defining k × DefinedBy is (firstVar ns)
 
--- bytes that are due lines, from place `start` of the text on, none of which is refused
-pub data DueIn (isBinary : Bool) (m start : ℕ) : List ℕ → List Item → Type 0 where
-  noLine : DueIn isBinary m start [] []
-  aLine : {s l : List ℕ} {is : List Item} {k : Kind} {ns : List ℕ} → DueIn isBinary m start s is → DueLine isBinary k l ns → Lawful m k ns → (¬ Again k is ns)
-      → DueIn isBinary m start (s ++ l) (is ++ (record { kind = k; offset = start + length s; literals = ns } ∷ []))
+-- bytes that are expected lines, from place `start` of the text on, none of which is refused
+pub data ExpectedIn (isBinary : Bool) (m start : ℕ) : List ℕ → List Item → Type 0 where
+  noLine : ExpectedIn isBinary m start [] []
+  aLine : {s l : List ℕ} {is : List Item} {k : Kind} {ns : List ℕ} → ExpectedIn isBinary m start s is → ExpectedLine isBinary k l ns → Lawful m k ns → (¬ Again k is ns)
+      → ExpectedIn isBinary m start (s ++ l) (is ++ (record { kind = k; offset = start + length s; literals = ns } ∷ []))
 
--- the refusal of the line of kind k that is due behind these, `t` the text from there on
-pub data DueFault (isBinary : Bool) (m : ℕ) (is : List Item) (k : Kind) (t : List ℕ) : ℕ → Type 0 where
+-- the refusal of the line of kind k that is expected behind these, `t` the text from there on
+pub data ExpectedFault (isBinary : Bool) (m : ℕ) (is : List Item) (k : Kind) (t : List ℕ) : ℕ → Type 0 where
   -- "A due line breaks its form or is missing"
-  eleven : BeginsNone (DueLine isBinary k) t → DueFault isBinary m is k t 11
+  eleven : BeginsNone (ExpectedLine isBinary k) t → ExpectedFault isBinary m is k t 11
   -- "A literal exceeds 2M+1, or an input or left literal is odd or 0."
-  twelve : {ns : List ℕ} → Begins (DueLine isBinary k) t ns → (¬ Lawful m k ns) → DueFault isBinary m is k t 12
+  twelve : {ns : List ℕ} → Begins (ExpectedLine isBinary k) t ns → (¬ Lawful m k ns) → ExpectedFault isBinary m is k t 12
   -- "An input or left variable is already defined."
-  thirteen : {ns : List ℕ} → Begins (DueLine isBinary k) t ns → Lawful m k ns → Again k is ns → DueFault isBinary m is k t 13
+  thirteen : {ns : List ℕ} → Begins (ExpectedLine isBinary k) t ns → Lawful m k ns → Again k is ns → ExpectedFault isBinary m is k t 13
 
--- lines of these kinds are due in this order: all are there ..
-pub record DueHolds (isBinary : Bool) (m start : ℕ) (ks : List Kind) (t : List ℕ) (is : List Item) : Type 0 where
+-- lines of these kinds are expected in this order: all are there ..
+pub record ExpectedHolds (isBinary : Bool) (m start : ℕ) (ks : List Kind) (t : List ℕ) (is : List Item) : Type 0 where
   pub front : List ℕ
   pub behind : List ℕ
   pub whole : t ≡ front ++ behind
-  pub lines : DueIn isBinary m start front is
+  pub lines : ExpectedIn isBinary m start front is
   pub kinds : map (λ (i : Item). i .kind) is ≡ ks
 
 -- .. or one of them is refused, at "the line's offset"
-pub record DueRefused (isBinary : Bool) (m start : ℕ) (ks : List Kind) (t : List ℕ) (n place : ℕ) : Type 0 where
+pub record ExpectedRefused (isBinary : Bool) (m start : ℕ) (ks : List Kind) (t : List ℕ) (n place : ℕ) : Type 0 where
   pub front : List ℕ
   pub behind : List ℕ
   pub items : List Item
   pub kind : Kind
   pub later : List Kind
   pub whole : t ≡ front ++ behind
-  pub lines : DueIn isBinary m start front items
+  pub lines : ExpectedIn isBinary m start front items
   pub kinds : map (λ (i : Item). i .kind) items ++ (kind ∷ later) ≡ ks
-  pub isFault : DueFault isBinary m items kind behind n
+  pub isFault : ExpectedFault isBinary m items kind behind n
   pub isPlace : place ≡ start + length front
 
 -- "I input lines, O output lines and A lines `left right right`"
-abbrev pub dueKinds : Header → List Kind
-dueKinds h = replicate (h .inputs) anInput ++ (replicate (h .outputs) anOutput ++ replicate (h .ands) anAnd)
+abbrev pub expectedKinds : Header → List Kind
+expectedKinds h = replicate (h .inputs) anInput ++ (replicate (h .outputs) anOutput ++ replicate (h .ands) anAnd)
 
 -- a line uses a literal: an output line its own, an AND line its operands
 pub data Using : Item → ℕ → Type 0 where
@@ -217,25 +217,25 @@ pub record AndsRefused (start left count : ℕ) (t : List ℕ) (n place : ℕ) :
 -- ---- arrivals: 25 and 26
 
 -- bytes that are the first line and lines of these inputs, none of which is refused, of I inputs
-pub data LatesIn (inputs : ℕ) : List ℕ → List Late → Type 0 where
-  noLate : {s : List ℕ} → TitleLine s tt → LatesIn inputs s []
-  aLate : {s l : List ℕ} {es : List Late} {index arrival : ℕ} → LatesIn inputs s es → NumberLine false 2 l (index ∷ arrival ∷ []) → index < inputs
-      → (¬ List·Memᴰ index (map (λ (e : Late). e .index) es)) → LatesIn inputs (s ++ l) (es ++ (record { index = index; arrival = arrival } ∷ []))
+pub data LatesIn (inputs : ℕ) : List ℕ → List InputArrival → Type 0 where
+  noInputArrival : {s : List ℕ} → TitleLine s tt → LatesIn inputs s []
+  aInputArrival : {s l : List ℕ} {es : List InputArrival} {index arrival : ℕ} → LatesIn inputs s es → NumberLine false 2 l (index ∷ arrival ∷ []) → index < inputs
+      → (¬ List·Memᴰ index (map (λ (e : InputArrival). e .index) es)) → LatesIn inputs (s ++ l) (es ++ (record { index = index; arrival = arrival } ∷ []))
 
-pub data LateFault (inputs : ℕ) (es : List Late) (t : List ℕ) : ℕ → Type 0 where
+pub data InputArrivalFault (inputs : ℕ) (es : List InputArrival) (t : List ℕ) : ℕ → Type 0 where
   -- "25 when a line breaks its form"
-  twentyFive : BeginsNone (NumberLine false 2) t → LateFault inputs es t 25
+  twentyFive : BeginsNone (NumberLine false 2) t → InputArrivalFault inputs es t 25
   -- "26 when an index is I or more, or is repeated"
-  twentySix : {index arrival : ℕ} → Begins (NumberLine false 2) t (index ∷ arrival ∷ []) → (inputs ≤ index) ⊎ List·Memᴰ index (map (λ (e : Late). e .index) es)
-      → LateFault inputs es t 26
+  twentySix : {index arrival : ℕ} → Begins (NumberLine false 2) t (index ∷ arrival ∷ []) → (inputs ≤ index) ⊎ List·Memᴰ index (map (λ (e : InputArrival). e .index) es)
+      → InputArrivalFault inputs es t 26
 
 pub data ArrivalsFault (inputs : ℕ) : List ℕ → ℕ → ℕ → Type 0 where
   -- "first line `input arrival`", "or empty for none"
   noTitle : {t : List ℕ} → (¬ (t ≡ [])) → BeginsNone TitleLine t → ArrivalsFault inputs t 25 0
   -- "both line by line .., at the line's offset"
-  atLate : {s t : List ℕ} {es : List Late} {n : ℕ} → LatesIn inputs s es → (¬ (t ≡ [])) → LateFault inputs es t n → ArrivalsFault inputs (s ++ t) n (length s)
+  atInputArrival : {s t : List ℕ} {es : List InputArrival} {n : ℕ} → LatesIn inputs s es → (¬ (t ≡ [])) → InputArrivalFault inputs es t n → ArrivalsFault inputs (s ++ t) n (length s)
 
-abbrev pub ArrivalsHold : ℕ → List ℕ → List Late → Type 0
+abbrev pub ArrivalsHold : ℕ → List ℕ → List InputArrival → Type 0
 ArrivalsHold inputs t es = ((t ≡ []) × (es ≡ [])) ⊎ LatesIn inputs t es
 
 -- ---- the graph behind a header that is accepted: `t` is what follows the header's line
@@ -246,15 +246,15 @@ inputsOf h = map (λ (v : ℕ). record { kind = anInput; offset = h .next; liter
 
 -- what the text says of inputs, outputs and ANDs: the lines of the ASCII form; or, in the binary form, output lines and "ANDs follow in sequence" behind them
 pub data ItemsIn (t : List ℕ) (h : Header) : List Item → Type 0 where
-  asciiItems : {is : List Item} → h .binary ≡ false → DueHolds false (h .size) (h .next) (dueKinds h) t is → ItemsIn t h is
-  binaryItems : {os gs : List Item} → h .binary ≡ true → (o : DueHolds true (h .size) (h .next) (replicate (h .outputs) anOutput) t os)
+  asciiItems : {is : List Item} → h .binary ≡ false → ExpectedHolds false (h .size) (h .next) (expectedKinds h) t is → ItemsIn t h is
+  binaryItems : {os gs : List Item} → h .binary ≡ true → (o : ExpectedHolds true (h .size) (h .next) (replicate (h .outputs) anOutput) t os)
       → AndsHold (h .next + length (o .front)) (2 * suc (h .inputs)) (h .ands) (o .behind) gs → ItemsIn t h (inputsOf h ++ (os ++ gs))
 
 -- 11 to 13 of the ASCII form; 11 and 12 of the binary form's output lines; 20 and 21 "after the output lines"
 pub data ItemsFault (t : List ℕ) (h : Header) : ℕ → ℕ → Type 0 where
-  ofLines : {n k : ℕ} → h .binary ≡ false → DueRefused false (h .size) (h .next) (dueKinds h) t n k → ItemsFault t h n k
-  ofOutputs : {n k : ℕ} → h .binary ≡ true → DueRefused true (h .size) (h .next) (replicate (h .outputs) anOutput) t n k → ItemsFault t h n k
-  ofAnds : {os : List Item} {n k : ℕ} → h .binary ≡ true → (o : DueHolds true (h .size) (h .next) (replicate (h .outputs) anOutput) t os)
+  ofLines : {n k : ℕ} → h .binary ≡ false → ExpectedRefused false (h .size) (h .next) (expectedKinds h) t n k → ItemsFault t h n k
+  ofOutputs : {n k : ℕ} → h .binary ≡ true → ExpectedRefused true (h .size) (h .next) (replicate (h .outputs) anOutput) t n k → ItemsFault t h n k
+  ofAnds : {os : List Item} {n k : ℕ} → h .binary ≡ true → (o : ExpectedHolds true (h .size) (h .next) (replicate (h .outputs) anOutput) t os)
       → AndsRefused (h .next + length (o .front)) (2 * suc (h .inputs)) (h .ands) (o .behind) n k → ItemsFault t h n k
 
 -- "An output or operand uses an undefined variable other than 0; the first such line."
@@ -262,7 +262,7 @@ pub data GraphFault (t : List ℕ) (h : Header) : ℕ → ℕ → Type 0 where
   ofItems : {n k : ℕ} → ItemsFault t h n k → GraphFault t h n k
   fourteen : {is : List Item} {k : ℕ} → ItemsIn t h is → FirstStray is k → GraphFault t h 14 k
 
--- the graph that the items make
+-- the graph that the items make: `graphOf` is the definition that the reader ends with
 pub record GraphIn (t : List ℕ) (h : Header) (g : Graph) : Type 0 where
   pub items : List Item
   pub areItems : ItemsIn t h items
@@ -297,7 +297,7 @@ pub record ToDesign (c : Call) (d : Design) : Type 0 where
   pub listed : List Cell
   pub header : Header
   pub graph : Graph
-  pub lates : List Late
+  pub lates : List InputArrival
   pub toGraph : ToGraph c listed header graph
   pub arrivals : ArrivalsHold (header .inputs) (c .arrivals) lates
   pub isDesign : designOf c listed (timedBy graph lates) ≡ d

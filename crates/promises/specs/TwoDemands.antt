@@ -1,12 +1,14 @@
 -- The demands for two channels, for every call: library text, each channel's texts and number of lent bytes, and number of lent words.
 use Rattle.base.specs.{ℕ, _+_, _≤_, _<_, _≡_, Bool, true, false, List, _↔_, length}
 use Rattle.model.specs.{holds, fault, refused, mapped, Design, mapTexts, returned, returnedBy, textAfter, workAfter, triedEarly, Channel}
-use Rattle.model.specs.{TwoCall, channelOf, twoCallOf, alone, needOf, needsOf, mapTwo, answersOf, twoWorkAfter, Decided, Mappable}
+use Rattle.model.specs.{TwoCall, channelOf, twoCallOf, alone, needOf, needsOf, mapTwo, answersOf, twoWorkAfter, Mappable}
 use Rattle.model.specs.{AlikeTexts}
 use Rattle.model.specs.Graph.{Graph}
 use Rattle.model.specs.Demands.{Means}
 use Rattle.model.specs.declared.Figures.{Figures}
 use Rattle.model.specs.declared.Two.{Two}
+use Rattle.promises.specs.Earliest.{Decided}
+use Rattle.promises.specs.Left.{Left}
 use Rattle.promises.specs.Promised.{Fits, Promised}
 
 -- ---- Demand 1: the answers of a call for two channels, and what it leaves of work, first and second, the memory lent to it (c is `twoCallOf` of the
@@ -27,7 +29,7 @@ pub record Alone (paired : Bool) (library : List ℕ) (ch : Channel) : Type 0 wh
   pub early : (n k : ℕ) → needOf paired library ch ≡ fault n k → (words : ℕ) → mapTexts (alone paired library ch words) ≡ refused n k
   pub tried : (n k : ℕ) → needOf paired library ch ≡ fault n k → (triedEarly n ≡ true) × (¬ (n ≡ 10))
   pub ten : (a : ℕ) → needOf paired library ch ≡ holds a → (words : ℕ) → (mapTexts (alone paired library ch words) ≡ refused 10 0) ↔ (words < a)
-  pub late : (a : ℕ) → needOf paired library ch ≡ holds a → (words : ℕ) → a ≤ words → (n k : ℕ) → mapTexts (alone paired library ch words) ≡ refused n k → triedEarly n ≡ false
+  pub inputArrival : (a : ℕ) → needOf paired library ch ≡ holds a → (words : ℕ) → a ≤ words → (n k : ℕ) → mapTexts (alone paired library ch words) ≡ refused n k → triedEarly n ≡ false
   pub beyond : (a : ℕ) → needOf paired library ch ≡ holds a → (words : ℕ) → a ≤ words → mapTexts (alone paired library ch words) ≡ mapTexts (alone paired library ch a)
 
 -- ---- independence: "A channel's netlist or refusal depends on the library, its own graph, arrivals and text length, and nothing of the other's, except .."
@@ -77,7 +79,7 @@ abbrev pub onText : Channel → List ℕ → Channel
 onText ch t = record { graph = t; arrivals = ch .arrivals; bytes = ch .bytes }
 
 -- "A file .. and its ASCII twin .. must give the same netlist": in either channel, and the other's outcome is the same too
-pub record TwinChannels (c : TwoCall) : Type 0 where
+pub record AsciiChannels (c : TwoCall) : Type 0 where
   pub first : (t : List ℕ) (g : Graph) → Means (c .first .graph) g → Means t g
       → mapTwo (record { paired = c .paired; library = c .library; words = c .words; first = onText (c .first) t; second = c .second }) ≡ mapTwo c
   pub second : (t : List ℕ) (g : Graph) → Means (c .second .graph) g → Means t g
@@ -110,8 +112,11 @@ pub record TwoPromised (c : TwoCall) : Type 0 where
   -- each netlist is no longer than its text memory
   pub fitsFirst : Fits (answersOf (mapTwo c) .first) (c .first .bytes)
   pub fitsSecond : Fits (answersOf (mapTwo c) .second) (c .second .bytes)
+  -- what is returned of each, and left of the lent memory whatever stood there
+  pub leftFirst : Left (mapTwo c .first) (c .first .bytes)
+  pub leftSecond : Left (mapTwo c .second) (c .second .bytes)
   -- texts that mean the same graph, and texts alike but for line ends
-  pub twins : TwinChannels c
+  pub asciiForms : AsciiChannels c
   pub ends : EitherEndTwo c
 
 -- a call on texts and lent memory: its answers, what it leaves of this memory, and what is promised of it

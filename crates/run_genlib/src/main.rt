@@ -20,7 +20,7 @@ fn fill(text: &mut [u8]) {
     }
 }
 
-fn convert_lent(genlib: &[u8], text: &mut [u8]) {
+fn convert_buffer(genlib: &[u8], text: &mut [u8]) {
     fill(text);
     match genlib_call::convert(genlib, text) {
         Written::Length(n) => show(0, n),
@@ -30,11 +30,11 @@ fn convert_lent(genlib: &[u8], text: &mut [u8]) {
     program_files::put(b"\n");
 }
 
-fn convert_with(lent: &[u8], genlib: &[u8], text: &mut [u8]) {
-    if let Value::Is(n) = base_text::number_of(lent) {
+fn convert_with(with_memory: &[u8], genlib: &[u8], text: &mut [u8]) {
+    if let Value::Is(n) = base_text::number_of(with_memory) {
         let k = n as usize;
         if k <= text.len() {
-            convert_lent(genlib, &mut text[..k]);
+            convert_buffer(genlib, &mut text[..k]);
         }
     }
 }

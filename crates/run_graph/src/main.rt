@@ -1,11 +1,11 @@
-// Each text of the standard input, ended by byte 0, is read as a graph and its ANDs are placed, with the same 80,000 words lent to every one, and one line
-// says what was found: `refused`, number and place; or `placed`, the placing order, and the outputs' literals behind `outputs`. cases.py writes the texts,
+// Each text of the standard input, ended by byte 0, is read as a graph and its ANDs are ordered, with the same 80,000 words lent to every one, and one line
+// says what was found: `refused`, number and place; or `ordered`, the topological order, and the outputs' literals behind `outputs`. cases.py writes the texts,
 // and the lines by a reader of its own.
 use libc::STDIN_FILENO;
 use model::Header;
 use model::HeaderAnswer;
 use model::Verdict;
-ghost use Rattle.graph_placing.specs.{Fit};
+ghost use Rattle.graph_order.specs.{Fit};
 
 fn refused(number: usize, place: usize) {
     program_files::refused(number, place);
@@ -44,7 +44,7 @@ fn show(text: &[u8], work: &mut [u16]) {
                 return;
             }
             match graph_reader::load(text, h, work) {
-                Verdict::Accepted => match graph_placing::place(work, h) {
+                Verdict::Accepted => match graph_order::order_graph(work, h) {
                     Verdict::Accepted => {
                         show_order(work, h);
                         show_outputs(work, h);

@@ -32,8 +32,8 @@ fn show_cell(c: Cell) {
     number(c.area);
     let delays = c.delays;
     show_delays(delays);
-    let lows = c.lows;
-    show_delays(lows);
+    let mins = c.mins;
+    show_delays(mins);
 }
 
 fn show_cells(l: Library) {

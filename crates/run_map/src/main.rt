@@ -17,7 +17,7 @@ fn show(number: usize, value: usize, gates: u32, area: u32, arrival: u32) {
     program_files::put(b" \n");
 }
 
-fn map_lent(cells: &[u8], graph: &[u8], arrivals: &[u8], work: &mut [u16], text: &mut [u8]) {
+fn map_buffers(cells: &[u8], graph: &[u8], arrivals: &[u8], work: &mut [u16], text: &mut [u8]) {
     match mapper::map_texts(cells, graph, arrivals, false, work, text) {
         Answer::Mapped(n, f) => {
             show(0, n, f.gates, f.area, f.arrival);
@@ -30,7 +30,7 @@ fn map_lent(cells: &[u8], graph: &[u8], arrivals: &[u8], work: &mut [u16], text:
 }
 
 // 16 a + b, for one number is at most 65,535; never more than there is.
-fn lent(a: u16, b: u16, most: usize) -> usize
+fn buffer_length(a: u16, b: u16, most: usize) -> usize
     ensures { λ r. ⌜ r ≤ most ⌝ }
 {
     let n = a as usize * 16 + b as usize;
@@ -50,9 +50,9 @@ fn map_with(
         if let Number::Value(b, c2) = c1.number_then(sizes, 32) {
             if let Number::Value(d, c3) = c2.number_then(sizes, 32) {
                 if let Number::Value(e, _) = c3.number(sizes) {
-                    let n = lent(a, b, work.len());
-                    let m = lent(d, e, text.len());
-                    map_lent(cells, graph, arrivals, &mut work[..n], &mut text[..m]);
+                    let n = buffer_length(a, b, work.len());
+                    let m = buffer_length(d, e, text.len());
+                    map_buffers(cells, graph, arrivals, &mut work[..n], &mut text[..m]);
                 }
             }
         }

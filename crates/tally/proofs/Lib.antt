@@ -1,2 +1,2 @@
--- `Within`: a report is within the memory lent to it.
-pub mod Within
+-- `TallyBounds`: a report is within the memory lent to it.
+pub mod TallyBounds

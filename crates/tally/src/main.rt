@@ -9,7 +9,7 @@ use program_files::Loaded;
 ghost use Rattle.base.specs.{_≡_, length};
 
 // What the next name led to: a netlist, counted or refused; the end of the netlists; or a file that cannot be read.
-pub enum Turn {
+pub enum NextNetlist {
     Counted,
     End,
     Unreadable,
@@ -17,12 +17,12 @@ pub enum Turn {
 
 // The tally so far beside it.
 pub struct Next {
-    pub turn: Turn,
+    pub found: NextNetlist,
     pub tally: Tally,
 }
 
-fn led_to(turn: Turn, tally: Tally) -> Next {
-    Next { turn, tally }
+fn led_to(found: NextNetlist, tally: Tally) -> Next {
+    Next { found, tally }
 }
 
 // A netlist, or its refusal in its place.
@@ -39,9 +39,9 @@ fn count_file(path: &[u8], cells: &[u8], buf: &mut [u8], t: Tally) -> Next
     requires { ⌜ length (now buf) ≡ 65537 ⌝ }
 {
     match program_files::find(b"tally", path, buf) {
-        Found::Bytes(n) => led_to(Turn::Counted, count_one(cells, &buf[..n], t)),
-        Found::Absent => led_to(Turn::End, t),
-        Found::Unreadable => led_to(Turn::Unreadable, t),
+        Found::Bytes(n) => led_to(NextNetlist::Counted, count_one(cells, &buf[..n], t)),
+        Found::Absent => led_to(NextNetlist::End, t),
+        Found::Unreadable => led_to(NextNetlist::Unreadable, t),
     }
 }
 
@@ -68,14 +68,14 @@ fn count_all(cells: &[u8], buf: &mut [u8]) -> Next
     let mut k: u32 = 1;
     while k < 1000000 {
         let next = count_next(k, cells, buf, t);
-        let turn = next.turn;
-        let Turn::Counted = turn else {
+        let found = next.found;
+        let NextNetlist::Counted = found else {
             return next;
         };
         t = next.tally;
         k += 1;
     }
-    led_to(Turn::End, t)
+    led_to(NextNetlist::End, t)
 }
 
 // It lends 65,536 bytes.
@@ -100,8 +100,8 @@ fn main() {
         return;
     };
     let all = count_all(&cells[..n], &mut buf);
-    let turn = all.turn;
-    let Turn::End = turn else {
+    let found = all.found;
+    let NextNetlist::End = found else {
         return;
     };
     let t = all.tally;

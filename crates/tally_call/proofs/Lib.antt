@@ -1,7 +1,4 @@
--- `Columns`: the numbers, column by column. `RoundTrip`: a tally put into numbers is read out of them; what the calls promise of the numbers. `Returned`: the same by
--- the number that they return. `Cases`: which number is which.
-pub mod Columns
+-- `TallyColumns`: the numbers, column by column. `RoundTrip`: a tally put into numbers is read out of them, and what it then says. `TallyCallRecords`: what the calls promise.
+pub mod TallyColumns
 pub mod RoundTrip
-pub mod Returned
-pub mod Cases
-pub use Returned.{count-returned, report-returned}
+pub mod TallyCallRecords

@@ -6,22 +6,34 @@ use Rattle.model.specs.declared.Tally.{Tally}
 use Rattle.model.specs.declared.Written.{Written}
 use Rattle.model.specs.declared.Written.the-variants.{Length, Refused}
 use Rattle.model.specs.declared.Verdict.the-variants.{Accepted}
-use Rattle.theory_tally.specs.{Tallied, countedWith, ReadsBack}
+use Rattle.promises.specs.TallyDemands.{Tallied, countedWith, ReadsBack}
 use Rattle.theory_tally.proofs.{tallied-none, tallied-more, reads-back}
 use Rattle.base_words.specs.{putAt}
 use Rattle.base_words.proofs.{length-put, part-put, part-apart, word-put}
-use Rattle.tally_call.specs.{tallyOf, stored, FromZeros, RoundTrip, CountSums, ReportSums}
-use Rattle.tally_call.proofs.Columns.{tally-is, only-97}
+use Rattle.promises.specs.{tallyOf, CountSums, ReportSums}
+use Rattle.tally_call.specs.{stored}
+use Rattle.tally_call.proofs.TallyColumns.{tally-is, only-97}
 use Rattle.model.specs.declared.Verdict.the-variants as verdict
 
-pub from-zeros : FromZeros
+-- 97 zeros are "an empty one"
+from-zeros : tallyOf (replicate 97 0) ≡ emptyTally
 unfolding tallyOf emptyTally
 from-zeros = refl
 
-module _ (s : List ℕ) (t : Tally) where
-  pub round-trip : RoundTrip s t
+module _ (s : List ℕ) (t : Tally) (n : length s ≡ 97) (lg : length (t .gates) ≡ 32) (la : length (t .areas) ≡ 32) (lo : length (t .occurs) ≡ 32) where
+  pub stored-long : length (stored s t) ≡ 97
   unfolding stored
-  round-trip n lg la lo =
+  stored-long =
+      let a = putAt s 0 (t .gates) in let b = putAt a 32 (t .areas) in let c = putAt b 64 (t .occurs) in
+      let na : length a ≡ 97 = length-put s 0 (t .gates) (omega arith) ∙ n in
+      let nb : length b ≡ 97 = length-put a 32 (t .areas) (omega arith) ∙ na in
+      let nc : length c ≡ 97 = length-put b 64 (t .occurs) (omega arith) ∙ nb in
+      length-put c 96 (t .netlists ∷ []) (omega arith) ∙ nc
+
+  -- a tally that was put into 97 numbers is read out of them
+  pub round-trip : tallyOf (stored s t) ≡ t
+  unfolding stored
+  round-trip =
       let a = putAt s 0 (t .gates) in let b = putAt a 32 (t .areas) in let c = putAt b 64 (t .occurs) in
       let d = putAt c 96 (t .netlists ∷ []) in let na : length a ≡ 97 = length-put s 0 (t .gates) (omega arith) ∙ n in
       let nb : length b ≡ 97 = length-put a 32 (t .areas) (omega arith) ∙ na in

@@ -1,11 +1,9 @@
 // A tally lent as 97 numbers: the gates of the 32 cells, their areas, the netlists in which each occurs, and the netlists counted. A slice of
 // another length is refused as a figure over 2^40 is.
 ghost use Rattle.base.specs.{_≡_, _+_, _≤_, length, take, drop};
-ghost use Rattle.model.specs.{verdictOf, rulingOf, verdictRuling, writtenAnswer, writtenPair, writtenBy, writtenAfter, countText, reportOf};
-ghost use Rattle.theory_tally.specs.CountRefusals.{CountRefusals};
-ghost use Rattle.theory_tally.specs.{ReportRefusals};
+ghost use Rattle.promises.specs.{NetlistCount, TallyReport, overfull, tallyOf};
 ghost use Rattle.base_words.specs.{putAt};
-ghost use Rattle.tally_call.specs.{overfull, tallyOf, stored, numbersAfter, CountSums, ReportSums};
+ghost use Rattle.tally_call.specs.{stored};
 use model::Tally;
 use model::Verdict;
 use model::Written;
@@ -79,12 +77,7 @@ fn store(out: &mut [u64], t: Tally)
 
 // A netlist counted into a lent tally: a refusal leaves it as it was.
 pub fn count(cells: &[u8], netlist: &[u8], tally: &mut [u64]) -> Verdict
-    ensures answer { λ r. ⌜ r ≡ verdictOf (countText (tallyOf (now (tally .entry))) (now (cells .entry)) (now (netlist .entry))) ⌝ }
-    ensures numbers { λ _. ⌜ now (tally .exit) ≡ numbersAfter (countText (tallyOf (now (tally .entry))) (now (cells .entry)) (now (netlist .entry)))
-        (now (tally .entry)) ⌝ }
-    ensures sums { λ r. ⌜ CountSums (now (cells .entry)) (now (netlist .entry)) (now (tally .entry)) (now (tally .exit)) r ⌝ }
-    ensures refusals { λ _. ⌜ CountRefusals (tallyOf (now (tally .entry))) (now (cells .entry)) (now (netlist .entry)) ⌝ }
-    ensures ruling { λ r. ⌜ verdictRuling r ≡ rulingOf (countText (tallyOf (now (tally .entry))) (now (cells .entry)) (now (netlist .entry))) ⌝ }
+    ensures { λ r. ⌜ NetlistCount (now (cells .entry)) (now (netlist .entry)) (now (tally .entry)) r (now (tally .exit)) ⌝ }
 {
     let t = load(tally);
     let r = tally_counting::count(t, cells, netlist);
@@ -101,12 +94,7 @@ pub fn count(cells: &[u8], netlist: &[u8], tally: &mut [u64]) -> Verdict
 
 // The report of a lent tally.
 pub fn report(cells: &[u8], tally: &[u64], text: &mut [u8]) -> Written
-    ensures answer { λ r. ⌜ r ≡ writtenAnswer (reportOf (tallyOf (now (tally .entry))) (now (cells .entry)) (length (now (text .entry)))) ⌝ }
-    ensures bytes { λ _. ⌜ now (text .exit) ≡ writtenAfter (reportOf (tallyOf (now (tally .entry))) (now (cells .entry)) (length (now (text .entry))))
-        (now (text .entry)) ⌝ }
-    ensures sums { λ r. ⌜ ReportSums (now (cells .entry)) (now (tally .entry)) (now (text .exit)) r ⌝ }
-    ensures refusals { λ _. ⌜ ReportRefusals (tallyOf (now (tally .entry))) (now (cells .entry)) (length (now (text .entry))) ⌝ }
-    ensures ruling { λ r. ⌜ writtenPair r ≡ writtenBy (reportOf (tallyOf (now (tally .entry))) (now (cells .entry)) (length (now (text .entry)))) ⌝ }
+    ensures { λ r. ⌜ TallyReport (now (cells .entry)) (now (tally .entry)) (now (text .entry)) r (now (text .exit)) ⌝ }
 {
     tally_report::report(load(tally), cells, text)
 }

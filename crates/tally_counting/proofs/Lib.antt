@@ -1,7 +1,7 @@
--- `DueLines`: lines that are due, one after the other. `Gating`: the gate lines, counted. `Reading`: a netlist read whole. `Places`: the tally, place by place. `Answers`: the answers, refusal by refusal.
-pub mod DueLines
-pub mod Gating
-pub mod Reading
-pub mod Places
-pub mod Answers
-pub use Answers.{accepted, cells-back, listed, turned-back}
+-- `ExpectedNetlistLines`: lines that are expected, one after the other. `GateCounts`: the gate lines, counted. `CountReading`: a netlist read whole. `CountPositions`: the tally, place by place. `CountAnswers`: the answers, refusal by refusal.
+pub mod ExpectedNetlistLines
+pub mod GateCounts
+pub mod CountReading
+pub mod CountPositions
+pub mod CountAnswers
+pub use CountAnswers.{accepted, cells-back, listed, refused-back}

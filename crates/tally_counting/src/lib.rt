@@ -1,10 +1,10 @@
 // Mapped netlists counted into a tally, and its report. "Stock planning reads up to 64 mapped netlists of one library, one after another, into a
 // tally handed on by these calls from an empty one."
 ghost use Rattle.base.specs.{_≡_, true, [], _∷_, ℕ, _+_, _*_, _^_, _≤_, _<_, leb, ltb, length, getD};
-ghost use Rattle.model.specs.{one, all, fault, next, rulingOf, verdictRuling, cellsOf, inWidth, dueLines, nothingLeft, frame, wirePairs};
+ghost use Rattle.model.specs.{one, all, fault, next, refusalOf, verdictRefusal, cellsOf, inWidth, expectedLines, nothingLeft, preamble, wirePairs};
 ghost use Rattle.model.specs.{timings, behindGates, outputsOf, countText, countedAnswer};
 ghost use Rattle.tally_lines.specs.{Listed};
-ghost use Rattle.tally_counting.specs.{formTest, linesOf, readIn, gateAt, noGates, withGate, Counted as CountedFrom, placed};
+ghost use Rattle.tally_counting.specs.{formTest, linesOf, readIn, gateAt, noGates, withGate, Counted as CountedFrom, addedAt};
 ghost use Rattle.tally_counting.specs.{addedUpTo, countedBy, Wide, Blank, NetlistRead, countRead};
 use model::Counted;
 use model::Library;
@@ -13,7 +13,7 @@ use model::Tally;
 use model::Verdict;
 use tally_lines::Which;
 
-// A kind of line that is due.
+// A kind of line that is expected.
 pub enum Form {
     Model,
     Inputs,
@@ -45,7 +45,7 @@ pub struct Counts {
     pub at: usize,
 }
 
-// ---- due lines
+// ---- expected lines
 
 // "the kind and form mapping prints there".
 fn has_form(w: &[u8], form: Form) -> bool
@@ -64,10 +64,10 @@ fn has_form(w: &[u8], form: Form) -> bool
     }
 }
 
-// One line that is due behind lines that were read.
-fn due(s: &[u8], r: Reached, form: Form) -> Reached
+// One line that is expected behind lines that were read.
+fn expected_line(s: &[u8], r: Reached, form: Form) -> Reached
     requires { ⌜ (r .at ≤ length (now s)) × (length (now s) ≤ 65536) ⌝ }
-    ensures { λ q. ⌜ (readIn (now (s .entry)) q ≡ next (readIn (now (s .entry)) r) (dueLines (length (now (s .entry))) (formTest form ∷ []))) ×
+    ensures { λ q. ⌜ (readIn (now (s .entry)) q ≡ next (readIn (now (s .entry)) r) (expectedLines (length (now (s .entry))) (formTest form ∷ []))) ×
         (q .at ≤ length (now (s .entry))) ⌝ }
 {
     if !r.ok {
@@ -84,13 +84,14 @@ fn due(s: &[u8], r: Reached, form: Form) -> Reached
 }
 
 // The first three lines.
-fn read_frame(s: &[u8]) -> Reached
+fn read_preamble(s: &[u8]) -> Reached
     requires { ⌜ length (now s) ≤ 65536 ⌝ }
-    ensures { λ r. ⌜ (readIn (now (s .entry)) r ≡ dueLines (length (now (s .entry))) frame (linesOf (now (s .entry)) 0)) × (r .at ≤ length (now (s .entry))) ⌝ }
+    ensures { λ r. ⌜ (readIn (now (s .entry)) r ≡ expectedLines (length (now (s .entry))) preamble (linesOf (now (s .entry)) 0)) ×
+        (r .at ≤ length (now (s .entry))) ⌝ }
 {
-    let a = due(s, Reached { ok: true, at: 0 }, Form::Model);
-    let b = due(s, a, Form::Inputs);
-    due(s, b, Form::Outputs)
+    let a = expected_line(s, Reached { ok: true, at: 0 }, Form::Model);
+    let b = expected_line(s, a, Form::Inputs);
+    expected_line(s, b, Form::Outputs)
 }
 
 // How many names the third line has.
@@ -111,14 +112,14 @@ fn outputs(s: &[u8]) -> usize
 // "each gets `.names` with its net and its own name, then `1 1`", for so many outputs.
 fn read_wires(s: &[u8], from: Reached, outs: usize) -> Reached
     requires { ⌜ (from .at ≤ length (now s)) × (length (now s) ≤ 65536) ⌝ }
-    ensures { λ r. ⌜ (readIn (now (s .entry)) r ≡ next (readIn (now (s .entry)) from) (dueLines (length (now (s .entry))) (wirePairs outs))) ×
+    ensures { λ r. ⌜ (readIn (now (s .entry)) r ≡ next (readIn (now (s .entry)) from) (expectedLines (length (now (s .entry))) (wirePairs outs))) ×
         (r .at ≤ length (now (s .entry))) ⌝ }
 {
     let mut r = from;
     let mut k = 0;
     while k < outs {
-        r = due(s, r, Form::Wire);
-        r = due(s, r, Form::One);
+        r = expected_line(s, r, Form::Wire);
+        r = expected_line(s, r, Form::One);
         k += 1;
     }
     r
@@ -127,28 +128,28 @@ fn read_wires(s: &[u8], from: Reached, outs: usize) -> Reached
 // A timing line for each output, where the library gives delays as a range.
 fn read_timings(s: &[u8], from: Reached, ranged: bool, outs: usize) -> Reached
     requires { ⌜ (from .at ≤ length (now s)) × (length (now s) ≤ 65536) ⌝ }
-    ensures { λ r. ⌜ (readIn (now (s .entry)) r ≡ next (readIn (now (s .entry)) from) (dueLines (length (now (s .entry))) (timings ranged outs))) ×
+    ensures { λ r. ⌜ (readIn (now (s .entry)) r ≡ next (readIn (now (s .entry)) from) (expectedLines (length (now (s .entry))) (timings ranged outs))) ×
         (r .at ≤ length (now (s .entry))) ⌝ }
 {
     let n = if ranged { outs } else { 0 };
     let mut r = from;
     let mut k = 0;
     while k < n {
-        r = due(s, r, Form::Timing);
+        r = expected_line(s, r, Form::Timing);
         k += 1;
     }
     r
 }
 
-// What is due behind the gates, up to the text's end.
+// What is expected behind the gates, up to the text's end.
 fn read_behind(s: &[u8], at: usize, ranged: bool, outs: usize, gates: u32, area: u32) -> Reached
     requires { ⌜ (at ≤ length (now s)) × (length (now s) ≤ 65536) ⌝ }
-    ensures { λ r. ⌜ (readIn (now (s .entry)) r ≡ next (dueLines (length (now (s .entry))) (behindGates ranged outs gates area)
+    ensures { λ r. ⌜ (readIn (now (s .entry)) r ≡ next (expectedLines (length (now (s .entry))) (behindGates ranged outs gates area)
         (linesOf (now (s .entry)) at)) nothingLeft) × (r .at ≤ length (now (s .entry))) ⌝ }
 {
     let a = read_wires(s, Reached { ok: true, at }, outs);
-    let b = due(s, a, Form::End);
-    let c = due(s, b, Form::Figures(gates, area));
+    let b = expected_line(s, a, Form::End);
+    let c = expected_line(s, b, Form::Figures(gates, area));
     let d = read_timings(s, c, ranged, outs);
     let at = d.at;
     if s.len() <= at {
@@ -177,7 +178,7 @@ fn gate_at(s: &[u8], at: usize, lib: Library) -> Gate
 }
 
 // An area as it is summed.
-fn wide(x: u16) -> u32
+fn widen(x: u16) -> u32
     ensures { λ r. ⌜ (r ≡ x) × (r < 65536) ⌝ }
 {
     x as u32
@@ -215,7 +216,7 @@ fn read_gates(s: &[u8], from: usize, lib: Library) -> Counts
         match gate_at(s, c.at, lib) {
             Gate::Is(k, next) => {
                 let cell = lib.cells[k];
-                c = add_gate(c, k, wide(cell.area), next);
+                c = add_gate(c, k, widen(cell.area), next);
             }
             Gate::Other => {
                 return c;
@@ -237,7 +238,7 @@ fn read_netlist(s: &[u8], lib: Library, ranged: bool) -> Netlist
     requires { ⌜ (length (now s) ≤ 65536) × Listed lib ⌝ }
     ensures { λ r. ⌜ NetlistRead ranged lib (now (s .entry)) r ⌝ }
 {
-    let f = read_frame(s);
+    let f = read_preamble(s);
     if !f.ok {
         let counts = no_gates(0);
         return Netlist {
@@ -266,7 +267,7 @@ fn occurs(n: u64) -> u64
 }
 
 // As they are summed.
-fn long(x: u32) -> u64
+fn widen_sum(x: u32) -> u64
     ensures { λ r. ⌜ (r ≡ x) × (r < 4294967296) ⌝ }
 {
     x as u64
@@ -276,7 +277,7 @@ fn long(x: u32) -> u64
 fn add_place(mut t: Tally, i: usize, n: u64, area: u64) -> Tally
     requires { ⌜ (i < 32) × (n < 4294967296) × (area < 65536) × (getD (t .gates) i 0 ≤ 2 ^ 40) × (getD (t .areas) i 0 ≤ 2 ^ 40) ×
         (getD (t .occurs) i 0 ≤ 2 ^ 40) ⌝ }
-    ensures { λ r. ⌜ r ≡ placed t i n area ⌝ }
+    ensures { λ r. ⌜ r ≡ addedAt t i n area ⌝ }
 {
     t.gates[i] = t.gates[i] + n;
     t.areas[i] = t.areas[i] + n * area;
@@ -293,7 +294,7 @@ fn add_counts(from: Tally, lib: Library, c: Counts) -> Tally
     let mut i = 0;
     while i < 32 {
         let cell = lib.cells[i];
-        t = add_place(t, i, long(c.n[i]), long(wide(cell.area)));
+        t = add_place(t, i, widen_sum(c.n[i]), widen_sum(widen(cell.area)));
         i += 1;
     }
     t
@@ -367,7 +368,7 @@ fn count_in(t: Tally, lib: Library, ranged: bool, s: &[u8]) -> Counted
 // figure exceeds 2^40", 29.
 pub fn count(t: Tally, cells: &[u8], netlist: &[u8]) -> Counted
     ensures answer { λ r. ⌜ r ≡ countedAnswer t (countText t (now (cells .entry)) (now (netlist .entry))) ⌝ }
-    ensures ruling { λ r. ⌜ verdictRuling (r .verdict) ≡ rulingOf (countText t (now (cells .entry)) (now (netlist .entry))) ⌝ }
+    ensures refusal { λ r. ⌜ verdictRefusal (r .verdict) ≡ refusalOf (countText t (now (cells .entry)) (now (netlist .entry))) ⌝ }
 {
     if cells.len() > 65536 || netlist.len() > 65536 {
         return refused(t, 1, 0);

@@ -1,3 +1,3 @@
--- `Lines`: a report's lines, their parts and lengths. `Pages`: the page that it is written on, and the answers.
-pub mod Lines
-pub mod Pages
+-- `ReportLines`: a report's lines, their parts and lengths. `ReportLength`: the page that it is written on, and the answers.
+pub mod ReportLines
+pub mod ReportLength

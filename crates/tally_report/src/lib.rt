@@ -2,13 +2,14 @@
 // `total` with gates, area and netlists counted". It is written on a page of its own first, so that a report that does not fit leaves the lent
 // memory as it was.
 ghost use Rattle.base.specs.{_≡_, ℕ, _+_, _^_, _≤_, _<_, length, take, getD};
-ghost use Rattle.model.specs.{decimal, cellsOf, sum, writtenAnswer, writtenPair, writtenBy, writtenAfter, reportLine, cellLine, totalLine};
+ghost use Rattle.model.specs.{decimal, cellsOf, sum, reportLine, cellLine, totalLine};
 ghost use Rattle.model.specs.{reportText, reportOf};
 ghost use Rattle.base_words.specs.{putAt};
 ghost use Rattle.base_text.specs.{Wrote};
 ghost use Rattle.tally_lines.specs.{Listed};
 ghost use Rattle.tally_counting.specs.{Wide};
 ghost use Rattle.tally_report.specs.{cellLines, figureText, fitting};
+ghost use Rattle.tally_report.specs.{TextLeft, TextReturned};
 use model::Cell;
 use model::Library;
 use model::Tally;
@@ -18,7 +19,7 @@ use model::Written;
 // ---- figures
 
 // A figure's digits, from byte `at` on; the answer is the place past them.
-fn put_long(out: &mut [u8], at: usize, n: u64) -> usize
+fn put_digits(out: &mut [u8], at: usize, n: u64) -> usize
     requires { ⌜ at + length (decimal n) ≤ length (now out) ⌝ }
     ensures { λ r. ⌜ (r ≡ at + length (decimal n)) × (now (out .exit) ≡ putAt (now (out .entry)) at (decimal n)) ⌝ }
 {
@@ -26,7 +27,7 @@ fn put_long(out: &mut [u8], at: usize, n: u64) -> usize
         out[at] = 48 + n as u8;
         at + 1
     } else {
-        let next = put_long(out, at, n / 10);
+        let next = put_digits(out, at, n / 10);
         out[next] = 48 + (n % 10) as u8;
         next + 1
     }
@@ -38,7 +39,7 @@ fn put_figure(out: &mut [u8], at: usize, n: u64) -> usize
     ensures { λ r. ⌜ Wrote (now (out .entry)) (now (out .exit)) at r (figureText n) ⌝ }
 {
     let a = base_text::put_byte(out, at, b' ');
-    put_long(out, a, n)
+    put_digits(out, a, n)
 }
 
 // A name and three figures.
@@ -127,8 +128,7 @@ fn put_report(out: &mut [u8], lib: Library, t: Tally) -> usize
 // The report by a library that was read, where it fits.
 fn report_in(t: Tally, lib: Library, text: &mut [u8]) -> Written
     requires { ⌜ Listed lib × Wide t × (length (reportText (cellsOf lib) t) ≤ 2048) ⌝ }
-    ensures { λ r. ⌜ r ≡ writtenAnswer (fitting (reportText (cellsOf lib) t) (length (now (text .entry)))) ⌝ }
-    ensures { λ _. ⌜ now (text .exit) ≡ writtenAfter (fitting (reportText (cellsOf lib) t) (length (now (text .entry)))) (now (text .entry)) ⌝ }
+    ensures { λ r. ⌜ TextLeft (fitting (reportText (cellsOf lib) t) (length (now (text .entry)))) (now (text .entry)) r (now (text .exit)) ⌝ }
 {
     let mut page = [0u8; 2048];
     let end = put_report(&mut page, lib, t);
@@ -142,9 +142,7 @@ fn report_in(t: Tally, lib: Library, text: &mut [u8]) -> Written
 // The report of a tally, or the first refusal: 1, the library's, 28 where "a tally figure exceeds 2^40", and 18 for "the report's memory". A
 // refusal leaves the memory as it was; success keeps the bytes after the text.
 pub fn report(t: Tally, cells: &[u8], text: &mut [u8]) -> Written
-    ensures answer { λ r. ⌜ r ≡ writtenAnswer (reportOf t (now (cells .entry)) (length (now (text .entry)))) ⌝ }
-    ensures bytes { λ _. ⌜ now (text .exit) ≡ writtenAfter (reportOf t (now (cells .entry)) (length (now (text .entry)))) (now (text .entry)) ⌝ }
-    ensures ruling { λ r. ⌜ writtenPair r ≡ writtenBy (reportOf t (now (cells .entry)) (length (now (text .entry)))) ⌝ }
+    ensures { λ r. ⌜ TextReturned (reportOf t (now (cells .entry)) (length (now (text .entry)))) (now (text .entry)) r (now (text .exit)) ⌝ }
 {
     if cells.len() > 65536 {
         return Written::Refused(1, 0);

@@ -1,19 +1,20 @@
--- The nets of an edited netlist are judged exactly as the conditions say: a net driven again, then one that no line drives, then a circle, each at the first such
+-- The nets of an edited netlist are validated exactly as the conditions say: a net driven again, then one that no line drives, then a cycle, each at the first such
 -- line.
 use Rattle.base.specs.{ℕ, arith, _≡_, refl, sym, _∙_, ap, ap₂, subst, _⊎_, inl, inr, _↔_, ⊎-elim, Bool, true, false, not, cond, Option}
 use Rattle.base.specs.{none, some, List, [], _∷_, _++_, map-append, append-nil, append-assoc, nil≢cons, head-eq-of-cons-eq}
 use Rattle.base.specs.{tail-eq-of-cons-eq, List·Memᴰ, List·Memᴰ·head, List·Memᴰ·tail, List·Memᴰ·not-nil, List·Memᴰ·append-cases}
 use Rattle.base.specs.{Memᴰ·append-left, Memᴰ·append-right, T, not-T, T-not, or-yes}
-use Rattle.model.specs.{any, Read, holds, fault, Driver, among, firstLine, drivenTwice, undriven, onCircle, unlessAt, judgeNets}
+use Rattle.model.specs.{any, Read, holds, fault, Driver, among, firstLine, drivenTwice, undriven, onCycle, unlessAt, validateNets}
 use Rattle.promises.specs.{Exactly}
 use Rattle.theory_graph.proofs.{is-true, is-false, by-member, by-bool}
 use Rattle.theory_text.proofs.{fault-never, in-fault}
 use Rattle.theory_refusals.proofs.{yes-or, on, exactly-holds, exactly-map}
-use Rattle.theory_check.specs.{FirstLine, NoLine, Again, Undriven, Feeds, direct, onward, Circling, NetsFault, twice, unfed, circle}
-use Rattle.theory_check.specs.{NetsHold, Judged}
-use Rattle.theory_check.proofs.Settling.{FeedsNet, directly, through, among-in, among-out, netsOf}
-use Rattle.theory_check.proofs.Circles.{circle-found, found-circle}
-use Rattle.theory_check.proofs.Judged.{twice-none, one-driver}
+use Rattle.promises.specs.CheckRefusals.{FirstLine, NoLine, Again, Undriven, Feeds, direct, onward, OnCycle, NetsFault, twice, unfed}
+use Rattle.promises.specs.CheckRefusals.{cycle}
+use Rattle.promises.specs.CheckRefusals.{NetsHold, Validated}
+use Rattle.theory_check.proofs.DriverSort.{FeedsNet, directly, through, among-in, among-out, netsOf}
+use Rattle.theory_check.proofs.Cycles.{cycle-found, found-cycle}
+use Rattle.theory_check.proofs.NetVerdicts.{twice-none, one-driver}
 
 -- ---- the first line that passes a test, by the lines before it
 
@@ -272,44 +273,44 @@ module _ (inputs : List (List ℕ)) (ds : List Driver) where
       let x = none-exactly (Undriven inputs ds) (λ _. stray inputs ds) ds (λ bs d cs e t. undriven-form inputs ds bs d t) (λ bs d cs e q. undriven-back inputs ds bs d q) in
       ((λ e. x .0 (sym unfed-is ∙ e)), λ f. unfed-is ∙ x .1 f)
 
-  -- where each net is driven once, what `onCircle` finds is on a circle, and all that is
+  -- where each net is driven once, what `onCycle` finds is on a cycle, and all that is
   module _ (once : NoLine (Again inputs) ds) where
-    circle-form : (bs : List Driver) (d : Driver) (cs : List Driver) → ds ≡ bs ++ (d ∷ cs) → T (onCircle ds d) → Circling ds bs d
-    circle-form bs d cs e t = feeds-form (found-circle ds d (listed ds bs d cs e) (is-true (onCircle ds d) t))
+    cycle-form : (bs : List Driver) (d : Driver) (cs : List Driver) → ds ≡ bs ++ (d ∷ cs) → T (onCycle ds d) → OnCycle ds bs d
+    cycle-form bs d cs e t = feeds-form (found-cycle ds d (listed ds bs d cs e) (is-true (onCycle ds d) t))
 
-    circle-back : (bs : List Driver) (d : Driver) (cs : List Driver) → ds ≡ bs ++ (d ∷ cs) → Circling ds bs d → T (onCircle ds d)
-    circle-back bs d cs e f = subst T (sym (circle-found ds (one-driver ds (twice-none inputs ds (twice-not .1 once) .0)) d (listed ds bs d cs e) (feeds-back f))) tt
+    cycle-back : (bs : List Driver) (d : Driver) (cs : List Driver) → ds ≡ bs ++ (d ∷ cs) → OnCycle ds bs d → T (onCycle ds d)
+    cycle-back bs d cs e f = subst T (sym (cycle-found ds (one-driver ds (twice-none inputs ds (twice-not .1 once) .0)) d (listed ds bs d cs e) (feeds-back f))) tt
 
-    circle-is : firstLine (onCircle ds) ds ≡ firstBy (λ _. onCircle ds) [] ds
-    circle-is = line-first (onCircle ds) [] ds
+    cycle-is : firstLine (onCycle ds) ds ≡ firstBy (λ _. onCycle ds) [] ds
+    cycle-is = line-first (onCycle ds) [] ds
 
-    circle-some : (k : ℕ) → (firstLine (onCircle ds) ds ≡ some k) ↔ FirstLine (Circling ds) ds k
-    circle-some k =
-        let x = first-exactly (Circling ds) (λ _. onCircle ds) ds circle-form circle-back k in
-        ((λ e. x .0 (sym circle-is ∙ e)), λ f. circle-is ∙ x .1 f)
+    cycle-some : (k : ℕ) → (firstLine (onCycle ds) ds ≡ some k) ↔ FirstLine (OnCycle ds) ds k
+    cycle-some k =
+        let x = first-exactly (OnCycle ds) (λ _. onCycle ds) ds cycle-form cycle-back k in
+        ((λ e. x .0 (sym cycle-is ∙ e)), λ f. cycle-is ∙ x .1 f)
 
-    circle-not : (firstLine (onCircle ds) ds ≡ none) ↔ NoLine (Circling ds) ds
-    circle-not =
-        let x = none-exactly (Circling ds) (λ _. onCircle ds) ds circle-form circle-back in
-        ((λ e. x .0 (sym circle-is ∙ e)), λ f. circle-is ∙ x .1 f)
+    cycle-not : (firstLine (onCycle ds) ds ≡ none) ↔ NoLine (OnCycle ds) ds
+    cycle-not =
+        let x = none-exactly (OnCycle ds) (λ _. onCycle ds) ds cycle-form cycle-back in
+        ((λ e. x .0 (sym cycle-is ∙ e)), λ f. cycle-is ∙ x .1 f)
 
   abbrev All : List Driver → Type 0
-  All es = NoLine (Again inputs) ds × (NoLine (Undriven inputs ds) ds × (NoLine (Circling ds) ds × (ds ≡ es)))
+  All es = NoLine (Again inputs) ds × (NoLine (Undriven inputs ds) ds × (NoLine (OnCycle ds) ds × (ds ≡ es)))
 
   abbrev Not : ℕ → ℕ → Type 0
   Not n k = ((n ≡ 33) × FirstLine (Again inputs) ds k) ⊎ (NoLine (Again inputs) ds × (((n ≡ 33) × FirstLine (Undriven inputs ds) ds k) ⊎
-      (NoLine (Undriven inputs ds) ds × (((n ≡ 33) × FirstLine (Circling ds) ds k) ⊎ (NoLine (Circling ds) ds × ⊥)))))
+      (NoLine (Undriven inputs ds) ds × (((n ≡ 33) × FirstLine (OnCycle ds) ds k) ⊎ (NoLine (OnCycle ds) ds × ⊥)))))
 
-  pub nets-exactly : Judged inputs ds
+  pub nets-exactly : Validated inputs ds
   nets-exactly =
       let there : (es : List Driver) → All es
       → NetsHold inputs ds es = λ es p. record { once = p .0; fed = p .1 .0; straight = p .1 .1 .0; same = p .1 .1 .1 } in
       let back : (es : List Driver) → NetsHold inputs ds es → All es = λ es h. (h .once, (h .fed, (h .straight, h .same))) in
-      exactly-map (judgeNets inputs ds) (λ es. (there es, back es)) (λ n k. (down n k, up n k)) (unfold judgeNets in exactly-at
+      exactly-map (validateNets inputs ds) (λ es. (there es, back es)) (λ n k. (down n k, up n k)) (unfold validateNets in exactly-at
       (FirstLine (Again inputs) ds) (NoLine (Again inputs) ds) (drivenTwice inputs ds) 33 _ twice-some twice-not (λ once.
       exactly-at (FirstLine (Undriven inputs ds) ds) (NoLine (Undriven inputs ds) ds) (undriven inputs ds) 33 _ unfed-some unfed-not (λ fed.
-      exactly-at (FirstLine (Circling ds) ds) (NoLine (Circling ds) ds) (firstLine (onCircle ds) ds) 33 (holds ds) (circle-some once)
-      (circle-not once) (λ straight. exactly-holds ds))))
+      exactly-at (FirstLine (OnCycle ds) ds) (NoLine (OnCycle ds) ds) (firstLine (onCycle ds) ds) 33 (holds ds) (cycle-some once)
+      (cycle-not once) (λ straight. exactly-holds ds))))
     where
       as-33 : (n k : ℕ) → n ≡ 33 → NetsFault inputs ds 33 k → NetsFault inputs ds n k
       as-33 n k e f = subst (λ (i : ℕ). NetsFault inputs ds i k) (sym e) f
@@ -317,9 +318,9 @@ module _ (inputs : List (List ℕ)) (ds : List Driver) where
       down : (n k : ℕ) → Not n k → NetsFault inputs ds n k
       down n k (inl p) = as-33 n k (p .0) (twice (p .1))
       down n k (inr p) = ⊎-elim (λ q. as-33 n k (q .0) (unfed (p .0) (q .1))) (λ e.
-          ⊎-elim (λ q. as-33 n k (q .0) (circle (p .0) (e .0) (q .1))) (λ r. absurd (r .1)) (e .1)) (p .1)
+          ⊎-elim (λ q. as-33 n k (q .0) (cycle (p .0) (e .0) (q .1))) (λ r. absurd (r .1)) (e .1)) (p .1)
 
       up : (n k : ℕ) → NetsFault inputs ds n k → Not n k
       up n k (twice f) = inl (refl, f)
       up n k (unfed once f) = inr (once, inl (refl, f))
-      up n k (circle once fed f) = inr (once, inr (fed, inl (refl, f)))
+      up n k (cycle once fed f) = inr (once, inr (fed, inl (refl, f)))

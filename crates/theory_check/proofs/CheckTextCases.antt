@@ -4,8 +4,8 @@ use Prim.Native.String.{String}
 use Rattle.base.specs.{ℕ, _≡_, refl, List, _++_}
 use Rattle.model.specs.{text, fault, readEdited}
 use Rattle.cases.proofs.{library, listing, graphB}
-use Rattle.theory_check.specs.{CheckFault}
-use Rattle.theory_check.proofs.CheckCalls.{check-exactly}
+use Rattle.promises.specs.CheckRefusals.{CheckFault}
+use Rattle.theory_check.proofs.CheckCallLaws.{check-exactly}
 
 refuses : (l g n : List ℕ) (words m k : ℕ) → readEdited l g n words ≡ fault m k → CheckFault l g n words m k
 refuses l g n words m k e = check-exactly l g n words .refuses m k .0 e
@@ -49,6 +49,6 @@ unfolding library graphB inB text readEdited
 not-driven = refuses library (text graphB) (inB ".gate inv A=p1 O=x\n.names y o0\n1 1\n.end\n") 32768 33 56 refl
 
 -- "a net on a circle", and not the one behind it
-behind-circle : CheckFault library (text graphB) (inB ".gate inv A=x O=z\n.gate inv A=x O=y\n.gate inv A=y O=x\n.names z o0\n1 1\n.end\n") 32768 33 55
+behind-cycle : CheckFault library (text graphB) (inB ".gate inv A=x O=z\n.gate inv A=x O=y\n.gate inv A=y O=x\n.names z o0\n1 1\n.end\n") 32768 33 55
 unfolding library graphB inB text readEdited
-behind-circle = refuses library (text graphB) (inB ".gate inv A=x O=z\n.gate inv A=x O=y\n.gate inv A=y O=x\n.names z o0\n1 1\n.end\n") 32768 33 55 refl
+behind-cycle = refuses library (text graphB) (inB ".gate inv A=x O=z\n.gate inv A=x O=y\n.gate inv A=y O=x\n.names z o0\n1 1\n.end\n") 32768 33 55 refl

@@ -13,8 +13,8 @@ use Rattle.theory_graph.specs.{libraryFits, cellFits}
 use Rattle.theory_text.proofs.{then-out, only-out, Free, above, decimal-free, library-cell}
 use Rattle.theory_refusals.proofs.{within-form, within-back, letter-form, letter-back, yes-or, decimal-only, digits-form, AllFree, joins}
 use Rattle.theory_refusals.proofs.{fields-joined, name-form, name-free}
-use Rattle.theory_check.specs.{NetName, Bound, bound, Pins, output, pin, InputNames, noInput, oneInput, OutputNames, noOutput}
-use Rattle.theory_check.specs.{oneOutput, GateWords}
+use Rattle.promises.specs.CheckForms.{NetName, Bound, bound, Pins, output, pin, InputNames, noInput, oneInput, OutputNames, noOutput}
+use Rattle.promises.specs.CheckForms.{oneOutput, GateWords}
 
 -- ---- nets
 

@@ -1,25 +1,25 @@
-pub mod Settling
-pub mod Circles
+pub mod DriverSort
+pub mod Cycles
 pub mod NetRuns
-pub mod AllSettings
-pub mod Comparing
-pub mod Judged
+pub mod AllAssignments
+pub mod ComparisonLaws
+pub mod NetVerdicts
 pub mod CheckNets
 pub mod CheckWords
 pub mod CheckSteps
 pub mod CheckRun
 pub mod CheckExactly
-pub mod CheckCalls
+pub mod CheckCallLaws
 pub mod CheckTextCases
-pub mod TextMeant
-pub mod Whole
+pub mod NetlistMeaning
+pub mod CheckLaws
 pub mod PrintedLines
 pub mod PrintedNets
-pub mod Accepts
-pub use Settling.{Fed, FeedsNet, NoCircle, among-in, among-out, directly, none-left, through}
-pub use Circles.{circle-found, found-circle}
-pub use Comparing.{Sound, run-values}
-pub use CheckCalls.{check-exactly}
-pub use Whole.{all-placed, edited-compared, edited-equal, edited-meant, inputs-once, judged-sound}
+pub mod PrintedAccepted
+pub use DriverSort.{Fed, FeedsNet, NoCycle, among-in, among-out, directly, none-left, through}
+pub use Cycles.{cycle-found, found-cycle}
+pub use ComparisonLaws.{Sound, run-values}
+pub use CheckCallLaws.{check-exactly}
+pub use CheckLaws.{all-ordered, edited-compared, edited-equal, edited-meant, inputs-once, validated-sound}
 pub use PrintedNets.{net-form}
-pub use Accepts.{printed-accepted}
+pub use PrintedAccepted.{printed-accepted}

@@ -2,9 +2,9 @@
 use Rattle.base.specs.{ℕ, zero, suc, _≡_, refl, sym, _∙_, ap, ap₂, _⊎_, inl, inr, ⊎-elim, Bool, cond, List, [], _∷_, map, List·Memᴰ}
 use Rattle.base.specs.{List·Memᴰ·head, List·Memᴰ·tail, List·Memᴰ·not-nil, Memᴰ·cast, head-eq-of-cons-eq, tail-eq-of-cons-eq, eqb, eqb→eq}
 use Rattle.base.specs.{yes-eqb, length}
-use Rattle.model.specs.{bit, same, value, rowOf, Driver, netValue, runNets, inputValues, settingOf, Distinct}
+use Rattle.model.specs.{bit, same, value, rowOf, Driver, netValue, runNets, inputValues, assignmentOf, Distinct}
 use Rattle.theory_graph.proofs.{map-same, same-eq, same-refl, is-true, by-bool}
-use Rattle.theory_check.proofs.Settling.{netsOf, Ordered}
+use Rattle.theory_check.proofs.DriverSort.{netsOf, Ordered}
 
 -- ---- a look-up
 
@@ -79,7 +79,7 @@ runs-only w names known (x ∷ ds) o once apart start follow n m =
 
 -- ---- the inputs
 
--- the bits of a setting from bit k on
+-- the bits of an assignment from bit k on
 bitsFrom : ℕ → ℕ → ℕ → List Bool
 bitsFrom s k zero = []
 bitsFrom s k (suc n) = bit s k ∷ bitsFrom s (suc k) n
@@ -91,19 +91,19 @@ input-bits s k (n ∷ ns) once = ap₂ (λ (b : Bool) (bs : List Bool). b ∷ bs
     (map-same (netValue ((n, bit s k) ∷ inputValues s (suc k) ns)) (netValue (inputValues s (suc k) ns)) ns (λ m i. value-past n m (bit s k) (inputValues s (suc k) ns) (λ e. once .0 (Memᴰ·cast e i)))
     ∙ input-bits s (suc k) ns (once .1))
 
-setting-bits : (s k : ℕ) (us : List ℕ) → Distinct us → map (settingOf s k us) us ≡ bitsFrom s k (length us)
-unfolding settingOf bitsFrom
-setting-bits s k [] once = refl
-setting-bits s k (u ∷ us) once = ap₂ (λ (b : Bool) (bs : List Bool). b ∷ bs) (here u u refl)
-    (map-same (settingOf s k (u ∷ us)) (settingOf s (suc k) us) us (λ v i. by-bool (eqb u v)
-    (λ e. rw e (absurd (once .0 (Memᴰ·cast ((rw e at (eqb→eq u v)) tt) i)))) (λ q. rw q)) ∙ setting-bits s (suc k) us (once .1))
+assignment-bits : (s k : ℕ) (us : List ℕ) → Distinct us → map (assignmentOf s k us) us ≡ bitsFrom s k (length us)
+unfolding assignmentOf bitsFrom
+assignment-bits s k [] once = refl
+assignment-bits s k (u ∷ us) once = ap₂ (λ (b : Bool) (bs : List Bool). b ∷ bs) (here u u refl)
+    (map-same (assignmentOf s k (u ∷ us)) (assignmentOf s (suc k) us) us (λ v i. by-bool (eqb u v)
+    (λ e. rw e (absurd (once .0 (Memᴰ·cast ((rw e at (eqb→eq u v)) tt) i)))) (λ q. rw q)) ∙ assignment-bits s (suc k) us (once .1))
   where
-    here : (a v : ℕ) → a ≡ v → settingOf s k (a ∷ us) v ≡ bit s k
-    here a v e = ap (λ (t : Bool). cond t (bit s k) (settingOf s (suc k) us v)) (is-true (eqb a v) (yes-eqb e))
+    here : (a v : ℕ) → a ≡ v → assignmentOf s k (a ∷ us) v ≡ bit s k
+    here a v e = ap (λ (t : Bool). cond t (bit s k) (assignmentOf s (suc k) us v)) (is-true (eqb a v) (yes-eqb e))
 
--- the inputs' nets have the inputs' settings
-pub inputs-set : (s : ℕ) (ns : List (List ℕ)) (us : List ℕ) → length ns ≡ length us → Distinct ns → Distinct us → map (netValue (inputValues s 0 ns)) ns ≡ map (settingOf s 0 us) us
-inputs-set s ns us e a b = input-bits s 0 ns a ∙ ap (bitsFrom s 0) e ∙ sym (setting-bits s 0 us b)
+-- the inputs' nets have the inputs' assignments
+pub inputs-set : (s : ℕ) (ns : List (List ℕ)) (us : List ℕ) → length ns ≡ length us → Distinct ns → Distinct us → map (netValue (inputValues s 0 ns)) ns ≡ map (assignmentOf s 0 us) us
+inputs-set s ns us e a b = input-bits s 0 ns a ∙ ap (bitsFrom s 0) e ∙ sym (assignment-bits s 0 us b)
 
 -- two functions with one list of values agree on the list
 pub map-agree : (f h : List ℕ → Bool) (ns : List (List ℕ)) → map f ns ≡ map h ns → (n : List ℕ) → List·Memᴰ n ns → f n ≡ h n

@@ -1,4 +1,4 @@
--- The printed netlist's lines drive each net once, use driven nets only and have no circle; and values that follow them are values of the netlist that reads
+-- The printed netlist's lines drive each net once, use driven nets only and have no cycle; and values that follow them are values of the netlist that reads
 -- back.
 use Rattle.base.specs.{ℕ, zero, suc, _+_, _*_, _/_, _%_, _^_, _≤_, _<_, pow-suc, arith, _≡_, refl, sym, _∙_, ap, ap₂, subst, _⊎_, inl, inr}
 use Rattle.base.specs.{⊎-elim, Bool, true, false, not, cond, _&&_, _||_, Option, none, some, List, [], _∷_, _++_, map, List·Memᴰ}
@@ -6,19 +6,19 @@ use Rattle.base.specs.{List·Memᴰ·head, List·Memᴰ·tail, List·Memᴰ·no
 use Rattle.base.specs.{Memᴰ·cast, T, ltb, ltb→lt, leb, nltb→le, le→leb, length, yes-and}
 use Rattle.model.specs.{bit, one, all, any, from, below, digits, decimal, between, isLetter, holds, value, rowOf, varOf, negated, absent}
 use Rattle.model.specs.{chosen, output, fed, Net, ofPhase, ofPair, Gate, netName, label, outName, Wire, drives, fedBy, NetValues, Driver}
-use Rattle.model.specs.{isNet, among, drivenTwice, undriven, firstLine, onCircle, unlessAt, judgeNets, inputNets, settingOf, DriverValues}
+use Rattle.model.specs.{isNet, among, drivenTwice, undriven, firstLine, onCycle, unlessAt, validateNets, inputNets, assignmentOf, DriverValues}
 use Rattle.model.specs.{Distinct, drivenNets}
 use Rattle.model.specs.Graph.{Graph}
 use Rattle.model.specs.declared.Cell.{Cell}
-use Rattle.theory_graph.specs.Accepted.{Accepted}
+use Rattle.theory_graph.specs.AcceptedGraph.{Accepted}
 use Rattle.theory_graph.proofs.{map-in, map-out, each-in, map-map, map-same, length-map, by-bool, by-member}
 use Rattle.theory_text.proofs.{label-free, Clear, lineOf, wiresFrom, blifOf, label-once}
 use Rattle.theory_demands.proofs.{Fitting, inside-apart, OfPhase, fedAt, NeedsOf, gatesAt as phaseGates, chosenGates, by-feeding, bound}
 use Rattle.theory_demands.proofs.{gate-out, of-gates, line-bound, gate-listed, out-label, wire-targets, keyOf, few-key, few-at}
 use Rattle.theory_demands.proofs.{needed-driven, well-formed}
-use Rattle.theory_demands.proofs.Gates.{Gates}
-use Rattle.theory_check.proofs.Settling.{netsOf, FeedsNet, directly, through, NoCircle, join-feeds, among-in, among-out}
-use Rattle.theory_check.proofs.Circles.{found-circle}
+use Rattle.theory_demands.proofs.ChosenGates.{Gates}
+use Rattle.theory_check.proofs.DriverSort.{netsOf, FeedsNet, directly, through, NoCycle, join-feeds, among-in, among-out}
+use Rattle.theory_check.proofs.Cycles.{found-cycle}
 use Rattle.theory_check.proofs.PrintedLines.{AreNets, Shown, Fine, driverAt, gatesAt, wireDriver, namesAt}
 
 -- ---- a net's name is in its form
@@ -127,7 +127,7 @@ wires-hand w at k (l ∷ ls) h x (List·Memᴰ·head e) =
     subst (λ (y : Wire). w (y .target) ≡ w (y .source)) (sym e) (h (wireDriver at k (netName l)) (List·Memᴰ·head refl) ∙ wire-value (w (netName l)))
 wires-hand w at k (l ∷ ls) h x (List·Memᴰ·tail m) = wires-hand w _ (suc k) ls (λ d i. h d (List·Memᴰ·tail i)) x m
 
--- ---- 33 finds nothing where each net is driven once, every net used is driven, and there is no circle
+-- ---- 33 finds nothing where each net is driven once, every net used is driven, and there is no cycle
 
 front-apart : (ns ms : List (List ℕ)) → Distinct (ns ++ ms) → (n : List ℕ) → List·Memᴰ n ns → ¬ List·Memᴰ n ms
 front-apart (x ∷ ns) ms d n (List·Memᴰ·head e) i = d .0 (Memᴰ·append-right ns (Memᴰ·cast (sym e) i))
@@ -159,15 +159,15 @@ all-among nets [] h = refl
 all-among nets (u ∷ us) h = ap₂ (λ (a b : Bool). not a || b) (among-in u nets (h u (List·Memᴰ·head refl))) (all-among nets us (λ n m. h n (List·Memᴰ·tail m)))
 
 pub nets-pass : (inputs : List (List ℕ)) (ds : List Driver) → Distinct (inputs ++ netsOf ds)
-    → ((d : Driver) → List·Memᴰ d ds → (n : List ℕ) → List·Memᴰ n (d .uses) → List·Memᴰ n (inputs ++ netsOf ds)) → NoCircle ds → judgeNets inputs ds ≡ holds ds
-unfolding judgeNets undriven unlessAt
-nets-pass inputs ds once used circle = cc (
+    → ((d : Driver) → List·Memᴰ d ds → (n : List ℕ) → List·Memᴰ n (d .uses) → List·Memᴰ n (inputs ++ netsOf ds)) → NoCycle ds → validateNets inputs ds ≡ holds ds
+unfolding validateNets undriven unlessAt
+nets-pass inputs ds once used cycle = cc (
   once-none inputs ds (back-distinct inputs (netsOf ds) once)
       (front-apart inputs (netsOf ds) once),
   no-line (λ (d : Driver). any (λ (n : List ℕ). not (among n (inputs ++ netsOf ds))) (d .uses)) ds
       (λ d m. all-among (inputs ++ netsOf ds) (d .uses) (used d m)),
-  no-line (onCircle ds) ds
-      (λ d m. off (onCircle ds d) refl (λ e. circle d m (found-circle ds d m e))),
+  no-line (onCycle ds) ds
+      (λ d m. off (onCycle ds d) refl (λ e. cycle d m (found-cycle ds d m e))),
 )
   where
     off : (b : Bool) {c : Bool} → c ≡ b → (c ≡ true → ⊥) → c ≡ false
@@ -333,8 +333,8 @@ module _ (listed cells : List Cell) (fit : Fitting listed cells) (g : Graph) (ok
       go (ofPair x) r p s (inr i) = by-phase (ofPair x) (o .0) (o .2) (b .inside (cc (inner-is x, net-key k t a)) (o .0) (o .1))
 
   -- no net feeds itself: what feeds it would
-  net-free-of-circles : (l : ℕ) → NeedsOf cells g l → (m : Net) → keyOf m ≡ l → ¬ FeedsNet printedDrivers (label m) (label m)
-  net-free-of-circles = by-feeding listed cells fit g ok present-outputs (λ l. (m : Net) → keyOf m ≡ l → ¬ FeedsNet printedDrivers (label m) (label m)) step
+  net-free-of-cycles : (l : ℕ) → NeedsOf cells g l → (m : Net) → keyOf m ≡ l → ¬ FeedsNet printedDrivers (label m) (label m)
+  net-free-of-cycles = by-feeding listed cells fit g ok present-outputs (λ l. (m : Net) → keyOf m ≡ l → ¬ FeedsNet printedDrivers (label m) (label m)) step
     where
       step : (l : ℕ) → NeedsOf cells g l → ((x : ℕ) → List·Memᴰ x (fedAt cells g l) → (m : Net) → keyOf m ≡ x → ¬ FeedsNet printedDrivers (label m) (label m))
           → (m : Net) → keyOf m ≡ l → ¬ FeedsNet printedDrivers (label m) (label m)
@@ -356,21 +356,21 @@ module _ (listed cells : List Cell) (fit : Fitting listed cells) (g : Graph) (ok
                 (r .2) [ byPhase y i e ↦ of-phase y (r .0) i e (r .1) | byInside q p ↦ inside-apart l l (sym q) ])
           ]
 
-  no-circle : NoCircle printedDrivers
-  no-circle d m f = elim (line-is d m) [
-    | ofGate l k t h i c e ↦ net-free-of-circles l (h .needs) (t .net) (net-key l t i)
+  no-cycle : NoCycle printedDrivers
+  no-cycle d m f = elim (line-is d m) [
+    | ofGate l k t h i c e ↦ net-free-of-cycles l (h .needs) (t .net) (net-key l t i)
         (subst (λ (y : Driver). FeedsNet printedDrivers (y .net) (y .net)) e f)
     | ofOutput q p j r z ↦ let u = feeds-used printedDrivers (d .net) (d .net) f in let r = use-net (u .0) (line-is (u .0) (u .1)) (d .net)
         (u .2) in out-label j (r .0) (sym (ap (λ (y : Driver). y .net) z) ∙ r .2)
   ]
 
   -- 33 finds nothing
-  pub drivers-pass : judgeNets (inputNets g) printedDrivers ≡ holds printedDrivers
+  pub drivers-pass : validateNets (inputNets g) printedDrivers ≡ holds printedDrivers
   drivers-pass =
-      nets-pass (inputNets g) printedDrivers (subst Distinct (sym nets-driven) (well-formed listed cells fit g ok present-outputs (record { gates = 0; area = 0; arrival = 0 }) .once)) used-driven no-circle
+      nets-pass (inputNets g) printedDrivers (subst Distinct (sym nets-driven) (well-formed listed cells fit g ok present-outputs (record { gates = 0; area = 0; arrival = 0 }) .once)) used-driven no-cycle
 
   -- values that follow the lines are values of the netlist that reads back
-  pub drivers-values : (s : ℕ) (w : List ℕ → Bool) → DriverValues g printedDrivers s w → NetValues listed (blifOf g (chosenGates listed cells g)) (map (settingOf s 0 (g .inputs)) (g .inputs)) w
+  pub drivers-values : (s : ℕ) (w : List ℕ → Bool) → DriverValues g printedDrivers s w → NetValues listed (blifOf g (chosenGates listed cells g)) (map (assignmentOf s 0 (g .inputs)) (g .inputs)) w
   unfolding blifOf inputNets
   drivers-values s w h = record {
     atInputs = h .atInputs;

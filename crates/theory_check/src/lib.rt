@@ -1,1 +1,1 @@
-// Laws of the check of an edited netlist: circles, values, the comparison, and what is printed accepted; no code.
+// Laws of the check of an edited netlist: cycles, values, the comparison, and what is printed accepted; no code.

@@ -3,17 +3,17 @@
 use Rattle.base.specs.{ℕ, zero, suc, _+_, _≤_, _<_, add-zero, add-suc, suc-add, zero-add, not-suc-le-zero, le-of-suc-le-suc, le-antisymm}
 use Rattle.base.specs.{lt-of-not-le, decLe, arith, _≡_, refl, sym, _∙_, ap, subst, _↔_, Bool, true, false, cond, true≢false, List, [], _∷_}
 use Rattle.base.specs.{List·Memᴰ, List·Memᴰ·head, List·Memᴰ·eq-of-singleton, T, length, getD}
-use Rattle.model.specs.{lowest, crowded, absent, chosen, Needed, output, CoverArrivals, refused, mapped, mapGraph, uncovered, printed}
-use Rattle.model.specs.{mapChosen, mapCut, mapPlaced, Timed, LowestUncovered, ChosenCover, choiceText, choiceFigures}
+use Rattle.model.specs.{lowest, overLimit, absent, chosen, Needed, output, CoverArrivals, refused, mapped, mapGraph, uncovered, printed}
+use Rattle.model.specs.{mapChosen, mapCut, mapOrdered, Timed, LowestUncovered, ChosenCover, choiceText, choiceFigures}
 use Rattle.model.specs.Graph.{Graph}
 use Rattle.model.specs.Cover.{Cover}
 use Rattle.model.specs.declared.Cell.{Cell}
 use Rattle.model.specs.declared.Phase.{Phase}
-use Rattle.theory_graph.specs.Accepted.{Accepted}
+use Rattle.theory_graph.specs.AcceptedGraph.{Accepted}
 use Rattle.theory_graph.proofs.{getD-in, order-once}
-use Rattle.theory_cover.proofs.Covers.{covers-timed}
-use Rattle.theory_cover.proofs.Earliest.{earliest}
-use Rattle.theory_cover.proofs.Sound.{chosen-cover, chosen-timed, nothing-iff}
+use Rattle.theory_cover.proofs.CoverFacts.{covers-timed}
+use Rattle.theory_cover.proofs.EarliestArrival.{earliest}
+use Rattle.theory_cover.proofs.CoverSoundness.{chosen-cover, chosen-timed, nothing-iff}
 
 -- the first output that is chosen nothing
 record First (phase : ℕ → Phase) (ls : List ℕ) (j : ℕ) : Type 0 where
@@ -98,11 +98,11 @@ module _ (cells : List Cell) (g : Graph) (ok : Accepted g) where
     printed-from us (at j rest f) c =
         absurd (true≢false (sym (f .none-at) ∙ covered-present (getD (g .outputs) j 0) (c (getD (g .outputs) j 0) (getD-in (g .outputs) j 0 (f .here)))))
 
-    module _ (few : crowded g ≡ []) where
+    module _ (few : overLimit g ≡ []) where
       -- an accepted graph with few cuts is answered from the choice
       pub mapped-choice : mapGraph listed cells g ≡ printed listed cells g (chosen cells g) (uncovered (chosen cells g) 0 (g .outputs))
-      unfolding mapGraph mapPlaced mapCut mapChosen chosen lowest
-      mapped-choice = ap (λ (us : List ℕ). mapPlaced listed cells g (lowest us)) (ok .placed) ∙ ap (mapCut listed cells g) few
+      unfolding mapGraph mapOrdered mapCut mapChosen chosen lowest
+      mapped-choice = ap (λ (us : List ℕ). mapOrdered listed cells g (lowest us)) (ok .ordered) ∙ ap (mapCut listed cells g) few
 
       -- "refusal 17 comes exactly when some output has no cover, and names the lowest"
       pub seventeen-iff : (k : ℕ) → (mapGraph listed cells g ≡ refused 17 k) ↔ LowestUncovered cells g k

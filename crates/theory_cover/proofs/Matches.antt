@@ -98,7 +98,7 @@ pub record OnCut (cells : List Cell) (g : Graph) (v : ℕ) (neg : Bool) (first :
   pub place : ℕ
   pub isPlace : first + place ≡ m .cut
   pub hasPlace : place < length cuts
-  pub notAlone : ¬ (getD cuts place [] ≡ v ∷ [])
+  pub nontrivial : ¬ (getD cuts place [] ≡ v ∷ [])
   pub hasCell : m .cell < length cells
   pub hasOrder : m .order < 24
   pub agrees : Agrees (getD cells (m .cell) noCell) m (length (getD cuts place [])) (phaseTable neg (cutTable g (getD cuts place []) v))
@@ -137,7 +137,7 @@ module _ (cells : List Cell) (g : Graph) (known : ℕ → Phases) (v : ℕ) (neg
   matchPhases-in : (first : ℕ) (cuts : List (List ℕ)) (m : Match) (r : OnCut cells g v neg first cuts m)
       → List·Memᴰ (matchPhase cells known (getD cuts (r .place) []) m) (matchPhases cells g known v neg first cuts)
   unfolding matchPhases
-  matchPhases-in first cuts m r = go first cuts (r .place) (r .isPlace) (r .hasPlace) (r .notAlone) (r .agrees)
+  matchPhases-in first cuts m r = go first cuts (r .place) (r .isPlace) (r .hasPlace) (r .nontrivial) (r .agrees)
     where
       go : (first : ℕ) (cuts : List (List ℕ)) (j : ℕ) → first + j ≡ m .cut → j < length cuts → ¬ (getD cuts j [] ≡ v ∷ [])
           → Agrees (getD cells (m .cell) noCell) m (length (getD cuts j [])) (tableOf (getD cuts j []))
@@ -165,7 +165,7 @@ module _ (cells : List Cell) (g : Graph) (known : ℕ → Phases) (v : ℕ) (neg
           place = 0;
           isPlace = add-zero first ∙ sym (r .isCut);
           hasPlace = omega arith;
-          notAlone = o .0;
+          nontrivial = o .0;
           hasCell = subst (λ (j : ℕ). j < length cells) line (r .hasPlace);
           hasOrder = r .hasOrder;
           agrees = subst (λ (j : ℕ). Agrees (getD cells j noCell) (o .1 .0) (length cut) (tableOf cut)) line (r .agrees);
@@ -178,7 +178,7 @@ module _ (cells : List Cell) (g : Graph) (known : ℕ → Phases) (v : ℕ) (neg
           place = suc (r .place);
           isPlace = add-suc first (r .place) ∙ sym (suc-add first (r .place)) ∙ r .isPlace;
           hasPlace = let h : r .place < length cuts = r .hasPlace in omega arith;
-          notAlone = r .notAlone;
+          nontrivial = r .nontrivial;
           hasCell = r .hasCell;
           hasOrder = r .hasOrder;
           agrees = r .agrees;
@@ -205,7 +205,7 @@ match-tried cells g known l m h = matchPhases-in cells g known (varOf l) (negate
   place = m .cut;
   isPlace = zero-add (m .cut);
   hasPlace = h .hasCut;
-  notAlone = h .notAlone;
+  nontrivial = h .nontrivial;
   hasCell = h .hasCell;
   hasOrder = h .hasOrder;
   agrees = h .agrees;
@@ -220,7 +220,7 @@ match-out cells g known l w i =
     let r : OnCut cells g (varOf l) (negated l) 0 (cutsOf g (varOf l)) (b .match) = b .onCut in
     let e : r .place ≡ b .match .cut = sym (zero-add (r .place)) ∙ r .isPlace in (
       b .match,
-      at (b .match) (r .place) e (r .hasPlace) (r .notAlone) (r .hasCell) (r .hasOrder) (r .agrees),
+      at (b .match) (r .place) e (r .hasPlace) (r .nontrivial) (r .hasCell) (r .hasOrder) (r .agrees),
       b .isPhase ∙ ap (λ (k : ℕ). matchPhase cells known (getD (cutsOf g (varOf l)) k []) (b .match)) e,
     )
   where
@@ -228,7 +228,7 @@ match-out cells g known l w i =
         → Agrees (getD cells (m .cell) noCell) m (length (getD (cutsOf g (varOf l)) k [])) (phaseTable (negated l) (cutTable g (getD (cutsOf g (varOf l)) k []) (varOf l)))
         → IsMatch cells g l m
     at m k e h alone line ordered t =
-        record { hasCut = rw e at h; notAlone = rw e at alone; hasCell = line; hasOrder = ordered; agrees = rw e at t }
+        record { hasCut = rw e at h; nontrivial = rw e at alone; hasCell = line; hasOrder = ordered; agrees = rw e at t }
 
 -- ---- the nets that feed a match
 

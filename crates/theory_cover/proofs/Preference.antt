@@ -1,10 +1,10 @@
--- The choice by 01's order of preference: the chosen source of a placed phase is allowed and timed by the rule, and no allowed source whose
+-- The choice by 01's order of preference: the chosen source of an ordered phase is allowed and timed by the rule, and no allowed source whose
 -- pins have sources comes before it.
 use Rattle.base.specs.{ℕ, suc, _+_, _^_, _≤_, _<_, le-refl, zero-add, arith, _≡_, refl, sym, _∙_, ap, subst, Bool, true, false, not, cond}
 use Rattle.base.specs.{_&&_, List, [], _∷_, _++_, map, List·Memᴰ, List·Memᴰ·head, List·Memᴰ·tail, T, ltb, ltb→lt, nltb→le, length, getD}
-use Rattle.model.specs.{keep, below, same, orders, cellAt, isInverter, noCell, placingOrder, varOf, negated, opposite, cutsOf, cutTable}
+use Rattle.model.specs.{keep, below, same, orders, cellAt, isInverter, noCell, topologicalOrder, varOf, negated, opposite, cutsOf, cutTable}
 use Rattle.model.specs.{phaseTable, fits, Phases, feeds, latest, absent, earlier, choose, matchPhase, cellMatches, cutMatches, cutPhases}
-use Rattle.model.specs.{matchPhases, inverterPhases, direct, chosen, rank, preference, IsMatch, IsOwn, IsInverting, Allowed, arrivalBy}
+use Rattle.model.specs.{matchPhases, inverterPhases, uninverted, chosen, rank, preference, IsMatch, IsInputSource, IsInverting, Allowed, arrivalBy}
 use Rattle.model.specs.{Distinct, Preferred}
 use Rattle.model.specs.Graph.{Graph}
 use Rattle.model.specs.declared.Cell.{Cell}
@@ -12,17 +12,17 @@ use Rattle.model.specs.declared.Match.{Match}
 use Rattle.model.specs.declared.Phase.{Phase}
 use Rattle.model.specs.declared.Source.{Source}
 use Rattle.model.specs.declared.Source.the-variants.{Input, Cell as Matched, Inverter as Inverted, Nothing}
-use Rattle.theory_graph.specs.Accepted.{Accepted}
+use Rattle.theory_graph.specs.AcceptedGraph.{Accepted}
 use Rattle.theory_graph.proofs.{map-out, node-input, order-once, along, by-bool}
-use Rattle.theory_cover.proofs.Pairs.{UpTo, short, less, even, up-refl, up-trans, up-head, up-cons, up-not-after, Pairwise}
-use Rattle.theory_cover.proofs.Pairs.{pairwise-append, pairwise-keep, pairwise-map, pairwise-each, below-ascends}
+use Rattle.theory_cover.proofs.PairCovers.{UpTo, short, less, even, up-refl, up-trans, up-head, up-cons, up-not-after, Pairwise}
+use Rattle.theory_cover.proofs.PairCovers.{pairwise-append, pairwise-keep, pairwise-map, pairwise-each, below-ascends}
 use Rattle.theory_cover.proofs.Matches.{cellMatches-out, cutMatches-out, cutPhases-out, matchPhases-out, cutFor, match-tried}
 use Rattle.theory_cover.proofs.Matches.{matchPhase-in, matchPhase-out, invertedPhase, inverter-in, inverter-out}
-use Rattle.theory_cover.proofs.Covers.{Straight}
-use Rattle.theory_cover.proofs.Earliest.{latest-one, arrival-matched, arrival-inverted, match-direct}
-use Rattle.theory_cover.proofs.Sound.{Between, the-first, the-second, earlier-between, choose-in, match-known, match-times, own-fine}
-use Rattle.theory_cover.proofs.Sound.{chosen-fine}
-use Rattle.theory_cover.proofs.Turns.{phasesKnown, own, chosen-entry, opposite-entry}
+use Rattle.theory_cover.proofs.CoverFacts.{Straight}
+use Rattle.theory_cover.proofs.EarliestArrival.{latest-one, arrival-matched, arrival-inverted, match-uninverted}
+use Rattle.theory_cover.proofs.CoverSoundness.{Between, the-first, the-second, earlier-between, choose-in, match-known, match-times, own-fine}
+use Rattle.theory_cover.proofs.CoverSoundness.{chosen-fine}
+use Rattle.theory_cover.proofs.ChoiceRun.{phasesKnown, own, chosen-entry, opposite-entry}
 
 -- ---- the first of the earliest is the least, in a list that ascends in rank
 
@@ -157,7 +157,7 @@ joined-ascend cells p other t = (
 
 -- ---- the chosen source is the least
 
-module _ (cells : List Cell) (g : Graph) (once : Distinct (placingOrder g)) (pre : List ℕ) (l : ℕ) (post : List ℕ) (e : placingOrder g ≡ pre ++ (varOf l ∷ post)) where
+module _ (cells : List Cell) (g : Graph) (once : Distinct (topologicalOrder g)) (pre : List ℕ) (l : ℕ) (post : List ℕ) (e : topologicalOrder g ≡ pre ++ (varOf l ∷ post)) where
   -- phase l and the opposite one without inverters, in the variable's turn
   abbrev mine : Phase
   mine = own cells g pre (varOf l) (negated l)
@@ -183,11 +183,11 @@ module _ (cells : List Cell) (g : Graph) (once : Distinct (placingOrder g)) (pre
   mine-least h = tried-least mine (List·Memᴰ·head refl) h
 
   -- "for an input's positive phase its own net"
-  own-least : IsOwn g l → Least (chosen cells g l) (ruled Input)
-  unfolding direct absent arrivalBy feeds latest
+  own-least : IsInputSource g l → Least (chosen cells g l) (ruled Input)
+  unfolding uninverted absent arrivalBy feeds latest
   own-least o =
-      let is-net : mine ≡ record { source = Input; arrival = g .late (varOf l) } = ap
-      (direct cells g (phasesKnown cells g pre) (varOf l) (cutsOf g (varOf l)) (negated l)) (node-input g (varOf l) once (o .isInput))
+      let is-net : mine ≡ record { source = Input; arrival = g .inputArrival (varOf l) } = ap
+      (uninverted cells g (phasesKnown cells g pre) (varOf l) (cutsOf g (varOf l)) (negated l)) (node-input g (varOf l) once (o .isInput))
       ∙ by-bool (negated l) (λ e. rw e (absurd (rw e at (o .positive)))) (λ q. rw q) in
       subst (Least (chosen cells g l)) is-net (mine-least (ap (λ (p : Phase). absent (p .source)) is-net))
 
@@ -206,7 +206,7 @@ module _ (cells : List Cell) (g : Graph) (once : Distinct (placingOrder g)) (pre
       tried = matchPhases cells g known (varOf l) (negated l) 0 (cutsOf g (varOf l))
 
       best : mine ≡ choose tried
-      best = match-direct cells g once pre l post e m h known
+      best = match-uninverted cells g once pre l post e m h known
 
       by-rule : matchPhase cells known (cutFor g l m) m ≡ ruled (Matched m)
       by-rule = cc (
@@ -246,14 +246,14 @@ module _ (cells : List Cell) (g : Graph) (once : Distinct (placingOrder g)) (pre
   source-least (Matched m) a pins = match-least m a pins
   source-least (Inverted i) a pins = inverter-least i a (pins (opposite l) (List·Memᴰ·head refl))
 
-  preferred-turn : Preferred cells g l
-  preferred-turn = record {
+  preferred-step : Preferred cells g l
+  preferred-step = record {
     allowed = λ h. chosen-fine cells g once l h .0 .allowed;
     timed = λ h. chosen-fine cells g once l h .0 .timed;
     first = λ s a pins. let r = source-least s a pins in (r .present, up-not-after (r .upTo));
   }
 
--- the choice of a placed phase is the first by 01's order of preference
-pub choice-preferred : (cells : List Cell) (g : Graph) → Accepted g → (l : ℕ) → List·Memᴰ (varOf l) (placingOrder g) → Preferred cells g l
-choice-preferred cells g ok l = along (λ v. (x : ℕ) → varOf x ≡ v → List·Memᴰ v (placingOrder g) → Preferred cells g x) (placingOrder g)
-    (λ u h x p m. absurd (h m)) (λ pre v post e ih x p m. preferred-turn cells g (order-once g ok) pre x post (rw p e)) (varOf l) l refl
+-- the choice of an ordered phase is the first by 01's order of preference
+pub choice-preferred : (cells : List Cell) (g : Graph) → Accepted g → (l : ℕ) → List·Memᴰ (varOf l) (topologicalOrder g) → Preferred cells g l
+choice-preferred cells g ok l = along (λ v. (x : ℕ) → varOf x ≡ v → List·Memᴰ v (topologicalOrder g) → Preferred cells g x) (topologicalOrder g)
+    (λ u h x p m. absurd (h m)) (λ pre v post e ih x p m. preferred-step cells g (order-once g ok) pre x post (rw p e)) (varOf l) l refl

@@ -3,21 +3,21 @@
 use Rattle.base.specs.{ℕ, suc, _≤_, le-refl, le-trans, le-of-eq, arith, _≡_, refl, sym, _∙_, ap, ap₂, subst, Bool, true, false, not, cond}
 use Rattle.base.specs.{true≢false, List, [], _∷_, _++_, map, List·Memᴰ, List·Memᴰ·head, List·Memᴰ·tail, List·Memᴰ·eq-of-singleton}
 use Rattle.base.specs.{Memᴰ·cast, getD}
-use Rattle.model.specs.{find, run, placingOrder, varOf, negated, literal, opposite, cutsOf, feeds, cellOf, latest, chosen, Allowed}
-use Rattle.model.specs.{arrivalBy, Times, noTimes, timeOf, ownTime, turnedTime, timesAt, retimes, retimed, Distinct}
+use Rattle.model.specs.{find, run, topologicalOrder, varOf, negated, literal, opposite, cutsOf, feeds, cellOf, latest, chosen, Allowed}
+use Rattle.model.specs.{arrivalBy, Times, noTimes, timeOf, ownTime, inverterTime, timesAt, retimes, retimed, Distinct}
 use Rattle.model.specs.Graph.{Graph}
 use Rattle.model.specs.declared.Cell.{Cell}
 use Rattle.model.specs.declared.Source.{Source}
 use Rattle.model.specs.declared.Source.the-variants.{Input, Cell as Matched, Inverter as Inverted, Nothing}
 use Rattle.theory_graph.proofs.{map-same, opposite-var, lit-whole, along, no-twice-behind, run-stays, run-entry, run-split}
-use Rattle.theory_cover.proofs.Turns.{chosen-none}
-use Rattle.theory_cover.proofs.Covers.{Straight}
-use Rattle.theory_cover.proofs.Sound.{Present, chosen-fine, straight-before}
+use Rattle.theory_cover.proofs.ChoiceRun.{chosen-none}
+use Rattle.theory_cover.proofs.CoverFacts.{Straight}
+use Rattle.theory_cover.proofs.CoverSoundness.{Present, chosen-fine, straight-before}
 
 -- the rule, with the delays of the cell
 unfoldable pub timeBy : List Cell → Graph → List ℕ → (ℕ → ℕ) → ℕ → Source → ℕ
 unfolding latest feeds cutsOf
-timeBy cells g delays at l Input = g .late (varOf l)
+timeBy cells g delays at l Input = g .inputArrival (varOf l)
 timeBy cells g delays at l Nothing = 0
 timeBy cells g delays at l (Matched m) = latest (map at (feeds cells (cutsOf g) l (Matched m))) delays
 timeBy cells g delays at l (Inverted c) = latest (map at (feeds cells (cutsOf g) l (Inverted c))) delays
@@ -39,7 +39,7 @@ latest-below f h (x ∷ xs) ds es le de = go ds es de (λ as′ bs. latest-below
     go (d ∷ ds) [] q rest = omega (arith, rest ds [] (λ j. q (suc j)), q 0, a)
     go (d ∷ ds) (e ∷ es) q rest = omega (arith, rest ds es (λ j. q (suc j)), q 0, a)
 
-module _ (cells : List Cell) (g : Graph) (once : Distinct (placingOrder g)) (delays : ℕ → List ℕ) where
+module _ (cells : List Cell) (g : Graph) (once : Distinct (topologicalOrder g)) (delays : ℕ → List ℕ) where
   abbrev source : ℕ → Source
   source l = chosen cells g l .source
 
@@ -53,7 +53,7 @@ module _ (cells : List Cell) (g : Graph) (once : Distinct (placingOrder g)) (del
   timesKnown pre u = find noTimes u (run timeStep pre [])
 
   -- what is known when a variable's turn comes stays
-  time-known : (pre : List ℕ) (v : ℕ) (post : List ℕ) → placingOrder g ≡ pre ++ (v ∷ post) → (x : ℕ) → ¬ List·Memᴰ (varOf x) (v ∷ post) → time x ≡ timeOf (timesKnown pre) x
+  time-known : (pre : List ℕ) (v : ℕ) (post : List ℕ) → topologicalOrder g ≡ pre ++ (v ∷ post) → (x : ℕ) → ¬ List·Memᴰ (varOf x) (v ∷ post) → time x ≡ timeOf (timesKnown pre) x
   unfolding retimed retimes timeOf
   time-known pre v post e x h =
       cc (run-split noTimes timeStep pre (v ∷ post) [], run-stays noTimes timeStep (v ∷ post) (run timeStep pre []) (varOf x) h)
@@ -64,25 +64,25 @@ module _ (cells : List Cell) (g : Graph) (once : Distinct (placingOrder g)) (del
 
   two-times : (pre : List ℕ) (v : ℕ) (b : Bool)
       → cond b (timesAt cells g source delays (timesKnown pre) v .negative) (timesAt cells g source delays (timesKnown pre) v .positive)
-      ≡ turnedTime (delays (literal b v)) (ownAt pre (literal b v)) (ownAt pre (literal (not b) v)) (source (literal b v))
+      ≡ inverterTime (delays (literal b v)) (ownAt pre (literal b v)) (ownAt pre (literal (not b) v)) (source (literal b v))
   unfolding timesAt
   two-times pre v true = refl
   two-times pre v false = refl
 
-  time-entry : (pre : List ℕ) (v : ℕ) (post : List ℕ) → placingOrder g ≡ pre ++ (v ∷ post) → (l : ℕ) → varOf l ≡ v
-      → time l ≡ turnedTime (delays l) (ownAt pre l) (ownAt pre (opposite l)) (source l)
+  time-entry : (pre : List ℕ) (v : ℕ) (post : List ℕ) → topologicalOrder g ≡ pre ++ (v ∷ post) → (l : ℕ) → varOf l ≡ v
+      → time l ≡ inverterTime (delays l) (ownAt pre l) (ownAt pre (opposite l)) (source l)
   unfolding retimed retimes timeOf opposite
-  time-entry pre v post e l p = ap (λ (u : ℕ). cond (negated l) (find noTimes u (run timeStep (placingOrder g) []) .negative)
-      (find noTimes u (run timeStep (placingOrder g) []) .positive)) p ∙ ap (λ (x : Times). cond (negated l) (x .negative) (x .positive))
+  time-entry pre v post e l p = ap (λ (u : ℕ). cond (negated l) (find noTimes u (run timeStep (topologicalOrder g) []) .negative)
+      (find noTimes u (run timeStep (topologicalOrder g) []) .positive)) p ∙ ap (λ (x : Times). cond (negated l) (x .negative) (x .positive))
       (cc (
         run-split noTimes timeStep pre (v ∷ post) [],
         run-entry noTimes timeStep v post (run timeStep pre [])
             (no-twice-behind pre (v ∷ post) (rw (← e) once) .0),
       )) ∙ two-times pre v (negated l) ∙ ap₂
-      (λ (x y : ℕ). turnedTime (delays x) (ownAt pre x) (ownAt pre y) (source x)) (ap (literal (negated l)) (sym p) ∙ lit-whole l)
+      (λ (x y : ℕ). inverterTime (delays x) (ownAt pre x) (ownAt pre y) (source x)) (ap (literal (negated l)) (sym p) ∙ lit-whole l)
       (ap (literal (not (negated l))) (sym p))
 
-  own-rule : (pre : List ℕ) (v : ℕ) (post : List ℕ) → placingOrder g ≡ pre ++ (v ∷ post) → (l : ℕ) → varOf l ≡ v → Straight (source l)
+  own-rule : (pre : List ℕ) (v : ℕ) (post : List ℕ) → topologicalOrder g ≡ pre ++ (v ∷ post) → (l : ℕ) → varOf l ≡ v → Straight (source l)
       → ownAt pre l ≡ timeBy cells g (delays l) time l (source l)
   unfolding ownTime timeBy
   own-rule pre v post e l p t = go (source l) refl t
@@ -95,20 +95,20 @@ module _ (cells : List Cell) (g : Graph) (once : Distinct (placingOrder g)) (del
       go (Inverted c) q u = absurd u
 
   -- what an entry is, where the phase has no inverter
-  straight-time : (pre : List ℕ) (v : ℕ) (post : List ℕ) → placingOrder g ≡ pre ++ (v ∷ post) → (l : ℕ) → varOf l ≡ v → Straight (source l) → time l ≡ ownAt pre l
-  unfolding turnedTime
+  straight-time : (pre : List ℕ) (v : ℕ) (post : List ℕ) → topologicalOrder g ≡ pre ++ (v ∷ post) → (l : ℕ) → varOf l ≡ v → Straight (source l) → time l ≡ ownAt pre l
+  unfolding inverterTime
   straight-time pre v post e l p t = time-entry pre v post e l p ∙ go (source l) t
     where
-      go : (s : Source) → Straight s → turnedTime (delays l) (ownAt pre l) (ownAt pre (opposite l)) s ≡ ownAt pre l
+      go : (s : Source) → Straight s → inverterTime (delays l) (ownAt pre l) (ownAt pre (opposite l)) s ≡ ownAt pre l
       go Input u = refl
       go Nothing u = absurd u
       go (Matched m) u = refl
       go (Inverted c) u = absurd u
 
-  turn : (pre : List ℕ) (v : ℕ) (post : List ℕ) → placingOrder g ≡ pre ++ (v ∷ post) → (l : ℕ) → varOf l ≡ v → Present cells g once l
+  visit : (pre : List ℕ) (v : ℕ) (post : List ℕ) → topologicalOrder g ≡ pre ++ (v ∷ post) → (l : ℕ) → varOf l ≡ v → Present cells g once l
       → time l ≡ timeBy cells g (delays l) time l (source l)
-  unfolding turnedTime timeBy feeds
-  turn pre v post e l p h = go (source l) refl
+  unfolding inverterTime timeBy feeds
+  visit pre v post e l p h = go (source l) refl
     where
       plain : Straight (source l) → time l ≡ timeBy cells g (delays l) time l (source l)
       plain t = straight-time pre v post e l p t ∙ own-rule pre v post e l p t
@@ -123,11 +123,11 @@ module _ (cells : List Cell) (g : Graph) (once : Distinct (placingOrder g)) (del
   -- the rule holds at every phase that is chosen a source
   pub retimed-rule : (l : ℕ) → Present cells g once l → time l ≡ timeBy cells g (delays l) time l (source l)
   retimed-rule l h = along (λ v. (x : ℕ) → varOf x ≡ v → Present cells g once x → time x ≡ timeBy cells g (delays x) time x (source x))
-      (placingOrder g) (λ u k x p a. absurd (true≢false (sym (chosen-none cells g x (λ m. k (Memᴰ·cast (sym p) m))) ∙ a)))
-      (λ pre v post e ih. turn pre v post e) (varOf l) l refl h
+      (topologicalOrder g) (λ u k x p a. absurd (true≢false (sym (chosen-none cells g x (λ m. k (Memᴰ·cast (sym p) m))) ∙ a)))
+      (λ pre v post e ih. visit pre v post e) (varOf l) l refl h
 
--- Under delays that are no larger than the chosen cells', no phase is later than it is chosen: so a low arrival is at most its phase's arrival.
-module _ (cells : List Cell) (g : Graph) (once : Distinct (placingOrder g)) (delays : ℕ → List ℕ)
+-- Under delays that are no larger than the chosen cells', no phase is later than it is chosen: so a minimum arrival is at most its phase's arrival.
+module _ (cells : List Cell) (g : Graph) (once : Distinct (topologicalOrder g)) (delays : ℕ → List ℕ)
     (smaller : (l : ℕ) → Present cells g once l → (j : ℕ) → getD (delays l) j 0 ≤ getD (cellOf cells (chosen cells g l .source) .delays) j 0) where
   abbrev timed : ℕ → ℕ
   timed = retimed cells g (λ x. chosen cells g x .source) delays
@@ -142,19 +142,19 @@ module _ (cells : List Cell) (g : Graph) (once : Distinct (placingOrder g)) (del
     where
       go : (s : Source) → ((x : ℕ) → List·Memᴰ x (feeds cells (cutsOf g) l s) → timed x ≤ arrives x) → ((j : ℕ) → getD (delays l) j 0 ≤ getD (cellOf cells s .delays) j 0)
           → timeBy cells g (delays l) timed l s ≤ arrivalBy cells g arrives l s
-      go Input f q = le-refl (g .late (varOf l))
+      go Input f q = le-refl (g .inputArrival (varOf l))
       go Nothing f q = le-refl 0
       go (Matched m) f q = latest-below timed arrives (feeds cells (cutsOf g) l (Matched m)) (delays l) (cellOf cells (Matched m) .delays) f q
       go (Inverted c) f q = latest-below timed arrives (feeds cells (cutsOf g) l (Inverted c)) (delays l) (cellOf cells (Inverted c) .delays) f q
 
   pub retimed-below : (l : ℕ) → Present cells g once l → timed l ≤ arrives l
   unfolding feeds
-  retimed-below l h = along (λ v. (x : ℕ) → varOf x ≡ v → Present cells g once x → timed x ≤ arrives x) (placingOrder g)
-      (λ u k x p a. absurd (true≢false (sym (chosen-none cells g x (λ m. k (Memᴰ·cast (sym p) m))) ∙ a))) at-turn (varOf l) l refl h
+  retimed-below l h = along (λ v. (x : ℕ) → varOf x ≡ v → Present cells g once x → timed x ≤ arrives x) (topologicalOrder g)
+      (λ u k x p a. absurd (true≢false (sym (chosen-none cells g x (λ m. k (Memᴰ·cast (sym p) m))) ∙ a))) at-step (varOf l) l refl h
     where
-      at-turn : (pre : List ℕ) (v : ℕ) (post : List ℕ) → placingOrder g ≡ pre ++ (v ∷ post) → ((u : ℕ) → ¬ List·Memᴰ u (v ∷ post) → (x : ℕ) → varOf x ≡ u → Present cells g once x → timed x ≤ arrives x)
+      at-step : (pre : List ℕ) (v : ℕ) (post : List ℕ) → topologicalOrder g ≡ pre ++ (v ∷ post) → ((u : ℕ) → ¬ List·Memᴰ u (v ∷ post) → (x : ℕ) → varOf x ≡ u → Present cells g once x → timed x ≤ arrives x)
           → (x : ℕ) → varOf x ≡ v → Present cells g once x → timed x ≤ arrives x
-      at-turn pre v post e ih x p k = go (chosen cells g x .source) refl
+      at-step pre v post e ih x p k = go (chosen cells g x .source) refl
         where
           straight : (y : ℕ) → varOf y ≡ v → Present cells g once y → Straight (chosen cells g y .source) → timed y ≤ arrives y
           straight y q m t = by-rule y m (λ z i. ih (varOf z) (straight-before cells g once pre v post e y q t z i) z refl (chosen-fine cells g once y m .0 .fedBy z i))

@@ -4,7 +4,7 @@ use Rattle.base.specs.{Memᴰ·append-left, Memᴰ·append-right, T, length, ge
 use Rattle.model.specs.{keep, below, cellAt, noCell, pairOf, joins, pairsOf, cellOfPair, withPairs, cellsFor, SameCells}
 use Rattle.model.specs.declared.Cell.{Cell}
 use Rattle.theory_graph.proofs.{map-in, map-out, each-in, each-out, keep-in, keep-out, below-in, below-out, getD-in}
-use Rattle.theory_cover.proofs.Shuffled.{line-of, swapped}
+use Rattle.theory_cover.proofs.ShuffledLibrary.{line-of, swapped}
 
 -- what a pair is, with no word of lines
 record IsPair (cells : List Cell) (c : Cell) : Type 0 where

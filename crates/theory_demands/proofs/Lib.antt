@@ -1,28 +1,29 @@
 pub mod Needs
-pub mod Numbered
-pub mod Settled
-pub mod Gates
+pub mod RefusalRanks
+pub mod PhaseNets
+pub mod ChosenGates
 pub mod Wires
-pub mod Nets
-pub mod Values
-pub mod Arrivals
-pub mod Formed
-pub mod Gated
-pub mod Ranges
-pub mod Demanded
+pub mod NetDemands
+pub mod NetValues
+pub mod GateArrivals
+pub mod PairsFormed
+pub mod GateLinks
+pub mod RangeDemands
+pub mod CallDemands
+pub mod CoverRelations
 pub mod Shuffles
-pub mod Refusals
-pub mod Sequence
-pub mod Channels
+pub mod RefusalDemands
+pub mod CallSequence
+pub mod ChannelDemands
 pub use Needs.{listed-needed}
-pub use Numbered.{Fitting, OfPair, double, single}
-pub use Settled.{OfPhase, gates-double, gates-single, inside-apart, map-take}
-pub use Gates.{NeedsOf, bound, by-feeding, chosenGates, fedAt, gate-listed, gate-out, gatesAt, line-bound, of-gates}
+pub use RefusalRanks.{Fitting, OfPair, double, single}
+pub use PhaseNets.{OfPhase, gates-double, gates-single, inside-apart, map-take}
+pub use ChosenGates.{NeedsOf, bound, by-feeding, chosenGates, fedAt, gate-listed, gate-out, gatesAt, line-bound, of-gates}
 pub use Wires.{at-output, out-label, wire-targets}
-pub use Values.{net-value}
-pub use Formed.{few-at, few-key, needed-driven, well-formed}
-unfoldable pub use Formed.{keyOf}
-pub use Ranges.{no-lower}
-pub use Demanded.{design-fitting, readable, with-timings}
-pub use Refusals.{Refusal, followed-refusal, map-refusal, within-refusal}
-pub use Channels.{promised, two-promised}
+pub use NetValues.{net-value}
+pub use PairsFormed.{few-at, few-key, needed-driven, well-formed}
+unfoldable pub use PairsFormed.{keyOf}
+pub use RangeDemands.{no-lower}
+pub use CallDemands.{design-fitting, readable, with-timings}
+pub use RefusalDemands.{Refusal, followed-refusal, map-refusal, within-refusal}
+pub use ChannelDemands.{promised, two-promised}

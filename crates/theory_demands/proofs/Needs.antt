@@ -3,7 +3,7 @@ use Rattle.base.specs.{ℕ, _≡_, refl, sym, _∙_, ap, ap₂, subst, _⊎_, i
 use Rattle.base.specs.{List, [], _∷_, _++_, reverse, reverse-cons, reverse-reverse, append-assoc, append-nil, List·Memᴰ, List·Memᴰ·head}
 use Rattle.base.specs.{List·Memᴰ·tail, List·Memᴰ·not-nil, List·Memᴰ·cases-cons, List·Memᴰ·eq-of-singleton, List·Memᴰ·append-cases}
 use Rattle.base.specs.{Memᴰ·append-left, Memᴰ·append-right, Memᴰ·cast}
-use Rattle.model.specs.{each, elem, placingOrder, varOf, negated, literal, opposite, cutsOf, feeds, absent, chosen, Needed, output, fed}
+use Rattle.model.specs.{each, elem, topologicalOrder, varOf, negated, literal, opposite, cutsOf, feeds, absent, chosen, Needed, output, fed}
 use Rattle.model.specs.{isInverted, backwards, spread, needed, Distinct}
 use Rattle.model.specs.Graph.{Graph}
 use Rattle.model.specs.declared.Cell.{Cell}
@@ -71,7 +71,7 @@ straight-plain Nothing t = absurd t
 straight-plain (Matched m) t = refl
 straight-plain (Inverted c) t = absurd t
 
-module _ (cells : List Cell) (g : Graph) (once : Distinct (placingOrder g)) where
+module _ (cells : List Cell) (g : Graph) (once : Distinct (topologicalOrder g)) where
   abbrev phase : ℕ → Phase
   phase = chosen cells g
 
@@ -85,7 +85,7 @@ module _ (cells : List Cell) (g : Graph) (once : Distinct (placingOrder g)) wher
       two a b (List·Memᴰ·tail m) = ap varOf (List·Memᴰ·eq-of-singleton m) ∙ lit-var b v
 
   -- a phase without an inverter is fed by no phase of its variable
-  not-fed : (pre : List ℕ) (v : ℕ) (post : List ℕ) → placingOrder g ≡ pre ++ (v ∷ post) → (l k : ℕ) → varOf l ≡ v → varOf k ≡ v
+  not-fed : (pre : List ℕ) (v : ℕ) (post : List ℕ) → topologicalOrder g ≡ pre ++ (v ∷ post) → (l k : ℕ) → varOf l ≡ v → varOf k ≡ v
       → (l ≡ k) ⊎ (isInverted (src cells g once k) ≡ false) → ¬ List·Memᴰ l (feeds cells (cutsOf g) k (src cells g once k))
   unfolding feeds isInverted
   not-fed pre v post e l k p q h = go (src cells g once k) refl h
@@ -113,14 +113,14 @@ module _ (cells : List Cell) (g : Graph) (once : Distinct (placingOrder g)) wher
       go (Inverted c) r t = straight-plain (src cells g once (literal true v))
           (rw (← opposite-plus v) (chosen-fine cells g once (literal false v) (ap absent r) .1 c r))
 
-  top-rows : (rs post : List ℕ) → placingOrder g ≡ reverse rs ++ post → Top cells g phase (each (backwards phase) rs)
+  top-rows : (rs post : List ℕ) → topologicalOrder g ≡ reverse rs ++ post → Top cells g phase (each (backwards phase) rs)
   unfolding each backwards
   top-rows [] post e = tt
   top-rows (v ∷ rs) post e = by-bool (isInverted (phase (literal false v) .source))
       (λ h. rw h (pair false true (second-plain v h) (top-rows rs (v ∷ post) e′)))
       (λ q. rw q (pair true false q (top-rows rs (v ∷ post) e′)))
     where
-      e′ : placingOrder g ≡ reverse rs ++ (v ∷ post)
+      e′ : topologicalOrder g ≡ reverse rs ++ (v ∷ post)
       e′ = e ∙ ap (λ (xs : List ℕ). xs ++ post) (reverse-cons v rs) ∙ append-assoc (reverse rs) (v ∷ []) post
 
       earlier : (l k : ℕ) → varOf l ≡ v → List·Memᴰ k (each (backwards phase) rs) → ¬ List·Memᴰ l (feeds cells (cutsOf g) k (src cells g once k))
@@ -145,19 +145,19 @@ module _ (cells : List Cell) (g : Graph) (once : Distinct (placingOrder g)) wher
   -- the listed phases are needed
   pub listed-needed : (x : ℕ) → List·Memᴰ x (needed cells g phase) → Needed cells g (g .outputs) (src cells g once) x
   unfolding needed
-  listed-needed = spread-needed cells g phase (g .outputs) (each (backwards phase) (reverse (placingOrder g))) (g .outputs) (λ x m. output m)
+  listed-needed = spread-needed cells g phase (g .outputs) (each (backwards phase) (reverse (topologicalOrder g))) (g .outputs) (λ x m. output m)
 
   -- and the needed phases are listed
   pub needed-listed : (x : ℕ) → Needed cells g (g .outputs) (src cells g once) x → List·Memᴰ x (needed cells g phase)
   unfolding needed
-  needed-listed x (output m) = spread-keeps cells g phase (each (backwards phase) (reverse (placingOrder g))) (g .outputs) x m
+  needed-listed x (output m) = spread-keeps cells g phase (each (backwards phase) (reverse (topologicalOrder g))) (g .outputs) x m
   needed-listed x (fed {l = l} n i) =
-      let top = top-rows (reverse (placingOrder g)) []
-      (sym (append-nil (reverse (reverse (placingOrder g))) ∙ reverse-reverse (placingOrder g))) in
-      let not-elem : elem (varOf l) (placingOrder g) ≡ false → ¬ List·Memᴰ (varOf l) (placingOrder g) = λ h m. true≢false
-      (sym (elem-in (varOf l) (placingOrder g) m) ∙ h) in
-      by-bool (elem (varOf l) (placingOrder g)) (λ h. spread-closed cells g phase (each (backwards phase) (reverse (placingOrder g)))
-      (g .outputs) top l (each-in (backwards phase) (reverse-in (placingOrder g) (varOf l) (elem-out (varOf l) (placingOrder g) h))
+      let top = top-rows (reverse (topologicalOrder g)) []
+      (sym (append-nil (reverse (reverse (topologicalOrder g))) ∙ reverse-reverse (topologicalOrder g))) in
+      let not-elem : elem (varOf l) (topologicalOrder g) ≡ false → ¬ List·Memᴰ (varOf l) (topologicalOrder g) = λ h m. true≢false
+      (sym (elem-in (varOf l) (topologicalOrder g) m) ∙ h) in
+      by-bool (elem (varOf l) (topologicalOrder g)) (λ h. spread-closed cells g phase (each (backwards phase) (reverse (topologicalOrder g)))
+      (g .outputs) top l (each-in (backwards phase) (reverse-in (topologicalOrder g) (varOf l) (elem-out (varOf l) (topologicalOrder g) h))
       (unfold backwards in by-bool (isInverted (phase (literal false (varOf l)) .source)) (λ e. rw e (by-bool (negated l)
       (λ q. List·Memᴰ·tail (List·Memᴰ·head (sym (rw q at (lit-whole l))))) (λ p. List·Memᴰ·head (sym (rw p at (lit-whole l)))))) (λ r. rw r
       (by-bool (negated l) (λ z. List·Memᴰ·head (sym (rw z at (lit-whole l))))

@@ -2,19 +2,19 @@
 -- arrivals.
 use Rattle.base.specs.{ℕ, suc, arith, _≡_, refl, sym, _∙_, ap, ap₂, subst, _⊎_, inl, inr, _↔_, Bool, true, false, cond, List, [], _∷_, _++_}
 use Rattle.base.specs.{map, leb, length}
-use Rattle.model.specs.{lowest, unplaced, crowded, absent, chosen, Outcome, refused, mapped, mapGraph, mapPlaced, mapCut, mapChosen}
-use Rattle.model.specs.{printed, uncovered, figuresOf, largest, timedBy, lowOf, timingLines, followed, Call, Design, mapTexts, within}
+use Rattle.model.specs.{lowest, unordered, overLimit, absent, chosen, Outcome, refused, mapped, mapGraph, mapOrdered, mapCut, mapChosen}
+use Rattle.model.specs.{printed, uncovered, figuresOf, largest, timedBy, minArrivalOf, timingLines, followed, Call, Design, mapTexts, within}
 use Rattle.model.specs.{choiceText, choiceFigures, EarliestAt, SameCells, onLibrary, Shuffled, Agree, Shuffles}
 use Rattle.model.specs.Graph.{Graph}
 use Rattle.model.specs.declared.Cell.{Cell}
 use Rattle.model.specs.declared.Phase.{Phase}
 use Rattle.model.specs.declared.Figures.{Figures}
-use Rattle.theory_graph.specs.Accepted.{Accepted}
+use Rattle.theory_graph.specs.AcceptedGraph.{Accepted}
 use Rattle.theory_graph.proofs.{map-same, by-bool, by-list}
 use Rattle.theory_cover.proofs.{choice-earliest, cover-timed, earliest-same, chosen-earliest, earliest-one, absent-same, arrival-same}
 use Rattle.theory_cover.proofs.{pairs-same}
 use Rattle.theory_text.proofs.{holds-once, texts-read, design-accepted, lines-cells, outcome-is, printed-choice, refused-never}
-use Rattle.theory_demands.proofs.Demanded.{nets-chosen}
+use Rattle.theory_demands.proofs.CallDemands.{nets-chosen}
 
 -- ---- the outcome, by what the choice leaves uncovered
 
@@ -28,7 +28,7 @@ uncovered-same p q e k [] = refl
 uncovered-same p q e k (l ∷ ls) = cc (e l, uncovered-same p q e (suc k) ls)
 
 -- 16 and 17 are no matter of what is printed otherwise
-module _ (listed listed′ cells cells′ : List Cell) (r r′ : Bool) (g : Graph) (placed : unplaced g ≡ []) (bytes n k : ℕ) (early : (n ≡ 16) ⊎ (n ≡ 17))
+module _ (listed listed′ cells cells′ : List Cell) (r r′ : Bool) (g : Graph) (ordered : unordered g ≡ []) (bytes n k : ℕ) (early : (n ≡ 16) ⊎ (n ≡ 17))
     (same : uncovered (chosen cells g) 0 (g .outputs) ≡ uncovered (chosen cells′ g) 0 (g .outputs)) where
   abbrev ends : Outcome → Outcome
   ends o = within bytes (followed r cells g o)
@@ -41,16 +41,16 @@ module _ (listed listed′ cells cells′ : List Cell) (r r′ : Bool) (g : Grap
   never q t f = by-bool q (λ p. rw p (go after (leb (length after) bytes))) (λ e. rw e (go t (leb (length t) bytes)))
     where
       after : List ℕ
-      after = t ++ timingLines (lowOf cells g) (λ (l : ℕ). chosen cells g l .arrival) 0 (g .outputs)
+      after = t ++ timingLines (minArrivalOf cells g) (λ (l : ℕ). chosen cells g l .arrival) 0 (g .outputs)
 
       go : (u : List ℕ) (b : Bool) → ¬ (cond b (mapped u f) (refused 18 (length u)) ≡ refused n k)
       go u true e = refused-never (sym e)
       go u false e = elim early [ inl a ↦ omega (arith, sym (ap numberOf e)) | inr b ↦ omega (arith, sym (ap numberOf e)) ]
 
   refused-on : ends (mapGraph listed cells g) ≡ refused n k → ends′ (mapGraph listed′ cells′ g) ≡ refused n k
-  unfolding mapGraph mapPlaced mapCut mapChosen printed chosen lowest within followed
-  refused-on e = ap (λ (us : List ℕ). ends′ (mapPlaced listed′ cells′ g (lowest us))) placed
-      ∙ by-list (crowded g) (λ c. cc (outs (uncovered (chosen cells′ g) 0 (g .outputs)) (cc (same, placed)))) (λ v vs q. cc)
+  unfolding mapGraph mapOrdered mapCut mapChosen printed chosen lowest within followed
+  refused-on e = ap (λ (us : List ℕ). ends′ (mapOrdered listed′ cells′ g (lowest us))) ordered
+      ∙ by-list (overLimit g) (λ c. cc (outs (uncovered (chosen cells′ g) 0 (g .outputs)) (cc (same, ordered)))) (λ v vs q. cc)
     where
       outs : (us : List ℕ) → ends (printed listed cells g (chosen cells g) us) ≡ refused n k → ends′ (printed listed′ cells′ g (chosen cells′ g) us) ≡ refused n k
       outs [] h = absurd (never r (choiceText listed cells g) (choiceFigures listed cells g) h)
@@ -63,7 +63,7 @@ module _ (c : Call) (library : List ℕ) (d d′ : Design) (s : Shuffled c libra
   graphs =
       let a = texts-read c d (s .design) in
       let b = texts-read (onLibrary c library) d′ (s .design′) in
-      sym (a .isTimed) ∙ ap₂ timedBy (holds-once (cc (a .isGraph, b .isGraph))) (holds-once (cc (a .isLate, b .isLate))) ∙ b .isTimed
+      sym (a .isTimed) ∙ ap₂ timedBy (holds-once (cc (a .isGraph, b .isGraph))) (holds-once (cc (a .isInputArrival, b .isInputArrival))) ∙ b .isTimed
 
   -- "Where pairs are formed, both libraries form theirs"
   cells : SameCells (d .cells) (d′ .cells)
@@ -72,7 +72,7 @@ module _ (c : Call) (library : List ℕ) (d d′ : Design) (s : Shuffled c libra
       (texts-read c d (s .design) .isLibrary) (texts-read (onLibrary c library) d′ (s .design′) .isLibrary) (s .lines))))
 
   ok : Accepted (d .graph)
-  ok = design-accepted c d (s .design) (s .placed)
+  ok = design-accepted c d (s .design) (s .ordered)
 
   open-same : uncovered (chosen (d .cells) (d .graph)) 0 (d .graph .outputs) ≡ uncovered (chosen (d′ .cells) (d .graph)) 0 (d .graph .outputs)
   open-same = uncovered-same (chosen (d .cells) (d .graph)) (chosen (d′ .cells) (d .graph)) (absent-same (d .cells) (d′ .cells) (d .graph) ok cells) 0 (d .graph .outputs)
@@ -88,8 +88,8 @@ module _ (c : Call) (library : List ℕ) (d d′ : Design) (s : Shuffled c libra
 
   refusals : (n : ℕ) → (n ≡ 16) ⊎ (n ≡ 17) → (k : ℕ) → (mapTexts c ≡ refused n k) ↔ (mapTexts (onLibrary c library) ≡ refused n k)
   refusals n early k = (
-    (λ e. is′ ∙ refused-on (d .listed) (d′ .listed) (d .cells) (d′ .cells) (d .ranged) (d′ .ranged) (d .graph) (s .placed) (c .bytes) n k early open-same (sym is ∙ e)),
-    (λ e. is ∙ refused-on (d′ .listed) (d .listed) (d′ .cells) (d .cells) (d′ .ranged) (d .ranged) (d .graph) (s .placed) (c .bytes) n k early (sym open-same) (sym is′ ∙ e)),
+    (λ e. is′ ∙ refused-on (d .listed) (d′ .listed) (d .cells) (d′ .cells) (d .ranged) (d′ .ranged) (d .graph) (s .ordered) (c .bytes) n k early open-same (sym is ∙ e)),
+    (λ e. is ∙ refused-on (d′ .listed) (d .listed) (d′ .cells) (d .cells) (d′ .ranged) (d .ranged) (d .graph) (s .ordered) (c .bytes) n k early (sym open-same) (sym is′ ∙ e)),
   )
 
   -- a phase that both choose a source for arrives at the same time in both

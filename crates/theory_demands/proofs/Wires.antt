@@ -5,7 +5,7 @@ use Rattle.base.specs.{List·Memᴰ·head, List·Memᴰ·tail, eqb, length, get
 use Rattle.model.specs.{from, below, asDigits, decimal, negated, varOf, Net, ofPhase, ofPair, netName, label, outName, Wire}
 use Rattle.theory_graph.proofs.{map-map, map-same, getD-in, by-bool}
 use Rattle.theory_text.proofs.{wiresFrom, decimal-value}
-use Rattle.theory_demands.proofs.Gates.{byName, by-name}
+use Rattle.theory_demands.proofs.ChosenGates.{byName, by-name}
 
 -- ---- names
 

@@ -128,7 +128,7 @@ body-fields g t = fields-word (g .name) _ (name-free 32 (g .name) (lit< tt) t) �
     (fields-numbers (decimal (g .area)) (decimal-free 32 (g .area) (lit< tt)) (g .delays))))
 
 cell-four : (g : Gate) → T (isName (g .name)) → GateFits g → (d0 d1 d2 d3 : ℕ) → g .delays ≡ d0 ∷ d1 ∷ d2 ∷ d3 ∷ [] → cellOfFields false (g .name ∷ decimal (g .pins) ∷ hexText (g .table) ∷ map decimal (g .area ∷ d0 ∷ d1 ∷ d2 ∷ d3 ∷ []))
-    ≡ some (record { name = nameBytes (g .name); len = length (g .name); pins = g .pins; table = g .table; area = g .area; delays = d0 ∷ d1 ∷ d2 ∷ d3 ∷ []; lows = d0 ∷ d1 ∷ d2 ∷ d3 ∷ [] })
+    ≡ some (record { name = nameBytes (g .name); len = length (g .name); pins = g .pins; table = g .table; area = g .area; delays = d0 ∷ d1 ∷ d2 ∷ d3 ∷ []; mins = d0 ∷ d1 ∷ d2 ∷ d3 ∷ [] })
 unfolding cellOfFields andThen only all
 cell-four g t f d0 d1 d2 d3 e =
     ap (λ (b : Bool). andThen (only b ws) (λ _. andThen (numbers (map decimal (g .pins ∷ g .area ∷ d0 ∷ d1 ∷ d2 ∷ d3 ∷ [])))
@@ -146,7 +146,7 @@ cell-four g t f d0 d1 d2 d3 e =
 
     made : List ℕ → ℕ → Cell
     made ns table =
-        record { name = nameBytes (g .name); len = length (g .name); pins = getD ns 0 0; table = table; area = getD ns 1 0; delays = take 4 (drop 2 ns); lows = drop 2 ns }
+        record { name = nameBytes (g .name); len = length (g .name); pins = getD ns 0 0; table = table; area = getD ns 1 0; delays = take 4 (drop 2 ns); mins = drop 2 ns }
 
 four-are : (ds : List ℕ) → length ds ≡ 4 → (d0 : ℕ) × (d1 : ℕ) × (d2 : ℕ) × (d3 : ℕ) × (ds ≡ d0 ∷ d1 ∷ d2 ∷ d3 ∷ [])
 four-are [] e = absurd (omega arith)
@@ -170,7 +170,7 @@ cell-clean g f =
     is-true (ltb (g .table) (2 ^ 2 ^ g .pins) && (absent && absent))
     (yes-and (ltb (g .table) (2 ^ 2 ^ g .pins)) (absent && absent) (yes-ltb (f .table)) (yes-and absent absent (f .absent) (f .absent)))
 
-cell-range : (g : Gate) → noLower (cellOfGate g .lows) (cellOfGate g .delays) ≡ true
+cell-range : (g : Gate) → noLower (cellOfGate g .mins) (cellOfGate g .delays) ≡ true
 unfolding cellOfGate
 cell-range g = none-lower (g .delays)
 
@@ -199,7 +199,7 @@ lines-back k at before (g ∷ gs) few fit named once new =
     let f = fit g (List·Memᴰ·head refl) in
     let onward : Cell → Read (List Cell) = λ c. next
     (readCells false (suc k) (c ∷ before) (linesFrom (at + suc (length (gateBody g))) [] (each gateText gs))) (λ cs. holds (c ∷ cs)) in
-    let range : Cell → Read (List Cell) = λ c. unless (noLower (c .lows) (c .delays)) 27 at (onward c) in
+    let range : Cell → Read (List Cell) = λ c. unless (noLower (c .mins) (c .delays)) 27 at (onward c) in
     let rest : Cell → Read (List Cell) = λ c. unless (not (any (λ (d : Cell). same (nameOf c) (nameOf d)) before)) 5 at
     (unless (isClean c) 6 at (range c)) in
     ap (readCells false k before) (gate-first at g (each gateText gs) t)

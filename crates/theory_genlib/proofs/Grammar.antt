@@ -2,13 +2,13 @@
 --     sum-means           the tokens that are taken are a sum, and what is left stands behind them
 use Rattle.base.specs.{ℕ, zero, suc, _≡_, refl, sym, _∙_, ap, subst, Bool, true, false, not, cond, _&&_, _||_, none, some, List, [], _∷_}
 use Rattle.base.specs.{_++_, append-assoc, drop}
-use Rattle.model.specs.{andThen, flip, isSign, isWord, Taken, turns, begins, chain, quoted, closeBracket, atom, factorOf, productOf, sumOf}
+use Rattle.model.specs.{andThen, flip, isSign, isWord, Taken, negatedBySigns, begins, chain, quoted, closeBracket, atom, factorOf, productOf, sumOf}
 use Rattle.model.specs.{Part, product, factor, Means}
 use Rattle.model.specs.GenlibFormula.{named, within}
 use Rattle.model.specs.GenlibDemands.{sum}
-use Rattle.model.specs.GenlibDemands.Means.{bracketed, turned, primed, times, plus, alone, named as name, one}
+use Rattle.model.specs.GenlibDemands.Means.{bracketed, signNegated, primed, times, plus, alone, named as name, one}
 use Rattle.theory_graph.proofs.{by-bool}
-use Rattle.theory_genlib.proofs.Forms.{begins-is, none-some, some-once}
+use Rattle.theory_genlib.proofs.FormulaShapes.{begins-is, none-some, some-once}
 
 -- a part of this value stands before what is left
 pub record Before (value : List ℕ → Bool) (p : Part) (ts : List (List ℕ)) (r : Bool × List (List ℕ)) : Type 0 where
@@ -33,24 +33,24 @@ flip-twice false x = refl
 
 module _ (value : List ℕ → Bool) where
   -- the `!` before a factor
-  record Turns (v : Bool) (ts : List (List ℕ)) : Type 0 where
+  record Signs (v : Bool) (ts : List (List ℕ)) : Type 0 where
     signs : List (List ℕ)
-    isAll : ts ≡ signs ++ turns 33 v ts .1
-    means : (us : List (List ℕ)) (x : Bool) → Means value factor us x → Means value factor (signs ++ us) (flip v (flip (turns 33 v ts .0) x))
+    isAll : ts ≡ signs ++ negatedBySigns 33 v ts .1
+    means : (us : List (List ℕ)) (x : Bool) → Means value factor us x → Means value factor (signs ++ us) (flip v (flip (negatedBySigns 33 v ts .0) x))
 
-  bangs : (v : Bool) (ts : List (List ℕ)) → Turns v ts
-  unfolding turns
+  bangs : (v : Bool) (ts : List (List ℕ)) → Signs v ts
+  unfolding negatedBySigns
   bangs v [] = record { signs = []; isAll = refl; means = λ us x m. subst (λ (y : Bool). Means value factor us y) (sym (flip-twice v x)) m }
-  bangs v (t ∷ ts) = by-bool (isSign 33 t) (λ e. unfold turns in let here : turns 33 v (t ∷ ts) ≡ turns 33 (not v) ts = ap
-      (λ (b : Bool). cond b (turns 33 (not v) ts) (v, t ∷ ts)) e in record {
+  bangs v (t ∷ ts) = by-bool (isSign 33 t) (λ e. unfold negatedBySigns in let here : negatedBySigns 33 v (t ∷ ts) ≡ negatedBySigns 33 (not v) ts = ap
+      (λ (b : Bool). cond b (negatedBySigns 33 (not v) ts) (v, t ∷ ts)) e in record {
         signs = t ∷ (bangs (not v) ts) .signs;
         isAll = ap (λ (us : List (List ℕ)). t ∷ us) (bangs (not v) ts .isAll)
             ∙ ap (λ (q : Bool × List (List ℕ)). t ∷ (bangs (not v) ts) .signs ++ q .1) (sym here);
         means = λ us x m. subst (λ (y : Bool). Means value factor (t ∷ (bangs (not v) ts) .signs ++ us) y)
-            (flip-not v (flip (turns 33 (not v) ts .0) x) ∙ ap (λ (q : Bool × List (List ℕ)). flip v (flip (q .0) x)) (sym here))
-            (turned t e (bangs (not v) ts .means us x m));
-      }) (λ q. unfold turns in let here : turns 33 v (t ∷ ts) ≡ (v, t ∷ ts) = ap
-      (λ (b : Bool). cond b (turns 33 (not v) ts) (v, t ∷ ts)) q in record {
+            (flip-not v (flip (negatedBySigns 33 (not v) ts .0) x) ∙ ap (λ (q : Bool × List (List ℕ)). flip v (flip (q .0) x)) (sym here))
+            (signNegated t e (bangs (not v) ts .means us x m));
+      }) (λ q. unfold negatedBySigns in let here : negatedBySigns 33 v (t ∷ ts) ≡ (v, t ∷ ts) = ap
+      (λ (b : Bool). cond b (negatedBySigns 33 (not v) ts) (v, t ∷ ts)) q in record {
         signs = [];
         isAll = ap (λ (q : Bool × List (List ℕ)). q .1) (sym here);
         means = λ us x m. subst (λ (y : Bool). Means value factor us y)
@@ -58,8 +58,8 @@ module _ (value : List ℕ → Bool) where
       })
 
   -- the `'` behind one
-  quotes : (us : List (List ℕ)) (v : Bool) (ts : List (List ℕ)) → Means value factor us v → Before value factor (us ++ ts) (turns 39 v ts)
-  unfolding turns
+  quotes : (us : List (List ℕ)) (v : Bool) (ts : List (List ℕ)) → Means value factor us v → Before value factor (us ++ ts) (negatedBySigns 39 v ts)
+  unfolding negatedBySigns
   quotes us v [] m = record { tokens = us; isAll = refl; means = m }
   quotes us v (t ∷ ts) m = by-bool (isSign 39 t) (λ e. rw e (let b = (quotes (us ++ (t ∷ [])) (not v) ts) (primed t m e) in
       record { tokens = b .tokens; isAll = sym (append-assoc us (t ∷ []) ts) ∙ b .isAll; means = b .means }))
@@ -118,28 +118,28 @@ module _ (value : List ℕ → Bool) where
 
   module _ (inside : List (List ℕ) → Taken) (sound : Sound value sum inside) where
     -- a factor, with its `!` before it
-    atom-sound : (v : Bool) (ts : List (List ℕ)) (r : Bool × List (List ℕ)) → atom value inside (turns 33 false ts .0) (turns 33 false ts .1) ≡ some r → Before value factor ts r
+    atom-sound : (v : Bool) (ts : List (List ℕ)) (r : Bool × List (List ℕ)) → atom value inside (negatedBySigns 33 false ts .0) (negatedBySigns 33 false ts .1) ≡ some r → Before value factor ts r
     unfolding atom
     atom-sound v ts r e = go (begins 40 us) refl e
       where
         odd : Bool
-        odd = turns 33 false ts .0
+        odd = negatedBySigns 33 false ts .0
 
         us : List (List ℕ)
-        us = turns 33 false ts .1
+        us = negatedBySigns 33 false ts .1
 
-        w : Turns false ts
+        w : Signs false ts
         w = bangs false ts
 
         -- what is taken behind the `!`, and the `'` behind it
-        whole : (xs : List (List ℕ)) (x : Bool) (rest : List (List ℕ)) → us ≡ xs ++ rest → Means value factor xs x → some (turns 39 (flip odd x) rest) ≡ some r → Before value factor ts r
+        whole : (xs : List (List ℕ)) (x : Bool) (rest : List (List ℕ)) → us ≡ xs ++ rest → Means value factor xs x → some (negatedBySigns 39 (flip odd x) rest) ≡ some r → Before value factor ts r
         whole xs x rest a m k =
             let b = quotes (w .signs ++ xs) (flip odd x) rest (unfold flip in w .means xs x m) in
             subst (λ (o : Bool × List (List ℕ)). Before value factor ts o) (some-once k)
             (record { tokens = b .tokens; isAll = w .isAll ∙ ap (λ (vs : List (List ℕ)). w .signs ++ vs) a ∙ sym (append-assoc (w .signs) xs rest) ∙ b .isAll; means = b .means })
 
         close : (q : Bool × List (List ℕ)) → inside (drop 1 us) ≡ some q → (t : List ℕ) → isSign 40 t ≡ true → us ≡ t ∷ drop 1 us → (c : Bool) → begins 41 (q .1) ≡ c
-            → cond c (some (turns 39 (flip odd (q .0)) (drop 1 (q .1)))) none ≡ some r → Before value factor ts r
+            → cond c (some (negatedBySigns 39 (flip odd (q .0)) (drop 1 (q .1)))) none ≡ some r → Before value factor ts r
         close q i t s a true g k =
             let h = sound (drop 1 us) q i in
             let y = begins-is 41 (q .1) g in

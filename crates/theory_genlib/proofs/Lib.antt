@@ -1,11 +1,11 @@
-pub mod Forms
+pub mod FormulaShapes
 pub mod Grammar
-pub mod Once
-pub mod Tokens
+pub mod UniqueMeaning
+pub mod TokenLaws
 pub mod CellsBack
-pub mod Gates
-pub mod Demanded
-pub use Forms.{none-some, some-once, word-sign}
-pub use Once.{value-formed, value-once}
-pub use Tokens.{drop-in, sign-alone}
-pub use Demanded.{demand-genlib, formed-value, group-short, group-value}
+pub mod GateText
+pub mod GenlibDemandLaws
+pub use FormulaShapes.{none-some, some-once, word-sign}
+pub use UniqueMeaning.{value-formed, value-once}
+pub use TokenLaws.{drop-in, sign-alone}
+pub use GenlibDemandLaws.{demand-genlib, formed-value, group-short, group-value}

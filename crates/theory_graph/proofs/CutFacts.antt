@@ -1,15 +1,15 @@
--- The cuts of a variable: each cuts it off, and the leaves of one that is not the variable alone are placed before it.
+-- The cuts of a variable: each cuts it off, and the leaves of one that is not the variable alone are ordered before it.
 use Rattle.base.specs.{ℕ, zero, suc, _+_, _≤_, compare, le-refl, le-of-suc-le-suc, not-suc-le-zero, suc-add, add-suc, arith, _≡_, refl, sym}
 use Rattle.base.specs.{_∙_, subst, _⊎_, inl, inr, ⊎-elim, Bool, List, [], _∷_, _++_, map, append-nil, List·Memᴰ, List·Memᴰ·head}
 use Rattle.base.specs.{List·Memᴰ·tail, List·Memᴰ·not-nil, List·Memᴰ·cases-cons, List·Memᴰ·eq-of-singleton, leb, length, length-append}
-use Rattle.model.specs.{find, run, union, keep, each, lowest, And, Node, constant, input, undefined, both, node, placingOrder, varOf, andOn}
-use Rattle.model.specs.{placeF, ready, compareCuts, unions, nodeCuts, cutLists, cutsOf, walk, Distinct}
+use Rattle.model.specs.{find, run, union, keep, each, lowest, And, Node, constant, input, undefined, both, node, topologicalOrder, varOf, andOn}
+use Rattle.model.specs.{orderFrom, ready, compareCuts, unions, nodeCuts, cutLists, cutsOf, walk, Distinct}
 use Rattle.model.specs.Graph.{Graph, span}
 use Rattle.theory_graph.proofs.Sets.{union-left, union-right, union-only}
-use Rattle.theory_graph.proofs.Lists.{map-out, each-out, keep-out}
-use Rattle.theory_graph.proofs.Runs.{no-twice-behind, run-stays, run-entry, run-split, run-keeps, find-cons}
-use Rattle.theory_graph.proofs.Walk.{Valuation, Carry, Under, leaf, nought, and, walk-value}
-use Rattle.theory_graph.proofs.Split.{by-option}
+use Rattle.theory_graph.proofs.ListLaws.{map-out, each-out, keep-out}
+use Rattle.theory_graph.proofs.OrderRuns.{no-twice-behind, run-stays, run-entry, run-split, run-keeps, find-cons}
+use Rattle.theory_graph.proofs.GraphWalk.{Valuation, Carry, Under, leaf, nought, and, walk-value}
+use Rattle.theory_graph.proofs.ListSplits.{by-option}
 
 -- where the native comparison finds no difference there is none
 pub compare-found : (x y : ℕ) → compare x y ≡ Prim.Native.Nat.Ordering·eq → x ≡ y
@@ -64,7 +64,7 @@ module _ (g : Graph) where
   abbrev pub cutStep : List (ℕ × List (List ℕ)) → ℕ → List (List ℕ)
   cutStep known v = nodeCuts (λ u. find [] u known) v (node g v)
 
-  -- no leaf that is known is still to be placed
+  -- no leaf that is known is still to be ordered
   Leaves : List (ℕ × List (List ℕ)) → List ℕ → Type 0
   Leaves known vs = (u : ℕ) (c : List ℕ) (x : ℕ) → List·Memᴰ c (find [] u known) → List·Memᴰ x c → ¬ List·Memᴰ x vs
 
@@ -83,7 +83,7 @@ module _ (g : Graph) where
   cutsKnown pre = run cutStep pre []
 
   -- the cuts of a variable are its step's
-  pub cuts-entry : (pre : List ℕ) (v : ℕ) (post : List ℕ) → placingOrder g ≡ pre ++ (v ∷ post) → Distinct (placingOrder g)
+  pub cuts-entry : (pre : List ℕ) (v : ℕ) (post : List ℕ) → topologicalOrder g ≡ pre ++ (v ∷ post) → Distinct (topologicalOrder g)
       → cutsOf g v ≡ nodeCuts (λ u. find [] u (cutsKnown pre)) v (node g v)
   unfolding cutsOf cutLists
   cuts-entry pre v post e once = cc (
@@ -92,24 +92,24 @@ module _ (g : Graph) where
         (no-twice-behind pre (v ∷ post) (rw (← e) once) .0),
   )
 
-  -- what is never placed has no cuts
-  pub cuts-none : (v : ℕ) → ¬ List·Memᴰ v (placingOrder g) → cutsOf g v ≡ []
+  -- what is never ordered has no cuts
+  pub cuts-none : (v : ℕ) → ¬ List·Memᴰ v (topologicalOrder g) → cutsOf g v ≡ []
   unfolding cutsOf cutLists
-  cuts-none v h = run-stays [] cutStep (placingOrder g) [] v h
+  cuts-none v h = run-stays [] cutStep (topologicalOrder g) [] v h
 
-  leaves-so-far : (pre vs : List ℕ) → placingOrder g ≡ pre ++ vs → Distinct (placingOrder g) → Leaves (cutsKnown pre) vs
+  leaves-so-far : (pre vs : List ℕ) → topologicalOrder g ≡ pre ++ vs → Distinct (topologicalOrder g) → Leaves (cutsKnown pre) vs
   unfolding Leaves find
   leaves-so-far pre vs e once = run-keeps [] cutStep Leaves leaves-next pre vs [] (subst Distinct e once) (λ u d y p q. absurd (List·Memᴰ·not-nil p))
 
-  -- what is placed before a variable has only leaves that are
-  pub leaves-closed : (pre vs : List ℕ) → placingOrder g ≡ pre ++ vs → Distinct (placingOrder g) → (u : ℕ) → ¬ List·Memᴰ u vs
+  -- what is ordered before a variable has only leaves that are
+  pub leaves-closed : (pre vs : List ℕ) → topologicalOrder g ≡ pre ++ vs → Distinct (topologicalOrder g) → (u : ℕ) → ¬ List·Memᴰ u vs
       → (c : List ℕ) → List·Memᴰ c (cutsOf g u) → (x : ℕ) → List·Memᴰ x c → ¬ List·Memᴰ x vs
   unfolding cutsOf cutLists Leaves
   leaves-closed pre vs e once u h c m x n = leaves-so-far pre vs e once u c x (subst (λ (cs : List (List ℕ)). List·Memᴰ c cs)
       (cc (run-split [] cutStep pre vs [], run-stays [] cutStep vs (cutsKnown pre) u h)) m) n
 
-  -- "a cut other than the variable alone" has only leaves that are placed before the variable
-  pub leaves-before : (pre : List ℕ) (v : ℕ) (post : List ℕ) → placingOrder g ≡ pre ++ (v ∷ post) → Distinct (placingOrder g)
+  -- "a cut other than the variable alone" has only leaves that are ordered before the variable
+  pub leaves-before : (pre : List ℕ) (v : ℕ) (post : List ℕ) → topologicalOrder g ≡ pre ++ (v ∷ post) → Distinct (topologicalOrder g)
       → (c : List ℕ) → List·Memᴰ c (cutsOf g v) → ¬ (c ≡ v ∷ []) → (x : ℕ) → List·Memᴰ x c → ¬ List·Memᴰ x (v ∷ post)
   unfolding Leaves
   leaves-before pre v post e once c m alone x n =
@@ -143,15 +143,15 @@ unfolding run
 length-run step [] known = omega arith
 length-run step (v ∷ vs) known = length-run step vs ((v, step known v) ∷ known) ∙ add-suc (length vs) (length known) ∙ sym (suc-add (length vs) (length known))
 
-length-placeF : (fuel : ℕ) (ands : List And) (placed : List ℕ) → length (placeF fuel ands placed) ≤ fuel
-unfolding placeF andOn
-length-placeF zero ands placed = le-refl 0
-length-placeF (suc fuel) ands placed = by-option (lowest (map (λ (a : And). a .var) (keep (ready placed) ands))) (λ e. rw e (omega arith))
-    (λ q p. rw p (Prim.Native.Nat.suc-le-suc (length-placeF fuel ands (q ∷ placed))))
+length-placeF : (fuel : ℕ) (ands : List And) (ordered : List ℕ) → length (orderFrom fuel ands ordered) ≤ fuel
+unfolding orderFrom andOn
+length-placeF zero ands ordered = le-refl 0
+length-placeF (suc fuel) ands ordered = by-option (lowest (map (λ (a : And). a .var) (keep (ready ordered) ands))) (λ e. rw e (omega arith))
+    (λ q p. rw p (Prim.Native.Nat.suc-le-suc (length-placeF fuel ands (q ∷ ordered))))
 
-pub length-order : (g : Graph) → length (placingOrder g) ≤ span g
-unfolding placingOrder span
-length-order g = omega (arith, length-append (g .inputs) (placeF (length (g .ands)) (g .ands) (0 ∷ g .inputs)), length-placeF (length (g .ands)) (g .ands) (0 ∷ g .inputs))
+pub length-order : (g : Graph) → length (topologicalOrder g) ≤ span g
+unfolding topologicalOrder span
+length-order g = omega (arith, length-append (g .inputs) (orderFrom (length (g .ands)) (g .ands) (0 ∷ g .inputs)), length-placeF (length (g .ands)) (g .ands) (0 ∷ g .inputs))
 
 under-le : {g : Graph} {leaves : List ℕ} {n v : ℕ} (m : ℕ) → n ≤ m → Under g leaves n v → Under g leaves m v
 under-le zero h (leaf i) = absurd (not-suc-le-zero h)
@@ -162,14 +162,14 @@ under-le (suc m) h (nought e) = nought e
 under-le (suc m) h (and e a b) = and e (under-le m (le-of-suc-le-suc h) a) (under-le m (le-of-suc-le-suc h) b)
 
 -- every cut of a variable cuts it off, within the walk's count
-pub cut-under : (g : Graph) → Distinct (placingOrder g) → (v : ℕ) (c : List ℕ) → List·Memᴰ c (cutsOf g v) → Under g c (span g) v
+pub cut-under : (g : Graph) → Distinct (topologicalOrder g) → (v : ℕ) (c : List ℕ) → List·Memᴰ c (cutsOf g v) → Under g c (span g) v
 unfolding cutsOf cutLists Cutting
 cut-under g once v c m =
-    let all-cut = run-keeps [] (cutStep g) (Cutting g) (cutting-next g) (placingOrder g) [] []
-    (subst Distinct (sym (append-nil (placingOrder g))) once) (λ u d p. absurd (List·Memᴰ·not-nil p)) in
-    under-le (span g) (omega (arith, length-order g, length-run (cutStep g) (placingOrder g) [])) (all-cut v c m c (λ x n. n))
+    let all-cut = run-keeps [] (cutStep g) (Cutting g) (cutting-next g) (topologicalOrder g) [] []
+    (subst Distinct (sym (append-nil (topologicalOrder g))) once) (λ u d p. absurd (List·Memᴰ·not-nil p)) in
+    under-le (span g) (omega (arith, length-order g, length-run (cutStep g) (topologicalOrder g) [])) (all-cut v c m c (λ x n. n))
 
 -- "A cut's function" in the row that the leaves carry is the AIGER value of the variable
-pub cut-value : (g : Graph) → Distinct (placingOrder g) → (setting w : ℕ → Bool) → Valuation g setting w → (v : ℕ) (c : List ℕ) → List·Memᴰ c (cutsOf g v)
+pub cut-value : (g : Graph) → Distinct (topologicalOrder g) → (assignment w : ℕ → Bool) → Valuation g assignment w → (v : ℕ) (c : List ℕ) → List·Memᴰ c (cutsOf g v)
     → (r : ℕ) → Carry w r 0 c → walk (span g) g c r v ≡ w v
-cut-value g once setting w isValue v c m r carry = walk-value g setting w isValue c r carry (span g) v (cut-under g once v c m)
+cut-value g once assignment w isValue v c m r carry = walk-value g assignment w isValue c r carry (span g) v (cut-under g once v c m)

@@ -2,8 +2,8 @@
 use Rattle.base.specs.{ℕ, zero, suc, _≤_, le-refl, le-of-eq, arith, _≡_, refl, sym, ap, ⊎-elim, Bool, List, [], _∷_, _++_, map, List·Memᴰ}
 use Rattle.base.specs.{List·Memᴰ·head, List·Memᴰ·tail, List·Memᴰ·not-nil, List·Memᴰ·append-cases, Memᴰ·append-left, Memᴰ·cast, length}
 use Rattle.model.specs.{keep, from, below, Distinct}
-use Rattle.theory_graph.proofs.Lists.{map-out, keep-out}
-use Rattle.theory_graph.proofs.Split.{by-bool}
+use Rattle.theory_graph.proofs.ListLaws.{map-out, keep-out}
+use Rattle.theory_graph.proofs.ListSplits.{by-bool}
 
 pub map-distinct : {A B : Type 0} (f : A → B) (xs : List A) → ((x y : A) → f x ≡ f y → x ≡ y) → Distinct xs → Distinct (map f xs)
 map-distinct f [] once d = tt

@@ -1,3 +1,3 @@
--- `Accepted`: a graph and a library free of the refusals that their texts can bring.
-pub mod Accepted
-unfoldable pub use Accepted.{cellFits, distinct, libraryFits}
+-- `AcceptedGraph`: a graph and a library free of the refusals that their texts can bring.
+pub mod AcceptedGraph
+unfoldable pub use AcceptedGraph.{cellFits, distinct, libraryFits}

@@ -1,1 +1,1 @@
-// Laws of the graph, its placing order, its cuts and their functions; no code.
+// Laws of the graph, its topological order, its cuts and their functions; no code.

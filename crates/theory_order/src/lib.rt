@@ -1,1 +1,1 @@
-// Laws of the placing order and of the cut recursion, each against a statement apart from its definition; no code.
+// Laws of the topological order and of the cut recursion, each against a statement apart from its definition; no code.

@@ -4,16 +4,16 @@ use Rattle.base.specs.{ℕ, _+_, _≤_, _<_, arith, _≡_, refl, sym, _∙_, ap
 use Rattle.base.specs.{false≢true, _&&_, Option, none, some, List, [], _∷_, _++_, map, append-nil, append-assoc, nil≢cons, List·Memᴰ}
 use Rattle.base.specs.{List·Memᴰ·head, List·Memᴰ·tail, List·Memᴰ·not-nil, T, ltb, length, getD, length-append, and-yes, yes-and, and-no}
 use Rattle.base.specs.{ltb-yes, ltb-no, T-not-not}
-use Rattle.model.specs.{all, elem, same, andThen, only, Line, ended, text, linesFrom, Read, holds, fault, next, unless, from?, Late}
-use Rattle.model.specs.{lateNumbers, readLate, readLateLines, readArrivals}
-use Rattle.promises.specs.{Begins, NumberLine, Title, title, TitleLine, Exactly, LatesIn, noLate, aLate, LateFault, twentyFive, twentySix}
-use Rattle.promises.specs.{ArrivalsFault, noTitle, atLate, ArrivalsHold}
+use Rattle.model.specs.{all, elem, same, andThen, only, Line, ended, text, linesFrom, Read, holds, fault, next, unless, from?, InputArrival}
+use Rattle.model.specs.{inputArrivalNumbers, readInputArrivals, readInputArrivalLines, readArrivals}
+use Rattle.promises.specs.{Begins, NumberLine, Title, title, TitleLine, Exactly, LatesIn, noInputArrival, aInputArrival, InputArrivalFault, twentyFive, twentySix}
+use Rattle.promises.specs.{ArrivalsFault, noTitle, atInputArrival, ArrivalsHold}
 use Rattle.theory_graph.proofs.{same-eq, is-true, is-false, elem-in, elem-out, by-bool, by-option, by-list}
 use Rattle.theory_text.proofs.{then-out, only-out, Free, no-lines}
-use Rattle.theory_refusals.proofs.LineForms.{Reads, reads-line, first-split, lines-none, free-above, found-begins, begins-read}
-use Rattle.theory_refusals.proofs.Results.{Result, held, refused, exactly, unless-yes, unless-no, on, next-holds, next-fault}
-use Rattle.theory_refusals.proofs.Results.{next-next, next-same, result-next, result-map, result-as}
-use Rattle.theory_refusals.proofs.NumberLines.{reads-late}
+use Rattle.theory_refusals.proofs.LineFormLaws.{Reads, reads-line, first-split, lines-none, free-above, found-begins, begins-read}
+use Rattle.theory_refusals.proofs.ReadResults.{Result, held, refused, exactly, unless-yes, unless-no, on, next-holds, next-fault}
+use Rattle.theory_refusals.proofs.ReadResults.{next-next, next-same, result-next, result-map, result-as}
+use Rattle.theory_refusals.proofs.NumberLines.{reads-input-arrival}
 
 -- ---- the first line
 
@@ -56,37 +56,37 @@ is-title l t =
 
 -- ---- 26
 
-abbrev indexes : List Late → List ℕ
-indexes es = map (λ (e : Late). e .index) es
+abbrev indexes : List InputArrival → List ℕ
+indexes es = map (λ (e : InputArrival). e .index) es
 
-abbrev Known : List ℕ → List Late → Type 0
+abbrev Known : List ℕ → List InputArrival → Type 0
 Known before es = (v : ℕ) → List·Memᴰ v before ↔ List·Memᴰ v (indexes es)
 
 abbrev isGood : ℕ → List ℕ → ℕ → Bool
 isGood inputs before index = ltb index inputs && not (elem index before)
 
-good-form : (inputs : ℕ) (before : List ℕ) (es : List Late) (index : ℕ) → Known before es → T (isGood inputs before index) → (index < inputs) × (¬ List·Memᴰ index (indexes es))
+good-form : (inputs : ℕ) (before : List ℕ) (es : List InputArrival) (index : ℕ) → Known before es → T (isGood inputs before index) → (index < inputs) × (¬ List·Memᴰ index (indexes es))
 good-form inputs before es index known t =
     let p = and-yes (ltb index inputs) (not (elem index before)) t in
     (ltb-yes (p .0), λ m. false≢true (sym (is-false (elem index before) (p .1)) ∙ elem-in index before (known index .1 m)))
 
-good-back : (inputs : ℕ) (before : List ℕ) (es : List Late) (index : ℕ) → Known before es → T (not (isGood inputs before index)) → (inputs ≤ index) ⊎ List·Memᴰ index (indexes es)
+good-back : (inputs : ℕ) (before : List ℕ) (es : List InputArrival) (index : ℕ) → Known before es → T (not (isGood inputs before index)) → (inputs ≤ index) ⊎ List·Memᴰ index (indexes es)
 good-back inputs before es index known t = ⊎-elim (λ u. inl (ltb-no u))
     (λ q. inr (known index .0 (elem-out index before (is-true (elem index before) (T-not-not (elem index before) q)))))
     (and-no (ltb index inputs) (not (elem index before)) t)
 
-known-more : (before : List ℕ) (es : List Late) (e : Late) → Known before es → Known (e .index ∷ before) (es ++ (e ∷ []))
+known-more : (before : List ℕ) (es : List InputArrival) (e : InputArrival) → Known before es → Known (e .index ∷ before) (es ++ (e ∷ []))
 known-more before es e known v = (there, back)
   where
-    front : (xs : List Late) → List·Memᴰ v (indexes xs) → List·Memᴰ v (indexes (xs ++ (e ∷ [])))
+    front : (xs : List InputArrival) → List·Memᴰ v (indexes xs) → List·Memᴰ v (indexes (xs ++ (e ∷ [])))
     front (x ∷ xs) (List·Memᴰ·head q) = List·Memᴰ·head q
     front (x ∷ xs) (List·Memᴰ·tail m) = List·Memᴰ·tail (front xs m)
 
-    last : (xs : List Late) → v ≡ e .index → List·Memᴰ v (indexes (xs ++ (e ∷ [])))
+    last : (xs : List InputArrival) → v ≡ e .index → List·Memᴰ v (indexes (xs ++ (e ∷ [])))
     last [] q = List·Memᴰ·head q
     last (x ∷ xs) q = List·Memᴰ·tail (last xs q)
 
-    out : (xs : List Late) → List·Memᴰ v (indexes (xs ++ (e ∷ []))) → (v ≡ e .index) ⊎ List·Memᴰ v (indexes xs)
+    out : (xs : List InputArrival) → List·Memᴰ v (indexes (xs ++ (e ∷ []))) → (v ≡ e .index) ⊎ List·Memᴰ v (indexes xs)
     out [] (List·Memᴰ·head q) = inl q
     out [] (List·Memᴰ·tail m) = absurd (List·Memᴰ·not-nil m)
     out (x ∷ xs) (List·Memᴰ·head q) = inr (List·Memᴰ·head q)
@@ -112,144 +112,144 @@ two {ns = ns} l = go ns (l .is .count)
 -- ---- the lines
 
 module _ (inputs : ℕ) where
-  abbrev lateOf : List ℕ → Late
-  lateOf ns = record { index = getD ns 0 0; arrival = getD ns 1 0 }
+  abbrev inputArrivalOf : List ℕ → InputArrival
+  inputArrivalOf ns = record { index = getD ns 0 0; arrival = getD ns 1 0 }
 
-  abbrev later : List ℕ → List Line → List ℕ → Read (List Late)
-  later before ls ns = next (readLate inputs (getD ns 0 0 ∷ before) ls) (λ es. holds (lateOf ns ∷ es))
+  abbrev later : List ℕ → List Line → List ℕ → Read (List InputArrival)
+  later before ls ns = next (readInputArrivals inputs (getD ns 0 0 ∷ before) ls) (λ es. holds (inputArrivalOf ns ∷ es))
 
-  abbrev judged : List ℕ → List Line → ℕ → List ℕ → Read (List Late)
-  judged before ls at ns = unless (isGood inputs before (getD ns 0 0)) 26 at (later before ls ns)
+  abbrev validated : List ℕ → List Line → ℕ → List ℕ → Read (List InputArrival)
+  validated before ls at ns = unless (isGood inputs before (getD ns 0 0)) 26 at (later before ls ns)
 
-  late-line : (before : List ℕ) (l : Line) (ls : List Line) (ns : List ℕ) → lateNumbers l ≡ some ns → readLate inputs before (l ∷ ls) ≡ judged before ls (l .offset) ns
-  unfolding readLate from? next
-  late-line before l ls ns e = ap (λ (o : Option (List ℕ)). next (from? o 25 (l .offset)) (judged before ls (l .offset))) e
+  input-arrival-line : (before : List ℕ) (l : Line) (ls : List Line) (ns : List ℕ) → inputArrivalNumbers l ≡ some ns → readInputArrivals inputs before (l ∷ ls) ≡ validated before ls (l .offset) ns
+  unfolding readInputArrivals from? next
+  input-arrival-line before l ls ns e = ap (λ (o : Option (List ℕ)). next (from? o 25 (l .offset)) (validated before ls (l .offset))) e
 
-  late-none : (before : List ℕ) (l : Line) (ls : List Line) → lateNumbers l ≡ none → readLate inputs before (l ∷ ls) ≡ fault 25 (l .offset)
-  unfolding readLate from? next
-  late-none before l ls e = ap (λ (o : Option (List ℕ)). next (from? o 25 (l .offset)) (judged before ls (l .offset))) e
+  input-arrival-none : (before : List ℕ) (l : Line) (ls : List Line) → inputArrivalNumbers l ≡ none → readInputArrivals inputs before (l ∷ ls) ≡ fault 25 (l .offset)
+  unfolding readInputArrivals from? next
+  input-arrival-none before l ls e = ap (λ (o : Option (List ℕ)). next (from? o 25 (l .offset)) (validated before ls (l .offset))) e
 
-  late-passes : (before : List ℕ) (l : Line) (ls : List Line) (ns : List ℕ) → lateNumbers l ≡ some ns → T (isGood inputs before (getD ns 0 0)) → readLate inputs before (l ∷ ls) ≡ later before ls ns
-  late-passes before l ls ns e a = late-line before l ls ns e ∙ unless-yes (isGood inputs before (getD ns 0 0)) 26 (l .offset) _ a
+  input-arrival-passes : (before : List ℕ) (l : Line) (ls : List Line) (ns : List ℕ) → inputArrivalNumbers l ≡ some ns → T (isGood inputs before (getD ns 0 0)) → readInputArrivals inputs before (l ∷ ls) ≡ later before ls ns
+  input-arrival-passes before l ls ns e a = input-arrival-line before l ls ns e ∙ unless-yes (isGood inputs before (getD ns 0 0)) 26 (l .offset) _ a
 
-  record Run (s : List ℕ) (es : List Late) : Type 0 where
+  record Run (s : List ℕ) (es : List InputArrival) : Type 0 where
     before : List ℕ
     known : Known before es
-    run : (rest : List ℕ) → readArrivals inputs (s ++ rest) ≡ next (readLate inputs before (linesFrom (length s) [] rest)) (λ ds. holds (es ++ ds))
+    run : (rest : List ℕ) → readArrivals inputs (s ++ rest) ≡ next (readInputArrivals inputs before (linesFrom (length s) [] rest)) (λ ds. holds (es ++ ds))
 
-  late-run : {s : List ℕ} {es : List Late} → LatesIn inputs s es → Run s es
-  unfolding readArrivals readLateLines
-  late-run (noLate {s} t) = record {
+  input-arrival-run : {s : List ℕ} {es : List InputArrival} → LatesIn inputs s es → Run s es
+  unfolding readArrivals readInputArrivalLines
+  input-arrival-run (noInputArrival {s} t) = record {
     before = [];
     known = λ v. ((λ n. absurd (List·Memᴰ·not-nil n)), λ n. absurd (List·Memᴰ·not-nil n));
-    run = λ rest. let b = reads-title .back 0 s rest tt t in ap (readLateLines inputs)
+    run = λ rest. let b = reads-title .back 0 s rest tt t in ap (readInputArrivalLines inputs)
         (b .lines ∙ ap (λ (n : ℕ). b .line ∷ linesFrom n [] rest) (let q : 0 + length s ≡ length s = omega arith in q))
-        ∙ unless-yes (isTitle (b .line)) 25 (b .line .offset) (readLate inputs [] (linesFrom (length s) [] rest))
-        (title-is (b .line) (b .read)) ∙ sym (next-holds (readLate inputs [] (linesFrom (length s) [] rest)));
+        ∙ unless-yes (isTitle (b .line)) 25 (b .line .offset) (readInputArrivals inputs [] (linesFrom (length s) [] rest))
+        (title-is (b .line) (b .read)) ∙ sym (next-holds (readInputArrivals inputs [] (linesFrom (length s) [] rest)));
   }
-  late-run (aLate {s} {l} {es} {index} {arrival} lines line inside new) = record {
-    before = index ∷ (late-run lines) .before;
-    known = known-more (late-run lines .before) es (record { index = index; arrival = arrival }) (late-run lines .known);
-    run = λ rest. let b = reads-late .back (length s) l rest (index ∷ arrival ∷ []) line in let ls = linesFrom
-        (length s + length l) [] rest in ap (readArrivals inputs) (append-assoc s l rest) ∙ (late-run lines) .run (l ++ rest)
-        ∙ ap (λ (xs : List Line). next (readLate inputs (late-run lines .before) xs) (λ ds. holds (es ++ ds))) (b .lines)
-        ∙ ap (λ (x : Read (List Late)). next x (λ ds. holds (es ++ ds))) (late-passes (late-run lines .before) (b .line) ls
-        (index ∷ arrival ∷ []) (b .read) (on (isGood inputs (late-run lines .before) index) (λ t. t)
-        (λ t. absurd (⊎-elim (λ h. omega arith) new (good-back inputs (late-run lines .before) es index (late-run lines .known) t)))))
-        ∙ next-next (readLate inputs (index ∷ (late-run lines) .before) ls) (λ ds. record { index = index; arrival = arrival } ∷ ds)
-        (λ ds. es ++ ds) ∙ next-same (readLate inputs (index ∷ (late-run lines) .before) ls)
+  input-arrival-run (aInputArrival {s} {l} {es} {index} {arrival} lines line inside new) = record {
+    before = index ∷ (input-arrival-run lines) .before;
+    known = known-more (input-arrival-run lines .before) es (record { index = index; arrival = arrival }) (input-arrival-run lines .known);
+    run = λ rest. let b = reads-input-arrival .back (length s) l rest (index ∷ arrival ∷ []) line in let ls = linesFrom
+        (length s + length l) [] rest in ap (readArrivals inputs) (append-assoc s l rest) ∙ (input-arrival-run lines) .run (l ++ rest)
+        ∙ ap (λ (xs : List Line). next (readInputArrivals inputs (input-arrival-run lines .before) xs) (λ ds. holds (es ++ ds))) (b .lines)
+        ∙ ap (λ (x : Read (List InputArrival)). next x (λ ds. holds (es ++ ds))) (input-arrival-passes (input-arrival-run lines .before) (b .line) ls
+        (index ∷ arrival ∷ []) (b .read) (on (isGood inputs (input-arrival-run lines .before) index) (λ t. t)
+        (λ t. absurd (⊎-elim (λ h. omega arith) new (good-back inputs (input-arrival-run lines .before) es index (input-arrival-run lines .known) t)))))
+        ∙ next-next (readInputArrivals inputs (index ∷ (input-arrival-run lines) .before) ls) (λ ds. record { index = index; arrival = arrival } ∷ ds)
+        (λ ds. es ++ ds) ∙ next-same (readInputArrivals inputs (index ∷ (input-arrival-run lines) .before) ls)
         (λ ds. es ++ (record { index = index; arrival = arrival } ∷ ds))
         (λ ds. (es ++ (record { index = index; arrival = arrival } ∷ [])) ++ ds)
         (λ ds. sym (append-assoc es (record { index = index; arrival = arrival } ∷ []) ds)) ∙ ap (λ (n : ℕ).
-        next (readLate inputs (index ∷ (late-run lines) .before) (linesFrom n [] rest))
+        next (readInputArrivals inputs (index ∷ (input-arrival-run lines) .before) (linesFrom n [] rest))
         (λ ds. holds ((es ++ (record { index = index; arrival = arrival } ∷ [])) ++ ds))) (sym (length-append s l));
   }
 
-  late-fault : (before : List ℕ) (es : List Late) → Known before es → (at : ℕ) (t : List ℕ) (l : Line) (ls : List Line) (n : ℕ) → linesFrom at [] t ≡ l ∷ ls → LateFault inputs es t n
-      → readLate inputs before (l ∷ ls) ≡ fault n (l .offset)
-  late-fault before es known at t l ls n e (twentyFive x) = by-option (lateNumbers l) (λ f. late-none before l ls f)
-      (λ ns q. absurd (x (ns, found-begins reads-late (reads-late .form at t l ls e ns q))))
-  late-fault before es known at t l ls n e (twentySix {index} {arrival} b x) =
-      late-line before l ls (index ∷ arrival ∷ []) (begins-read reads-late at t l ls e (index ∷ arrival ∷ []) b)
+  input-arrival-fault : (before : List ℕ) (es : List InputArrival) → Known before es → (at : ℕ) (t : List ℕ) (l : Line) (ls : List Line) (n : ℕ) → linesFrom at [] t ≡ l ∷ ls → InputArrivalFault inputs es t n
+      → readInputArrivals inputs before (l ∷ ls) ≡ fault n (l .offset)
+  input-arrival-fault before es known at t l ls n e (twentyFive x) = by-option (inputArrivalNumbers l) (λ f. input-arrival-none before l ls f)
+      (λ ns q. absurd (x (ns, found-begins reads-input-arrival (reads-input-arrival .form at t l ls e ns q))))
+  input-arrival-fault before es known at t l ls n e (twentySix {index} {arrival} b x) =
+      input-arrival-line before l ls (index ∷ arrival ∷ []) (begins-read reads-input-arrival at t l ls e (index ∷ arrival ∷ []) b)
       ∙ unless-no (isGood inputs before index) 26 (l .offset) _ (not-T (isGood inputs before index) (λ u. ⊎-elim (λ h.
       let q : index < inputs = (good-form inputs before es index known u) .0 in omega (arith, good-form inputs before es index known u))
       (λ m. good-form inputs before es index known u .1 m) x))
 
-  late-result : (ls : List Line) (s rest : List ℕ) (es : List Late) (before : List ℕ) → LatesIn inputs s es → Known before es → linesFrom (length s) [] rest ≡ ls
-      → Result (λ ds. LatesIn inputs (s ++ rest) (es ++ ds)) (ArrivalsFault inputs (s ++ rest)) (readLate inputs before ls)
-  unfolding readLate linesFrom
-  late-result [] s rest es before lines known e =
+  input-arrival-result : (ls : List Line) (s rest : List ℕ) (es : List InputArrival) (before : List ℕ) → LatesIn inputs s es → Known before es → linesFrom (length s) [] rest ≡ ls
+      → Result (λ ds. LatesIn inputs (s ++ rest) (es ++ ds)) (ArrivalsFault inputs (s ++ rest)) (readInputArrivals inputs before ls)
+  unfolding readInputArrivals linesFrom
+  input-arrival-result [] s rest es before lines known e =
       held (subst (λ (x : List ℕ). LatesIn inputs x (es ++ [])) (sym (append-nil s) ∙ ap (λ (y : List ℕ). s ++ y) (sym (lines-none (length s) rest e))) (subst (LatesIn inputs s) (sym (append-nil es)) lines))
-  late-result (l ∷ ls) s rest es before lines known e = by-option (lateNumbers l) (λ f. fails 25 (late-none before l ls f) (twentyFive (λ p.
+  input-arrival-result (l ∷ ls) s rest es before lines known e = by-option (inputArrivalNumbers l) (λ f. fails 25 (input-arrival-none before l ls f) (twentyFive (λ p.
       let z : none ≡ some (p .0) = sym f
-      ∙ begins-read reads-late (length s) rest l ls e (p .0) (p .1) in let y : false ≡ true = cc in false≢true y))) (λ ns q.
-      let x = reads-late .form (length s) rest l ls e ns q in on (isGood inputs before (getD ns 0 0)) (λ t.
+      ∙ begins-read reads-input-arrival (length s) rest l ls e (p .0) (p .1) in let y : false ≡ true = cc in false≢true y))) (λ ns q.
+      let x = reads-input-arrival .form (length s) rest l ls e ns q in on (isGood inputs before (getD ns 0 0)) (λ t.
       let text-is : (s ++ x .front) ++ x .behind ≡ s ++ rest = append-assoc s (x .front) (x .behind) ∙ ap (λ (y : List ℕ). s ++ y)
-      (sym (x .whole)) in let good = good-form inputs before es (getD ns 0 0) known t in let r = (late-result ls) (s ++ x .front)
-      (x .behind) (es ++ (lateOf ns ∷ [])) (getD ns 0 0 ∷ before)
-      (aLate lines (subst (NumberLine false 2 (x .front)) (two (x .is)) (x .is)) (good .0) (good .1))
-      (known-more before es (lateOf ns) known) (ap (λ (n : ℕ). linesFrom n [] (x .behind)) (length-append s (x .front)) ∙ x .later) in
-      result-as (later before ls ns) whole (late-passes before l ls ns q t) (result-next (readLate inputs (getD ns 0 0 ∷ before) ls)
-      (λ ds. lateOf ns ∷ ds) (λ ds h. subst (λ (y : List ℕ). LatesIn inputs y (es ++ (lateOf ns ∷ ds))) text-is
-      (subst (LatesIn inputs ((s ++ x .front) ++ x .behind)) (append-assoc es (lateOf ns ∷ []) ds) h))
+      (sym (x .whole)) in let good = good-form inputs before es (getD ns 0 0) known t in let r = (input-arrival-result ls) (s ++ x .front)
+      (x .behind) (es ++ (inputArrivalOf ns ∷ [])) (getD ns 0 0 ∷ before)
+      (aInputArrival lines (subst (NumberLine false 2 (x .front)) (two (x .is)) (x .is)) (good .0) (good .1))
+      (known-more before es (inputArrivalOf ns) known) (ap (λ (n : ℕ). linesFrom n [] (x .behind)) (length-append s (x .front)) ∙ x .later) in
+      result-as (later before ls ns) whole (input-arrival-passes before l ls ns q t) (result-next (readInputArrivals inputs (getD ns 0 0 ∷ before) ls)
+      (λ ds. inputArrivalOf ns ∷ ds) (λ ds h. subst (λ (y : List ℕ). LatesIn inputs y (es ++ (inputArrivalOf ns ∷ ds))) text-is
+      (subst (LatesIn inputs ((s ++ x .front) ++ x .behind)) (append-assoc es (inputArrivalOf ns ∷ []) ds) h))
       (λ n k h. subst (λ (y : List ℕ). ArrivalsFault inputs y n k) text-is h) r)) (λ t. fails 26
-      (late-line before l ls ns q ∙ unless-no (isGood inputs before (getD ns 0 0)) 26 (l .offset) _ t)
-      (twentySix (subst (Begins (NumberLine false 2) rest) (two (x .is)) (found-begins reads-late x))
+      (input-arrival-line before l ls ns q ∙ unless-no (isGood inputs before (getD ns 0 0)) 26 (l .offset) _ t)
+      (twentySix (subst (Begins (NumberLine false 2) rest) (two (x .is)) (found-begins reads-input-arrival x))
       (good-back inputs before es (getD ns 0 0) known t))))
     where
-      Here : Read (List Late) → Type 0
+      Here : Read (List InputArrival) → Type 0
       Here = Result (λ ds. LatesIn inputs (s ++ rest) (es ++ ds)) (ArrivalsFault inputs (s ++ rest))
 
-      whole : Read (List Late)
-      whole = readLate inputs before (l ∷ ls)
+      whole : Read (List InputArrival)
+      whole = readInputArrivals inputs before (l ∷ ls)
 
-      fails : (n : ℕ) → whole ≡ fault n (l .offset) → LateFault inputs es rest n → Here whole
+      fails : (n : ℕ) → whole ≡ fault n (l .offset) → InputArrivalFault inputs es rest n → Here whole
       fails n f x =
-          result-as (fault n (length s)) whole (f ∙ ap (fault n) (first-split (length s) rest l ls e .offset)) (refused (atLate lines (λ z. nil≢cons (sym (ap (linesFrom (length s) []) z) ∙ e)) x))
+          result-as (fault n (length s)) whole (f ∙ ap (fault n) (first-split (length s) rest l ls e .offset)) (refused (atInputArrival lines (λ z. nil≢cons (sym (ap (linesFrom (length s) []) z) ∙ e)) x))
 
       Later : Type 0
-      Later = (s′ rest′ : List ℕ) (es′ : List Late) (before′ : List ℕ) → LatesIn inputs s′ es′ → Known before′ es′ → linesFrom (length s′) [] rest′ ≡ ls
-          → Result (λ ds. LatesIn inputs (s′ ++ rest′) (es′ ++ ds)) (ArrivalsFault inputs (s′ ++ rest′)) (readLate inputs before′ ls)
+      Later = (s′ rest′ : List ℕ) (es′ : List InputArrival) (before′ : List ℕ) → LatesIn inputs s′ es′ → Known before′ es′ → linesFrom (length s′) [] rest′ ≡ ls
+          → Result (λ ds. LatesIn inputs (s′ ++ rest′) (es′ ++ ds)) (ArrivalsFault inputs (s′ ++ rest′)) (readInputArrivals inputs before′ ls)
 
   result : (t : List ℕ) → Result (ArrivalsHold inputs t) (ArrivalsFault inputs t) (readArrivals inputs t)
-  unfolding readArrivals readLateLines
+  unfolding readArrivals readInputArrivalLines
   result t = go (linesFrom 0 [] t) refl
     where
-      go : (ls : List Line) → linesFrom 0 [] t ≡ ls → Result (ArrivalsHold inputs t) (ArrivalsFault inputs t) (readLateLines inputs ls)
+      go : (ls : List Line) → linesFrom 0 [] t ≡ ls → Result (ArrivalsHold inputs t) (ArrivalsFault inputs t) (readInputArrivalLines inputs ls)
       go [] e = held (inl (lines-none 0 t e, refl))
-      go (l ∷ ls) e = on (isTitle l) yes? (λ u. result-as (fault 25 0) (readLateLines inputs (l ∷ ls))
-          (unless-no (isTitle l) 25 (l .offset) (readLate inputs [] ls) u ∙ ap (fault 25) (first-split 0 t l ls e .offset)) (refused
+      go (l ∷ ls) e = on (isTitle l) yes? (λ u. result-as (fault 25 0) (readInputArrivalLines inputs (l ∷ ls))
+          (unless-no (isTitle l) 25 (l .offset) (readInputArrivals inputs [] ls) u ∙ ap (fault 25) (first-split 0 t l ls e .offset)) (refused
           (noTitle (λ z. no-lines 0 l ls (sym (ap (linesFrom 0 []) z) ∙ e))
           (λ p. lib.Dec.T-not (isTitle l) u (title-is l (begins-read reads-title 0 t l ls e tt (p .1)))))))
         where
-          yes? : T (isTitle l) → Result (ArrivalsHold inputs t) (ArrivalsFault inputs t) (readLateLines inputs (l ∷ ls))
+          yes? : T (isTitle l) → Result (ArrivalsHold inputs t) (ArrivalsFault inputs t) (readInputArrivalLines inputs (l ∷ ls))
           yes? u =
               let x = reads-title .form 0 t l ls e tt (is-title l u) in
-              result-as (readLate inputs [] ls) (readLateLines inputs (l ∷ ls)) (unless-yes (isTitle l) 25 (l .offset) (readLate inputs [] ls) u)
-              (result-map (readLate inputs [] ls) (λ ds h. inr (subst (λ (y : List ℕ). LatesIn inputs y ds) (sym (x .whole)) h)) (λ n k h. subst (λ (y : List ℕ). ArrivalsFault inputs y n k) (sym (x .whole)) h)
-              (late-result ls (x .front) (x .behind) [] [] (noLate (x .is)) (λ v. ((λ n. absurd (List·Memᴰ·not-nil n)), λ n. absurd (List·Memᴰ·not-nil n)))
+              result-as (readInputArrivals inputs [] ls) (readInputArrivalLines inputs (l ∷ ls)) (unless-yes (isTitle l) 25 (l .offset) (readInputArrivals inputs [] ls) u)
+              (result-map (readInputArrivals inputs [] ls) (λ ds h. inr (subst (λ (y : List ℕ). LatesIn inputs y ds) (sym (x .whole)) h)) (λ n k h. subst (λ (y : List ℕ). ArrivalsFault inputs y n k) (sym (x .whole)) h)
+              (input-arrival-result ls (x .front) (x .behind) [] [] (noInputArrival (x .is)) (λ v. ((λ n. absurd (List·Memᴰ·not-nil n)), λ n. absurd (List·Memᴰ·not-nil n)))
               (ap (λ (n : ℕ). linesFrom n [] (x .behind)) (let q : length (x .front) ≡ 0 + length (x .front) = omega arith in q) ∙ x .later)))
 
-  arrivals-held : (t : List ℕ) (es : List Late) → ArrivalsHold inputs t es → readArrivals inputs t ≡ holds es
-  unfolding readArrivals readLateLines readLate linesFrom next
+  arrivals-held : (t : List ℕ) (es : List InputArrival) → ArrivalsHold inputs t es → readArrivals inputs t ≡ holds es
+  unfolding readArrivals readInputArrivalLines readInputArrivals linesFrom next
   arrivals-held t es (inl h) = ap (readArrivals inputs) (h .0) ∙ ap holds (sym (h .1))
-  arrivals-held t es (inr h) = ap (readArrivals inputs) (sym (append-nil t)) ∙ late-run h .run [] ∙ ap holds (append-nil es)
+  arrivals-held t es (inr h) = ap (readArrivals inputs) (sym (append-nil t)) ∙ input-arrival-run h .run [] ∙ ap holds (append-nil es)
 
   arrivals-refused : (t : List ℕ) (n k : ℕ) → ArrivalsFault inputs t n k → readArrivals inputs t ≡ fault n k
-  unfolding readArrivals readLateLines
+  unfolding readArrivals readInputArrivalLines
   arrivals-refused t n k (noTitle some? x) = go (linesFrom 0 [] t) refl
     where
-      go : (ls : List Line) → linesFrom 0 [] t ≡ ls → readLateLines inputs ls ≡ fault 25 0
+      go : (ls : List Line) → linesFrom 0 [] t ≡ ls → readInputArrivalLines inputs ls ≡ fault 25 0
       go [] e = absurd (some? (lines-none 0 t e))
       go (l ∷ ls) e = cc (
-        unless-no (isTitle l) 25 (l .offset) (readLate inputs [] ls) (not-T (isTitle l)
+        unless-no (isTitle l) 25 (l .offset) (readInputArrivals inputs [] ls) (not-T (isTitle l)
             (λ u. x (tt, found-begins reads-title (reads-title .form 0 t l ls e tt (is-title l u))))),
         first-split 0 t l ls e .offset,
       )
-  arrivals-refused t n k (atLate {s} {t = u} {es} lines some? f) = let r = late-run lines in r .run u ∙ by-list (linesFrom (length s) [] u)
-      (λ e. rw e (absurd (some? (lines-none (length s) u e)))) (λ l ls q. rw q (next-fault (readLate inputs (r .before) (l ∷ ls))
+  arrivals-refused t n k (atInputArrival {s} {t = u} {es} lines some? f) = let r = input-arrival-run lines in r .run u ∙ by-list (linesFrom (length s) [] u)
+      (λ e. rw e (absurd (some? (lines-none (length s) u e)))) (λ l ls q. rw q (next-fault (readInputArrivals inputs (r .before) (l ∷ ls))
       (λ ds. holds (es ++ ds)) n (length s)
-      (late-fault (r .before) es (r .known) (length s) u l ls n q f ∙ ap (fault n) (first-split (length s) u l ls q .offset))))
+      (input-arrival-fault (r .before) es (r .known) (length s) u l ls n q f ∙ ap (fault n) (first-split (length s) u l ls q .offset))))
 
   -- the arrivals, whole
   pub arrivals-exactly : (t : List ℕ) → Exactly (ArrivalsHold inputs t) (ArrivalsFault inputs t) (readArrivals inputs t)

@@ -6,14 +6,14 @@ use Rattle.base.specs.{yes-ltb}
 use Rattle.model.specs.{bit, all, andThen, only, ended, fields, numbers, hexTable, isName as isNamed, nameBytes, cellOfFields, cellOfLine}
 use Rattle.model.specs.{isClean, noLower}
 use Rattle.model.specs.declared.Cell.{Cell}
-use Rattle.promises.specs.{Name, Numbers, Table, Lows, given, same as sameLows, CellFields, CellLine, joined, Clean, Ranged}
-use Rattle.promises.specs.Forms.Numbers.{none as noNumbers, one as aNumber}
+use Rattle.promises.specs.{Name, Numbers, Table, MinDelays, given, same as sameMins, CellFields, CellLine, joined, Clean, Ranged}
+use Rattle.promises.specs.LineForms.Numbers.{none as noNumbers, one as aNumber}
 use Rattle.theory_graph.proofs.{is-true, is-false, by-bool}
 use Rattle.theory_text.proofs.{then-out, only-out, Free, field-count}
 use Rattle.theory_refusals.proofs.FieldForms.{joins, number-free, name-form, name-back, name-free, numbers-form, numbers-back}
 use Rattle.theory_refusals.proofs.FieldForms.{numbers-count, numbers-free, table-form, table-back, table-free, fields-joined}
 use Rattle.theory_refusals.proofs.FieldForms.{joined-free}
-use Rattle.theory_refusals.proofs.LineForms.{Reads, reads-line}
+use Rattle.theory_refusals.proofs.LineFormLaws.{Reads, reads-line}
 
 -- ---- lists
 
@@ -59,7 +59,7 @@ made ranged w ns table = record {
   table = table;
   area = getD ns 1 0;
   delays = take 4 (drop 2 ns);
-  lows = drop (cond ranged 6 2) ns;
+  mins = drop (cond ranged 6 2) ns;
 }
 
 -- what is read of four fields and the delays
@@ -83,7 +83,7 @@ form-made true w p t (a ∷ ds) (n ∷ m ∷ ms) table count named (aNumber hp (
       tableField = t;
       areaField = a;
       delayFields = take 4 ds;
-      lowFields = drop 4 ds;
+      minFields = drop 4 ds;
       whole = ap (λ (fs : List (List ℕ)). joined (w ∷ p ∷ t ∷ a ∷ fs)) (sym (take-append-drop 4 ds));
       isName = named;
       name = refl;
@@ -94,7 +94,7 @@ form-made true w p t (a ∷ ds) (n ∷ m ∷ ms) table count named (aNumber hp (
       area = ha;
       delays = numbers-take 4 q;
       four = omega (arith, length-take 4 ms);
-      lows = given (numbers-drop 4 q) (omega (arith, length-drop 4 ms));
+      mins = given (numbers-drop 4 q) (omega (arith, length-drop 4 ms));
     }
 form-made false w p t (a ∷ ds) (n ∷ m ∷ ms) table count named (aNumber hp (aNumber ha q)) tab few =
     let long : length ms ≡ 4 = omega (arith, numbers-count q) in
@@ -104,7 +104,7 @@ form-made false w p t (a ∷ ds) (n ∷ m ∷ ms) table count named (aNumber hp 
       tableField = t;
       areaField = a;
       delayFields = ds;
-      lowFields = [];
+      minFields = [];
       whole = ap (λ (fs : List (List ℕ)). joined (w ∷ p ∷ t ∷ a ∷ fs)) (sym (append-nil ds));
       isName = named;
       name = refl;
@@ -115,7 +115,7 @@ form-made false w p t (a ∷ ds) (n ∷ m ∷ ms) table count named (aNumber hp 
       area = ha;
       delays = subst (Numbers ds) (sym (take-all 4 ms long)) q;
       four = omega (arith, length-take 4 ms);
-      lows = subst (λ (ls : List ℕ). Lows false [] (take 4 ms) ls) (take-all 4 ms long) sameLows;
+      mins = subst (λ (ls : List ℕ). MinDelays false [] (take 4 ms) ls) (take-all 4 ms long) sameMins;
     }
 form-made true w p t (a ∷ ds) (n ∷ []) table count named q tab few = let z : ⊥ = omega (arith, numbers-count q) in absurd z
 form-made false w p t (a ∷ ds) (n ∷ []) table count named q tab few = let z : ⊥ = omega (arith, numbers-count q) in absurd z
@@ -151,7 +151,7 @@ fields-form ranged w c e =
 
 -- a cell by its seven values
 abbrev cell : List ℕ → ℕ → ℕ → ℕ → ℕ → List ℕ → List ℕ → Cell
-cell n l p t a d w = record { name = n; len = l; pins = p; table = t; area = a; delays = d; lows = w }
+cell n l p t a d w = record { name = n; len = l; pins = p; table = t; area = a; delays = d; mins = w }
 
 same-cell : {n n′ : List ℕ} {l l′ : ℕ} (p t a : ℕ) {d d′ w w′ : List ℕ} → n ≡ n′ → l ≡ l′ → d ≡ d′ → w ≡ w′ → cell n l p t a d w ≡ cell n′ l′ p t a d′ w′
 same-cell {n} {n′} {l} {l′} p t a {d} {d′} {w} {w′} e f g h = cc
@@ -164,7 +164,7 @@ record Behind (ranged : Bool) (fs gs : List (List ℕ)) (ds ls : List ℕ) : Typ
   front : take 4 all ≡ ds
   back : drop (cond ranged 4 0) all ≡ ls
 
-behind : (ranged : Bool) (fs gs : List (List ℕ)) (ds ls : List ℕ) → Numbers fs ds → length ds ≡ 4 → Lows ranged gs ds ls → Behind ranged fs gs ds ls
+behind : (ranged : Bool) (fs gs : List (List ℕ)) (ds ls : List ℕ) → Numbers fs ds → length ds ≡ 4 → MinDelays ranged gs ds ls → Behind ranged fs gs ds ls
 behind ranged fs gs ds ls p four (given q n) = record {
   all = ds ++ ls;
   read = numbers-append p q;
@@ -172,7 +172,7 @@ behind ranged fs gs ds ls p four (given q n) = record {
   front = take-front 4 ds ls four;
   back = drop-front 4 ds ls four;
 }
-behind ranged fs gs ds ls p four sameLows = record {
+behind ranged fs gs ds ls p four sameMins = record {
   all = ds;
   read = subst (λ (ws : List (List ℕ)). Numbers ws ds) (sym (append-nil fs)) p;
   count = omega (arith, length-append fs [], numbers-count p, four);
@@ -183,8 +183,8 @@ behind ranged fs gs ds ls p four sameLows = record {
 fields-back : (ranged : Bool) (w : List ℕ) (c : Cell) → CellFields ranged w c → cellOfFields ranged (fields w) ≡ some c
 unfolding nameBytes andThen only
 fields-back ranged w c f =
-    let b = behind ranged (f .delayFields) (f .lowFields) (c .delays) (c .lows) (f .delays) (f .four) (f .lows) in
-    let rest = f .areaField ∷ f .delayFields ++ f .lowFields in
+    let b = behind ranged (f .delayFields) (f .minFields) (c .delays) (c .mins) (f .delays) (f .four) (f .mins) in
+    let rest = f .areaField ∷ f .delayFields ++ f .minFields in
     cc (
       f .whole,
       fields-joined (f .nameField) (f .pinsField ∷ f .tableField ∷ rest) (
@@ -217,7 +217,7 @@ fields-back ranged w c f =
 
 fields-free : (ranged : Bool) (s : ℕ) → s < 32 → (w : List ℕ) (c : Cell) → CellFields ranged w c → Free s w
 fields-free ranged s h w c f = subst (Free s) (sym (f .whole)) (joined-free s h
-    (f .nameField ∷ f .pinsField ∷ f .tableField ∷ f .areaField ∷ f .delayFields ++ f .lowFields) (
+    (f .nameField ∷ f .pinsField ∷ f .tableField ∷ f .areaField ∷ f .delayFields ++ f .minFields) (
       name-free s (omega arith) (f .isName),
       (
         number-free s (omega arith) (f .pins),
@@ -226,7 +226,7 @@ fields-free ranged s h w c f = subst (Free s) (sym (f .whole)) (joined-free s h
           (
             number-free s (omega arith) (f .area),
             numbers-free s
-                (omega arith) (behind ranged (f .delayFields) (f .lowFields) (c .delays) (c .lows) (f .delays) (f .four) (f .lows) .read),
+                (omega arith) (behind ranged (f .delayFields) (f .minFields) (c .delays) (c .mins) (f .delays) (f .four) (f .mins) .read),
           ),
         ),
       ),
@@ -276,15 +276,15 @@ all-zeros (suc p) (x ∷ xs) f = all-zeros p xs (λ j h. f (suc j) (omega arith)
 pub clean-form : (c : Cell) → T (isClean c) → Clean c
 unfolding isClean
 clean-form c t =
-    let a = and-yes (ltb (c .table) (2 ^ 2 ^ c .pins)) (all (eqb 0) (drop (c .pins) (c .delays)) && all (eqb 0) (drop (c .pins) (c .lows))) t in
-    let b = and-yes (all (eqb 0) (drop (c .pins) (c .delays))) (all (eqb 0) (drop (c .pins) (c .lows))) (a .1) in
-    record { rows = λ r h. low-bits (2 ^ c .pins) (c .table) (ltb-yes (a .0)) r h; delays = zeros (c .pins) (c .delays) (b .0); lows = zeros (c .pins) (c .lows) (b .1) }
+    let a = and-yes (ltb (c .table) (2 ^ 2 ^ c .pins)) (all (eqb 0) (drop (c .pins) (c .delays)) && all (eqb 0) (drop (c .pins) (c .mins))) t in
+    let b = and-yes (all (eqb 0) (drop (c .pins) (c .delays))) (all (eqb 0) (drop (c .pins) (c .mins))) (a .1) in
+    record { rows = λ r h. low-bits (2 ^ c .pins) (c .table) (ltb-yes (a .0)) r h; delays = zeros (c .pins) (c .delays) (b .0); mins = zeros (c .pins) (c .mins) (b .1) }
 
 pub clean-back : (c : Cell) → Clean c → T (isClean c)
 unfolding isClean
 clean-back c h =
-    yes-and (ltb (c .table) (2 ^ 2 ^ c .pins)) (all (eqb 0) (drop (c .pins) (c .delays)) && all (eqb 0) (drop (c .pins) (c .lows))) (yes-ltb (bits-low (2 ^ c .pins) (c .table) (h .rows)))
-    (yes-and (all (eqb 0) (drop (c .pins) (c .delays))) (all (eqb 0) (drop (c .pins) (c .lows))) (all-zeros (c .pins) (c .delays) (h .delays)) (all-zeros (c .pins) (c .lows) (h .lows)))
+    yes-and (ltb (c .table) (2 ^ 2 ^ c .pins)) (all (eqb 0) (drop (c .pins) (c .delays)) && all (eqb 0) (drop (c .pins) (c .mins))) (yes-ltb (bits-low (2 ^ c .pins) (c .table) (h .rows)))
+    (yes-and (all (eqb 0) (drop (c .pins) (c .delays))) (all (eqb 0) (drop (c .pins) (c .mins))) (all-zeros (c .pins) (c .delays) (h .delays)) (all-zeros (c .pins) (c .mins) (h .mins)))
 
 pub lower-form : (ls ds : List ℕ) → T (noLower ls ds) → (j : ℕ) → getD ls j 0 ≤ getD ds j 0
 unfolding noLower
@@ -299,13 +299,13 @@ lower-back [] ds e f = tt
 lower-back (l ∷ ls) [] e f = let z : ⊥ = omega arith in absurd z
 lower-back (l ∷ ls) (d ∷ ds) e f = yes-and (leb l d) (noLower ls ds) (yes-leb (f 0)) (lower-back ls ds (omega arith) (λ j. f (suc j)))
 
-pub ranged-form : (c : Cell) → T (noLower (c .lows) (c .delays)) → Ranged c
-ranged-form c t = lower-form (c .lows) (c .delays) t
+pub ranged-form : (c : Cell) → T (noLower (c .mins) (c .delays)) → Ranged c
+ranged-form c t = lower-form (c .mins) (c .delays) t
 
-lows-four : {r : Bool} {fs : List (List ℕ)} {ds ls : List ℕ} → Lows r fs ds ls → length ds ≡ 4 → length ls ≡ 4
-lows-four (given q n) e = n
-lows-four sameLows e = e
+mins-four : {r : Bool} {fs : List (List ℕ)} {ds ls : List ℕ} → MinDelays r fs ds ls → length ds ≡ 4 → length ls ≡ 4
+mins-four (given q n) e = n
+mins-four sameMins e = e
 
 -- of a cell that a line gives
-pub ranged-back : (ranged : Bool) {s : List ℕ} {c : Cell} → CellLine ranged s c → Ranged c → T (noLower (c .lows) (c .delays))
-ranged-back ranged {c = c} l f = lower-back (c .lows) (c .delays) (lows-four (l .is .lows) (l .is .four) ∙ sym (l .is .four)) f
+pub ranged-back : (ranged : Bool) {s : List ℕ} {c : Cell} → CellLine ranged s c → Ranged c → T (noLower (c .mins) (c .delays))
+ranged-back ranged {c = c} l f = lower-back (c .mins) (c .delays) (mins-four (l .is .mins) (l .is .four) ∙ sym (l .is .four)) f

@@ -9,8 +9,8 @@ use Rattle.promises.specs.{Difference, short, long, Begins, Exactly, AndsIn, no
 use Rattle.promises.specs.{twentyOneNext, AndsHold, AndsRefused}
 use Rattle.theory_graph.proofs.{is-true, is-false, by-read, by-nat}
 use Rattle.theory_text.proofs.{fault-never}
-use Rattle.theory_refusals.proofs.Results.{Result, held, refused, exactly, unless-yes, unless-no, on, next-holds, next-next}
-use Rattle.theory_refusals.proofs.Results.{next-same, result-next, result-as}
+use Rattle.theory_refusals.proofs.ReadResults.{Result, held, refused, exactly, unless-yes, unless-no, on, next-holds, next-next}
+use Rattle.theory_refusals.proofs.ReadResults.{next-same, result-next, result-as}
 
 -- ---- a difference
 

@@ -8,7 +8,7 @@ use Rattle.model.specs.{all, same, andThen, only, digits, decimal, asDigits, nu
 use Rattle.model.specs.{isLetter, isNameByte, isName, onto, split, fields}
 use Rattle.promises.specs.{Letter, NameByte, Name, name, Decimal, digit, more, Number, Numbers, Hex, figure, letter, Table, four, joined}
 use Rattle.promises.specs.{Within}
-use Rattle.promises.specs.Forms.Numbers.{none as noNumbers, one as aNumber}
+use Rattle.promises.specs.LineForms.Numbers.{none as noNumbers, one as aNumber}
 use Rattle.theory_graph.proofs.{same-eq, all-of, all-in, is-true, is-false, by-bool, by-list}
 use Rattle.theory_text.proofs.{then-out, only-out, Free, above, free-append, decimal-free, fields-word, fields-last}
 use Rattle.theory_text.proofs.{number-back as number-written}

@@ -12,8 +12,8 @@ use Rattle.theory_graph.proofs.{same-eq, is-true, by-bool, by-option, by-list}
 use Rattle.theory_text.proofs.{then-out, only-out, Free}
 use Rattle.theory_refusals.proofs.FieldForms.{joins, numbers-form, numbers-back, numbers-count, numbers-free, AllFree, fields-joined}
 use Rattle.theory_refusals.proofs.FieldForms.{joined-free}
-use Rattle.theory_refusals.proofs.LineForms.{first-split, ended-lines}
-use Rattle.theory_refusals.proofs.Results.{Result, held, refused, exactly, unless-yes, unless-no, on}
+use Rattle.theory_refusals.proofs.LineFormLaws.{first-split, ended-lines}
+use Rattle.theory_refusals.proofs.ReadResults.{Result, held, refused, exactly, unless-yes, unless-no, on}
 
 -- ---- the line
 
@@ -173,16 +173,16 @@ unfolding inSequence
 out-of-sequence h t = by-bool (h .binary) (λ e. rw e (refl, eqb-no (rw e at t))) (λ q. rw q (absurd (rw q at t)))
 
 -- the refusals of a header that has its form
-abbrev judged : Header → Read Header
-judged h = unless (eqb (h .latches) 0) 8 0 (unless (inLimits h) 9 0 (unless (inSequence h) 19 0 (holds h)))
+abbrev validated : Header → Read Header
+validated h = unless (eqb (h .latches) 0) 8 0 (unless (inLimits h) 9 0 (unless (inSequence h) 19 0 (holds h)))
 
-read-judged : (t : List ℕ) (h : Header) → headerOf (linesFrom 0 [] t) ≡ some h → readHeader t ≡ judged h
+read-validated : (t : List ℕ) (h : Header) → headerOf (linesFrom 0 [] t) ≡ some h → readHeader t ≡ validated h
 unfolding readHeader from? next
-read-judged t h e = ap (λ (o : Option Header). next (from? o 7 0) judged) e
+read-validated t h e = ap (λ (o : Option Header). next (from? o 7 0) validated) e
 
 read-none : (t : List ℕ) → headerOf (linesFrom 0 [] t) ≡ none → readHeader t ≡ fault 7 0
 unfolding readHeader from? next
-read-none t e = ap (λ (o : Option Header). next (from? o 7 0) judged) e
+read-none t e = ap (λ (o : Option Header). next (from? o 7 0) validated) e
 
 begins-header : (t : List ℕ) (h : Header) → headerOf (linesFrom 0 [] t) ≡ some h → Begins HeaderLine t h
 unfolding headerOf
@@ -193,30 +193,30 @@ result : (t : List ℕ) → Result (HeaderHolds t) (HeaderFault t) (readHeader t
 result t = by-option (headerOf (linesFrom 0 [] t)) (λ e. comes (fault 7 0) (read-none t e)
     (refused (seven (λ p. let z : none ≡ some (p .0) = sym e ∙ line-back t (p .0) (p .1) in let y : false ≡ true = cc in false≢true y))))
     (λ h q. let b = begins-header t h q in on (eqb (h .latches) 0) (λ u. on (inLimits h) (λ v. on (inSequence h) (λ w. comes (holds h)
-    (read-judged t h q ∙ unless-yes (eqb (h .latches) 0) 8 0 _ u ∙ unless-yes (inLimits h) 9 0 _ v
+    (read-validated t h q ∙ unless-yes (eqb (h .latches) 0) 8 0 _ u ∙ unless-yes (inLimits h) 9 0 _ v
     ∙ unless-yes (inSequence h) 19 0 (holds h) w)
     (held (record { begins = b; noLatch = eqb-yes u; inLimits = within h v; inSequence = in-sequence h w }))) (λ w. comes (fault 19 0)
-    (read-judged t h q ∙ unless-yes (eqb (h .latches) 0) 8 0 _ u ∙ unless-yes (inLimits h) 9 0 _ v
+    (read-validated t h q ∙ unless-yes (eqb (h .latches) 0) 8 0 _ u ∙ unless-yes (inLimits h) 9 0 _ v
     ∙ unless-no (inSequence h) 19 0 (holds h) w) (refused (nineteen b (eqb-yes u) (within h v) (out-of-sequence h w))))) (λ v. comes
-    (fault 9 0) (read-judged t h q ∙ unless-yes (eqb (h .latches) 0) 8 0 _ u ∙ unless-no (inLimits h) 9 0 _ v)
+    (fault 9 0) (read-validated t h q ∙ unless-yes (eqb (h .latches) 0) 8 0 _ u ∙ unless-no (inLimits h) 9 0 _ v)
     (refused (nine b (eqb-yes u) (without h v)))))
-    (λ u. comes (fault 8 0) (read-judged t h q ∙ unless-no (eqb (h .latches) 0) 8 0 _ u) (refused (eight b (eqb-no u)))))
+    (λ u. comes (fault 8 0) (read-validated t h q ∙ unless-no (eqb (h .latches) 0) 8 0 _ u) (refused (eight b (eqb-no u)))))
   where
     comes : (r : Read Header) → readHeader t ≡ r → Result (HeaderHolds t) (HeaderFault t) r → Result (HeaderHolds t) (HeaderFault t) (readHeader t)
     comes r e x = subst (Result (HeaderHolds t) (HeaderFault t)) (sym e) x
 
 refusals-read : (t : List ℕ) (n k : ℕ) → HeaderFault t n k → readHeader t ≡ fault n k
 refusals-read t n k (seven x) = by-option (headerOf (linesFrom 0 [] t)) (λ e. read-none t e) (λ h q. absurd (x (h, begins-header t h q)))
-refusals-read t n k (eight {h} b x) = read-judged t h (line-back t h b) ∙ unless-no (eqb (h .latches) 0) 8 0 _ (no-eqb x)
+refusals-read t n k (eight {h} b x) = read-validated t h (line-back t h b) ∙ unless-no (eqb (h .latches) 0) 8 0 _ (no-eqb x)
 refusals-read t n k (nine {h} b z x) =
-    read-judged t h (line-back t h b) ∙ unless-yes (eqb (h .latches) 0) 8 0 _ (yes-eqb z) ∙ unless-no (inLimits h) 9 0 _ (not-T (inLimits h) (λ u. within h u x))
+    read-validated t h (line-back t h b) ∙ unless-yes (eqb (h .latches) 0) 8 0 _ (yes-eqb z) ∙ unless-no (inLimits h) 9 0 _ (not-T (inLimits h) (λ u. within h u x))
 refusals-read t n k (nineteen {h} b z y x) =
-    read-judged t h (line-back t h b) ∙ unless-yes (eqb (h .latches) 0) 8 0 _ (yes-eqb z)
+    read-validated t h (line-back t h b) ∙ unless-yes (eqb (h .latches) 0) 8 0 _ (yes-eqb z)
     ∙ unless-yes (inLimits h) 9 0 _ (on (inLimits h) (λ u. u) (λ u. absurd (y (without h u)))) ∙ unless-no (inSequence h) 19 0 (holds h) (not-T (inSequence h) (λ u. in-sequence h u x))
 
 headers-read : (t : List ℕ) (h : Header) → HeaderHolds t h → readHeader t ≡ holds h
 headers-read t h x = cc (
-  read-judged t h (line-back t h (x .begins)),
+  read-validated t h (line-back t h (x .begins)),
   unless-yes (eqb (h .latches) 0) 8 0 _
       (yes-eqb (x .noLatch)),
   unless-yes (inLimits h) 9 0 _ (on (inLimits h) (λ u. u) (λ u. absurd (x .inLimits (without h u)))),

@@ -12,10 +12,10 @@ use Rattle.promises.specs.{twentySeven, LibraryFault, two, atLine, LibraryHolds
 use Rattle.promises.specs.Refusals.{four}
 use Rattle.theory_graph.proofs.{same-eq, same-refl, is-true, is-false, any-each, by-bool, by-option, by-list, by-member}
 use Rattle.theory_text.proofs.{Free, then-out, only-out}
-use Rattle.theory_refusals.proofs.LineForms.{Reads, reads-line, first-split, lines-none, free-above, found-begins, begins-read}
-use Rattle.theory_refusals.proofs.LineForms.{none-begins}
-use Rattle.theory_refusals.proofs.Results.{Result, held, refused, exactly, unless-yes, unless-no, on, next-holds, next-fault}
-use Rattle.theory_refusals.proofs.Results.{next-next, next-same, result-next, result-map, result-as}
+use Rattle.theory_refusals.proofs.LineFormLaws.{Reads, reads-line, first-split, lines-none, free-above, found-begins, begins-read}
+use Rattle.theory_refusals.proofs.LineFormLaws.{none-begins}
+use Rattle.theory_refusals.proofs.ReadResults.{Result, held, refused, exactly, unless-yes, unless-no, on, next-holds, next-fault}
+use Rattle.theory_refusals.proofs.ReadResults.{next-next, next-same, result-next, result-map, result-as}
 use Rattle.theory_refusals.proofs.CellForms.{reads-cell, clean-form, clean-back, ranged-form, ranged-back}
 
 -- ---- the names line
@@ -116,12 +116,12 @@ is-new c cs n = on (isNew c (reverse cs)) (λ t. t) (λ t. absurd (n (old-is c c
 abbrev later : Bool → ℕ → List Cell → List Line → Cell → Read (List Cell)
 later ranged k before ls c = next (readCells ranged (suc k) (c ∷ before) ls) (λ cs. holds (c ∷ cs))
 
-abbrev judged : Bool → ℕ → List Cell → Line → List Line → Cell → Read (List Cell)
-judged ranged k before l ls c =
-    unless (isNew c before) 5 (l .offset) (unless (isClean c) 6 (l .offset) (unless (noLower (c .lows) (c .delays)) 27 (l .offset) (later ranged k before ls c)))
+abbrev validated : Bool → ℕ → List Cell → Line → List Line → Cell → Read (List Cell)
+validated ranged k before l ls c =
+    unless (isNew c before) 5 (l .offset) (unless (isClean c) 6 (l .offset) (unless (noLower (c .mins) (c .delays)) 27 (l .offset) (later ranged k before ls c)))
 
 line-cell : (ranged : Bool) (k : ℕ) (before : List Cell) (l : Line) (ls : List Line) (c : Cell) → k < 32 → cellOfLine ranged l ≡ some c
-    → readCells ranged k before (l ∷ ls) ≡ judged ranged k before l ls c
+    → readCells ranged k before (l ∷ ls) ≡ validated ranged k before l ls c
 unfolding readCells from? next
 line-cell ranged k before l ls c h e = cc (unless-yes (ltb k 32) 3 (l .offset) _ (yes-ltb h))
 
@@ -135,9 +135,9 @@ line-over ranged k before l ls h = unless-no (ltb k 32) 3 (l .offset) _ (not-T (
 
 -- ---- the lines that are accepted
 
-passes : (ranged : Bool) (k : ℕ) (before : List Cell) (l : Line) (ls : List Line) (c : Cell) → T (isNew c before) → T (isClean c) → T (noLower (c .lows) (c .delays))
-    → judged ranged k before l ls c ≡ later ranged k before ls c
-passes ranged k before l ls c a b d = unless-yes (isNew c before) 5 (l .offset) _ a ∙ unless-yes (isClean c) 6 (l .offset) _ b ∙ unless-yes (noLower (c .lows) (c .delays)) 27 (l .offset) _ d
+passes : (ranged : Bool) (k : ℕ) (before : List Cell) (l : Line) (ls : List Line) (c : Cell) → T (isNew c before) → T (isClean c) → T (noLower (c .mins) (c .delays))
+    → validated ranged k before l ls c ≡ later ranged k before ls c
+passes ranged k before l ls c a b d = unless-yes (isNew c before) 5 (l .offset) _ a ∙ unless-yes (isClean c) 6 (l .offset) _ b ∙ unless-yes (noLower (c .mins) (c .delays)) 27 (l .offset) _ d
 
 cells-run : (ranged : Bool) {s : List ℕ} {cs : List Cell} → CellsIn ranged s cs → (rest : List ℕ)
     → readLibrary (s ++ rest) ≡ next (readCells ranged (length cs) (reverse cs) (linesFrom (length s) [] rest)) (λ ds. holds (cs ++ ds))
@@ -190,7 +190,7 @@ line-fault ranged cs at t l ls n e (six {c} few b r x) =
     ∙ unless-no (isClean c) 6 (l .offset) _ (not-T (isClean c) (λ u. x (clean-form c u)))
 line-fault ranged cs at t l ls n e (twentySeven {c} few b r y x) =
     line-cell ranged (length cs) (reverse cs) l ls c few (begins-read (reads-cell ranged) at t l ls e c b) ∙ unless-yes (isNew c (reverse cs)) 5 (l .offset) _ (is-new c cs r)
-    ∙ unless-yes (isClean c) 6 (l .offset) _ (clean-back c y) ∙ unless-no (noLower (c .lows) (c .delays)) 27 (l .offset) _ (not-T (noLower (c .lows) (c .delays)) (λ u. x (ranged-form c u)))
+    ∙ unless-yes (isClean c) 6 (l .offset) _ (clean-back c y) ∙ unless-no (noLower (c .mins) (c .delays)) 27 (l .offset) _ (not-T (noLower (c .mins) (c .delays)) (λ u. x (ranged-form c u)))
 
 refusals-read : (t : List ℕ) (n k : ℕ) → LibraryFault t n k → readLibrary t ≡ fault n k
 unfolding readLibrary readLibraryLines
@@ -210,7 +210,7 @@ unfolding readCells linesFrom
 cells-result ranged [] s rest cs cells e =
     held (subst (λ (x : List ℕ). CellsIn ranged x (cs ++ [])) (sym (append-nil s) ∙ ap (λ (y : List ℕ). s ++ y) (sym (lines-none (length s) rest e))) (subst (CellsIn ranged s) (sym (append-nil cs)) cells))
 cells-result ranged (l ∷ ls) s rest cs cells e =
-    on (ltb (length cs) 32) (λ t. room (ltb-yes t) (cellOfLine ranged l) refl (cells-result ranged ls))
+    on (ltb (length cs) 32) (λ t. capacity (ltb-yes t) (cellOfLine ranged l) refl (cells-result ranged ls))
     (λ t. let n : ¬ (length cs < 32) = (λ h. let q : 32 ≤ length cs = ltb-no t in omega arith) in fails 3 (line-over ranged (length cs) (reverse cs) l ls n) (three n))
   where
     Here : Read (List Cell) → Type 0
@@ -227,14 +227,14 @@ cells-result ranged (l ∷ ls) s rest cs cells e =
     Later = (s′ rest′ : List ℕ) (cs′ : List Cell) → CellsIn ranged s′ cs′ → linesFrom (length s′) [] rest′ ≡ ls
         → Result (λ ds. CellsIn ranged (s′ ++ rest′) (cs′ ++ ds)) (LibraryFault (s′ ++ rest′)) (readCells ranged (length cs′) (reverse cs′) ls)
 
-    room : length cs < 32 → (o : Option Cell) → cellOfLine ranged l ≡ o → Later → Here all
-    room few none f ih = fails 4 (line-none ranged (length cs) (reverse cs) l ls few f) (four few (λ p. let z : none ≡ some (p .0) = sym f
+    capacity : length cs < 32 → (o : Option Cell) → cellOfLine ranged l ≡ o → Later → Here all
+    capacity few none f ih = fails 4 (line-none ranged (length cs) (reverse cs) l ls few f) (four few (λ p. let z : none ≡ some (p .0) = sym f
         ∙ begins-read (reads-cell ranged) (length s) rest l ls e (p .0) (p .1) in let y : false ≡ true = cc in false≢true y))
-    room few (some c) f ih =
+    capacity few (some c) f ih =
         let x = reads-cell ranged .form (length s) rest l ls e c f in
         let b = found-begins (reads-cell ranged) x in
         let is = line-cell ranged (length cs) (reverse cs) l ls c few f in
-        on (isNew c (reverse cs)) (λ t. on (isClean c) (λ u. on (noLower (c .lows) (c .delays)) (λ v.
+        on (isNew c (reverse cs)) (λ t. on (isClean c) (λ u. on (noLower (c .mins) (c .delays)) (λ v.
         let text-is : (s ++ x .front) ++ x .behind ≡ s ++ rest = append-assoc s (x .front) (x .behind) ∙ ap (λ (y : List ℕ). s ++ y)
         (sym (x .whole)) in let r = ih (s ++ x .front) (x .behind) (cs ++ (c ∷ []))
         (aCell cells few (x .is) (new-is c cs t) (clean-form c u) (ranged-form c v)) (cc (length-append s (x .front), x .later)) in
@@ -245,8 +245,8 @@ cells-result ranged (l ∷ ls) s rest cs cells e =
         (λ (n : ℕ) (xs : List Cell). readCells ranged n xs ls)
         (let q : length (cs ++ (c ∷ [])) ≡ suc (length cs) = omega (arith, length-append cs (c ∷ [])) in q)
         (reverse-append cs (c ∷ []))) r))) (λ v. fails 27 (is ∙ unless-yes (isNew c (reverse cs)) 5 (l .offset) _ t
-        ∙ unless-yes (isClean c) 6 (l .offset) _ u ∙ unless-no (noLower (c .lows) (c .delays)) 27 (l .offset) _ v) (twentySeven few b
-        (new-is c cs t) (clean-form c u) (λ h. lib.Dec.T-not (noLower (c .lows) (c .delays)) v (ranged-back ranged (x .is) h))))) (λ u.
+        ∙ unless-yes (isClean c) 6 (l .offset) _ u ∙ unless-no (noLower (c .mins) (c .delays)) 27 (l .offset) _ v) (twentySeven few b
+        (new-is c cs t) (clean-form c u) (λ h. lib.Dec.T-not (noLower (c .mins) (c .delays)) v (ranged-back ranged (x .is) h))))) (λ u.
         fails 6 (is ∙ unless-yes (isNew c (reverse cs)) 5 (l .offset) _ t ∙ unless-no (isClean c) 6 (l .offset) _ u)
         (six few b (new-is c cs t) (λ h. lib.Dec.T-not (isClean c) u (clean-back c h)))))
         (λ t. fails 5 (is ∙ unless-no (isNew c (reverse cs)) 5 (l .offset) _ t) (five few b (old-is c cs t)))

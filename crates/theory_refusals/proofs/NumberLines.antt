@@ -1,13 +1,13 @@
 -- Lines of numbers are read exactly where their bytes have the form.
 use Rattle.base.specs.{ℕ, _<_, arith, _≡_, refl, sym, _∙_, ap, subst, Bool, false, _&&_, Option, some, List, [], _∷_, eqb, lit<, length}
 use Rattle.base.specs.{eqb-yes, yes-eqb}
-use Rattle.model.specs.{andThen, only, Line, fields, numbers, closed, Kind, anInput, anOutput, anAnd, howMany, itemLiterals, lateNumbers}
-use Rattle.promises.specs.{Numbers, NumberFields, NumberLine, joined, Wants, inputWants, outputWants, andWants, DueLine}
+use Rattle.model.specs.{andThen, only, Line, fields, numbers, closed, Kind, anInput, anOutput, anAnd, howMany, itemLiterals, inputArrivalNumbers}
+use Rattle.promises.specs.{Numbers, NumberFields, NumberLine, joined, Wants, inputWants, outputWants, andWants, ExpectedLine}
 use Rattle.theory_graph.proofs.{is-true, by-bool}
 use Rattle.theory_text.proofs.{then-out, only-out, Free}
 use Rattle.theory_refusals.proofs.FieldForms.{joins, numbers-form, numbers-back, numbers-count, numbers-free, fields-joined}
 use Rattle.theory_refusals.proofs.FieldForms.{joined-free}
-use Rattle.theory_refusals.proofs.LineForms.{Reads, reads-line}
+use Rattle.theory_refusals.proofs.LineFormLaws.{Reads, reads-line}
 
 -- so many numbers of a line's contents
 abbrev counted : ℕ → List (List ℕ) → Option (List ℕ)
@@ -46,11 +46,11 @@ reads-numbers isBinary n h = reads-line isBinary (λ w. counted n (fields w)) (N
 
 -- ---- a line of two numbers, of the arrivals
 
-pub reads-late : Reads lateNumbers (NumberLine false 2)
-unfolding lateNumbers
-reads-late = reads-numbers false 2 (lit< tt)
+pub reads-input-arrival : Reads inputArrivalNumbers (NumberLine false 2)
+unfolding inputArrivalNumbers
+reads-input-arrival = reads-numbers false 2 (lit< tt)
 
--- ---- due lines
+-- ---- expected lines
 
 wants : (k : Kind) → Wants k (howMany k)
 unfolding howMany
@@ -70,9 +70,9 @@ some-wanted anInput = lit< tt
 some-wanted anOutput = lit< tt
 some-wanted anAnd = lit< tt
 
-pub reads-due : (isBinary : Bool) (k : Kind) → Reads (itemLiterals (closed isBinary) k) (DueLine isBinary k)
+pub reads-expected : (isBinary : Bool) (k : Kind) → Reads (itemLiterals (closed isBinary) k) (ExpectedLine isBinary k)
 unfolding itemLiterals
-reads-due isBinary k =
+reads-expected isBinary k =
     let r = reads-numbers isBinary (howMany k) (some-wanted k) in
     record {
       form = λ at t l ls e ns f. let x = r .form at t l ls e ns f in

@@ -1,7 +1,7 @@
 -- The texts of a call are read exactly where none of the refusals before 15 applies, and the first that applies comes exactly by its condition.
 use Rattle.base.specs.{ℕ, suc, _+_, _*_, _≤_, _<_, arith, _≡_, refl, sym, _∙_, ap, subst, _⊎_, inl, inr, ⊎-elim, _&&_, List, T, leb, length}
 use Rattle.base.specs.{drop, length-append, and-yes, yes-and, leb-yes, yes-leb, not-le-of-lt}
-use Rattle.model.specs.{need, Read, holds, next, unless, readLibrary, cellsFor, readHeader, readGraph, Late, readArrivals, timedBy, Call}
+use Rattle.model.specs.{need, Read, holds, next, unless, readLibrary, cellsFor, readHeader, readGraph, InputArrival, readArrivals, timedBy, Call}
 use Rattle.model.specs.{Design, designOf, short, readListed, readTexts}
 use Rattle.model.specs.Graph.{Graph}
 use Rattle.model.specs.declared.Cell.{Cell}
@@ -9,7 +9,7 @@ use Rattle.model.specs.declared.Header.{Header}
 use Rattle.promises.specs.{Exactly, LibraryFault, LibraryHolds, HeaderFault, HeaderHolds, GraphFault, GraphIn, ArrivalsFault, ArrivalsHold}
 use Rattle.promises.specs.{Short, ToCells, ToHeader, ToDesign, TextsFault, one, ofLibrary, thirty, ofHeader, ofGraph, ofArrivals}
 use Rattle.promises.specs.Refusals.{ten, Refusals}
-use Rattle.theory_refusals.proofs.Results.{exactly-next, exactly-unless, exactly-map, exactly-holds}
+use Rattle.theory_refusals.proofs.ReadResults.{exactly-next, exactly-unless, exactly-map, exactly-holds}
 use Rattle.theory_refusals.proofs.LibraryForms.{library-exactly}
 use Rattle.theory_refusals.proofs.HeaderForms.{header-exactly}
 use Rattle.theory_refusals.proofs.GraphForms.{graph-exactly}
@@ -50,11 +50,11 @@ module _ (c : Call) where
 
   abbrev Timed : List Cell → Header → Design → Type 0
   Timed cs h d =
-      (g : Graph) × (x : GraphIn (drop (h .next) (c .graph)) h g) × ((es : List Late) × (y : ArrivalsHold (h .inputs) (c .arrivals) es) × (designOf c cs (timedBy g es) ≡ d))
+      (g : Graph) × (x : GraphIn (drop (h .next) (c .graph)) h g) × ((es : List InputArrival) × (y : ArrivalsHold (h .inputs) (c .arrivals) es) × (designOf c cs (timedBy g es) ≡ d))
 
   abbrev Untimed : List Cell → Header → ℕ → ℕ → Type 0
   Untimed cs h n k = GraphFault (drop (h .next) (c .graph)) h n k ⊎ ((g : Graph) × (x : GraphIn (drop (h .next) (c .graph)) h g) ×
-      (ArrivalsFault (h .inputs) (c .arrivals) n k ⊎ ((es : List Late) × (y : ArrivalsHold (h .inputs) (c .arrivals) es) × ⊥)))
+      (ArrivalsFault (h .inputs) (c .arrivals) n k ⊎ ((es : List InputArrival) × (y : ArrivalsHold (h .inputs) (c .arrivals) es) × ⊥)))
 
   abbrev readTimed : List Cell → Header → Read Design
   readTimed cs h = next (readGraph (c .graph) h) (λ g. next (readArrivals (h .inputs) (c .arrivals)) (λ es. holds (designOf c cs (timedBy g es))))
@@ -74,8 +74,8 @@ module _ (c : Call) where
       exactly-next (λ h x d. Words h × Timed cs h d) (λ h x n k. ((¬ Words h) × (n ≡ 10) × (k ≡ 0)) ⊎ (Words h × Untimed cs h n k)) (readHeader (c .graph))
       (λ h. unless (leb (need (h .size) (h .outputs)) (c .words)) 10 0 (readTimed cs h)) (header-exactly (c .graph))
       (λ h x. exactly-unless (Words h) (leb (need (h .size) (h .outputs)) (c .words)) 10 0 (readTimed cs h) (λ t. leb-yes t) (λ y. yes-leb y) (
-      exactly-next (λ g y d. (es : List Late) × (z : ArrivalsHold (h .inputs) (c .arrivals) es) × (designOf c cs (timedBy g es) ≡ d))
-      (λ g y n k. ArrivalsFault (h .inputs) (c .arrivals) n k ⊎ ((es : List Late) × (z : ArrivalsHold (h .inputs) (c .arrivals) es) × ⊥))
+      exactly-next (λ g y d. (es : List InputArrival) × (z : ArrivalsHold (h .inputs) (c .arrivals) es) × (designOf c cs (timedBy g es) ≡ d))
+      (λ g y n k. ArrivalsFault (h .inputs) (c .arrivals) n k ⊎ ((es : List InputArrival) × (z : ArrivalsHold (h .inputs) (c .arrivals) es) × ⊥))
       (readGraph (c .graph) h) (λ g. next (readArrivals (h .inputs) (c .arrivals)) (λ es. holds (designOf c cs (timedBy g es))))
       (graph-exactly (c .graph) h (inside h x)) (λ g y. exactly-next (λ es z d. designOf c cs (timedBy g es) ≡ d) (λ es z n k. ⊥)
       (readArrivals (h .inputs) (c .arrivals)) (λ es. holds (designOf c cs (timedBy g es))) (arrivals-exactly (h .inputs) (c .arrivals))

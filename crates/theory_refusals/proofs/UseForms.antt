@@ -6,8 +6,8 @@ use Rattle.model.specs.{all, elem, Read, holds, fault, next, varOf, Kind, anInp
 use Rattle.model.specs.{checkUses}
 use Rattle.promises.specs.{Exactly, Defining, inputDefines, andDefines, firstVar, DefinedBy, Using, outputUses, andUses, Stray, FirstStray}
 use Rattle.theory_graph.proofs.{is-true, all-of, elem-out, elem-T, by-bool, by-member}
-use Rattle.theory_refusals.proofs.Results.{Result, held, refused, exactly, unless-yes, unless-no, on, next-holds, next-next}
-use Rattle.theory_refusals.proofs.Results.{result-next, result-as}
+use Rattle.theory_refusals.proofs.ReadResults.{Result, held, refused, exactly, unless-yes, unless-no, on, next-holds, next-next}
+use Rattle.theory_refusals.proofs.ReadResults.{result-next, result-as}
 
 -- an input's line has its literal alone
 abbrev pub Shaped : Item → Type 0

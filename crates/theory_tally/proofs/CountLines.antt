@@ -1,4 +1,4 @@
--- The line that is due in a counted netlist: it is taken exactly where its contents have the form, and then what the form says is due.
+-- The line that is expected in a counted netlist: it is taken exactly where its contents have the form, and then what the form says is expected.
 use Rattle.base.specs.{ℕ, zero, suc, _+_, _^_, _≤_, _<_, le-refl, arith, _≡_, refl, sym, _∙_, ap, ap₂, subst, Bool, true, false, not, cond}
 use Rattle.base.specs.{_&&_, some, List, [], _∷_, _++_, map, head-eq-of-cons-eq, tail-eq-of-cons-eq, T, eqb, leb, ltb, lit<, length}
 use Rattle.base.specs.{and-yes, yes-and}
@@ -10,8 +10,8 @@ use Rattle.theory_graph.proofs.{same-eq, same-refl, by-list}
 use Rattle.theory_graph.specs.{libraryFits, cellFits}
 use Rattle.theory_text.proofs.{Free, decimal-free, library-rest}
 use Rattle.theory_refusals.proofs.{decimal-only, digits-form, AllFree, fields-joined, name-form, name-free}
-use Rattle.theory_tally.specs.{AnyDigits, Label, PhaseNet, Pins, output, pin, Labels, noLabel, oneLabel, GateWords}
-use Rattle.theory_tally.proofs.Named.{name-once}
+use Rattle.promises.specs.CountForms.{AnyDigits, Label, PhaseNet, Pins, output, pin, Labels, noLabel, oneLabel, GateWords}
+use Rattle.theory_tally.proofs.NamedGates.{name-once}
 use Rattle.theory_tally.proofs.CountWords.{digits-word, word-digits, label-word, word-label, net-word, word-net, bound-word}
 use Rattle.theory_tally.proofs.CountWords.{word-bound, form-more, form-end, Fit, noField, field, form-fits, line-fits, of-fields}
 use Rattle.theory_tally.proofs.CountWords.{digits-free, label-free, net-free, pins-free, labels-free, word-free}

@@ -7,8 +7,8 @@ use Rattle.promises.specs.{Within, joined}
 use Rattle.theory_graph.proofs.{all-of, all-in}
 use Rattle.theory_text.proofs.{Free, above}
 use Rattle.theory_refusals.proofs.{within-form, within-back, yes-or, AllFree, joins, fields-joined}
-use Rattle.theory_tally.specs.{AnyDigits, someDigits, Label, label, PhaseNet, GateNet, phase, inner, Bound, bound, Pins, output, pin}
-use Rattle.theory_tally.specs.{Labels, noLabel, oneLabel}
+use Rattle.promises.specs.CountForms.{AnyDigits, someDigits, Label, label, PhaseNet, GateNet, phase, inner, Bound, bound, Pins, output, pin}
+use Rattle.promises.specs.CountForms.{Labels, noLabel, oneLabel}
 
 -- ---- digits, labels, nets
 

@@ -3,7 +3,7 @@ use Prim.Native.String.{String}
 use Rattle.base.specs.{ℕ, Bool, true, false, _&&_, none, some, List, [], _∷_, T, eqb}
 use Rattle.model.specs.{all, same, text, holds, fault, readLibrary, cellAt}
 use Rattle.cases.proofs.{library, listing}
-use Rattle.theory_tally.specs.{gatesNaming, Row, readReport, cellRow}
+use Rattle.promises.specs.TallyDemands.{gatesNaming, Row, readReport, cellRow}
 
 -- a netlist with two gates of one cell
 unfoldable pub two : List ℕ

@@ -1,17 +1,17 @@
--- The binary form of a graph's text: its inputs, output lines and ANDs are as lawful as due lines, define 1 to I + A in sequence, and use nothing else.
+-- The binary form of a graph's text: its inputs, output lines and ANDs are as lawful as expected lines, define 1 to I + A in sequence, and use nothing else.
 use Rattle.base.specs.{ℕ, zero, suc, _+_, _-_, _*_, _/_, _≤_, _<_, le-of-eq, arith, _≡_, refl, sym, _∙_, ap, ap₂, subst, _⊎_, inl, inr}
 use Rattle.base.specs.{⊎-elim, Bool, true, false, not, _&&_, List, [], _∷_, _++_, map, List·Memᴰ, List·Memᴰ·head, List·Memᴰ·tail}
 use Rattle.base.specs.{List·Memᴰ·not-nil, List·Memᴰ·cases-cons, List·Memᴰ·append-cases, Memᴰ·append-left, Memᴰ·append-right, map-append}
 use Rattle.base.specs.{cons≢nil, head-eq-of-cons-eq, tail-eq-of-cons-eq, T, eqb, leb, leb→le, le→leb, ltb, ltb→lt, nltb→le, length, getD}
 use Rattle.base.specs.{drop, replicate, and-yes, yes-and, eqb-no, leb-yes}
 use Rattle.model.specs.{from, all, elem, linesFrom, Read, holds, next, unless, varOf, closed, Kind, anInput, anOutput, anAnd, howMany}
-use Rattle.model.specs.{defines, due, Item, readDue, Passed, difference, lessBy, readAnds, behindLines, inputItems, readBinary, uses}
+use Rattle.model.specs.{defines, expected, Item, readExpected, Passed, difference, lessBy, readAnds, behindLines, inputItems, readBinary, uses}
 use Rattle.model.specs.{definedBy, checkUses, Distinct}
 use Rattle.model.specs.declared.Header.{Header}
 use Rattle.theory_graph.proofs.{from-in, from-high, map-out, elem-T, all-of, all-in, is-true, from-low, from-distinct, append-distinct}
 use Rattle.theory_graph.proofs.{by-bool, by-list}
-use Rattle.theory_text.proofs.Steps.{holds-once, unless-out, next-out}
-use Rattle.theory_text.proofs.Items.{head, Good, due-kinds, due-good, Fresh, defined-cons, kindsOf, Lawful}
+use Rattle.theory_text.proofs.ReadSteps.{holds-once, unless-out, next-out}
+use Rattle.theory_text.proofs.GraphItems.{head, Good, expected-kinds, expected-good, Fresh, defined-cons, kindsOf, Lawful}
 
 -- lines whose uses are all known pass
 pub uses-in : (known : List ℕ) (is : List Item) → ((i : Item) → List·Memᴰ i is → T (all (λ (l : ℕ). elem (varOf l) (0 ∷ known)) (uses i))) → checkUses known is ≡ holds is
@@ -46,7 +46,7 @@ less-out isFirst bytes at n p e =
     }
 
 -- "left minus first operand and first minus second": an AND of a variable in a range, its operands' literals below its own
-pub record InTurn (low high : ℕ) (i : Item) : Type 0 where
+pub record InStep (low high : ℕ) (i : Item) : Type 0 where
   pub var : ℕ
   pub first : ℕ
   pub second : ℕ
@@ -62,7 +62,7 @@ record Packed (bytes : List ℕ) (v n : ℕ) (is : List Item) : Type 0 where
   item : Item
   rest : List Item
   behind : ℕ
-  isTurn : InTurn v (suc v) item
+  isStep : InStep v (suc v) item
   isRest : readAnds bytes behind (2 * suc v) n ≡ holds rest
   isList : item ∷ rest ≡ is
 
@@ -76,7 +76,7 @@ and-step bytes at v n is e =
       item = record { kind = anAnd; offset = at; literals = 2 * v ∷ a .0 .number ∷ b .0 .number ∷ [] };
       rest = c .0;
       behind = b .0 .behind;
-      isTurn = record {
+      isStep = record {
         var = v;
         first = a .0 .number;
         second = b .0 .number;
@@ -96,15 +96,15 @@ unfolding readAnds
 ands-kinds bytes at v zero is e = ap kindsOf (sym (holds-once e))
 ands-kinds bytes at v (suc n) is e =
     let s = and-step bytes at v n is e in
-    ap kindsOf (sym (s .isList)) ∙ ap₂ (λ (a : Kind) (b : List Kind). a ∷ b) (s .isTurn .isAnd) (ands-kinds bytes (s .behind) (suc v) n (s .rest) (s .isRest))
+    ap kindsOf (sym (s .isList)) ∙ ap₂ (λ (a : Kind) (b : List Kind). a ∷ b) (s .isStep .isAnd) (ands-kinds bytes (s .behind) (suc v) n (s .rest) (s .isRest))
 
 -- "ANDs follow in sequence"
-ands-turn : (bytes : List ℕ) (at v n : ℕ) (is : List Item) → readAnds bytes at (2 * v) n ≡ holds is → (i : Item) → List·Memᴰ i is → InTurn v (v + n) i
+ands-step : (bytes : List ℕ) (at v n : ℕ) (is : List Item) → readAnds bytes at (2 * v) n ≡ holds is → (i : Item) → List·Memᴰ i is → InStep v (v + n) i
 unfolding readAnds
-ands-turn bytes at v zero is e i m = absurd (List·Memᴰ·not-nil (subst (λ (js : List Item). List·Memᴰ i js) (sym (holds-once e)) m))
-ands-turn bytes at v (suc n) is e i m =
+ands-step bytes at v zero is e i m = absurd (List·Memᴰ·not-nil (subst (λ (js : List Item). List·Memᴰ i js) (sym (holds-once e)) m))
+ands-step bytes at v (suc n) is e i m =
     let s : Packed bytes v n is = and-step bytes at v n is e in
-    let wider : (low high : ℕ) (j : Item) → v ≤ low → high ≤ v + suc n → InTurn low high j → InTurn v
+    let wider : (low high : ℕ) (j : Item) → v ≤ low → high ≤ v + suc n → InStep low high j → InStep v
     (v + suc n) j = λ low high j a b t. record {
       var = t .var;
       first = t .first;
@@ -116,22 +116,22 @@ ands-turn bytes at v (suc n) is e i m =
       less = t .less;
       lesser = t .lesser;
     } in
-    ⊎-elim (λ q. wider v (suc v) i (omega arith) (omega arith) (subst (InTurn v (suc v)) (sym q) (s .isTurn)))
-    (λ k. wider (suc v) (suc v + n) i (omega arith) (omega arith) (ands-turn bytes (s .behind) (suc v) n (s .rest) (s .isRest) i k))
+    ⊎-elim (λ q. wider v (suc v) i (omega arith) (omega arith) (subst (InStep v (suc v)) (sym q) (s .isStep)))
+    (λ k. wider (suc v) (suc v + n) i (omega arith) (omega arith) (ands-step bytes (s .behind) (suc v) n (s .rest) (s .isRest) i k))
     (List·Memᴰ·cases-cons (subst (λ (js : List Item). List·Memᴰ i js) (sym (s .isList)) m))
 
-pub turn-head : (low high : ℕ) (i : Item) (t : InTurn low high i) → head i ≡ t .var
+pub step-head : (low high : ℕ) (i : Item) (t : InStep low high i) → head i ≡ t .var
 unfolding varOf
-turn-head low high i t = ap (λ (ns : List ℕ). varOf (getD ns 0 0)) (t .isLiterals) ∙ (let q : 2 * t .var / 2 ≡ t .var = omega arith in q)
+step-head low high i t = ap (λ (ns : List ℕ). varOf (getD ns 0 0)) (t .isLiterals) ∙ (let q : 2 * t .var / 2 ≡ t .var = omega arith in q)
 
 ands-defined : (bytes : List ℕ) (at v n : ℕ) (is : List Item) → readAnds bytes at (2 * v) n ≡ holds is → definedBy is ≡ from v n
 unfolding readAnds definedBy from defines
 ands-defined bytes at v zero is e = ap definedBy (sym (holds-once e))
 ands-defined bytes at v (suc n) is e =
     let s = and-step bytes at v n is e in
-    let t = s .isTurn in
+    let t = s .isStep in
     ap definedBy (sym (s .isList)) ∙ defined-cons true (s .item) (s .rest) (ap defines (t .isAnd)) ∙ ap₂ (λ (a : ℕ) (b : List ℕ). a ∷ b)
-    (turn-head v (suc v) (s .item) t ∙ (omega (arith, t .atLeast, t .below)))
+    (step-head v (suc v) (s .item) t ∙ (omega (arith, t .atLeast, t .below)))
     (ands-defined bytes (s .behind) (suc v) n (s .rest) (s .isRest))
 
 -- variables 1 to I
@@ -163,7 +163,7 @@ outputs-defined (suc n) (i ∷ is) e = defined-cons false i is (ap defines (head
 pub record Binary (bytes : List ℕ) (h : Header) (is : List Item) : Type 0 where
   pub outs : List Item
   pub gates : List Item
-  pub isOuts : readDue (closed true) (length bytes) (h .size) [] (replicate (h .outputs) anOutput) (linesFrom (h .next) [] (drop (h .next) bytes)) ≡ holds outs
+  pub isOuts : readExpected (closed true) (length bytes) (h .size) [] (replicate (h .outputs) anOutput) (linesFrom (h .next) [] (drop (h .next) bytes)) ≡ holds outs
   pub isGates : (at : ℕ) × (readAnds bytes at (2 * suc (h .inputs)) (h .ands) ≡ holds gates)
   pub isItems : inputItems h ++ (outs ++ gates) ≡ is
 
@@ -171,13 +171,13 @@ pub binary-parts : (bytes : List ℕ) (h : Header) (is : List Item) → readBina
 unfolding readBinary
 binary-parts bytes h is e =
     let ls = linesFrom (h .next) [] (drop (h .next) bytes) in
-    let a = next-out (readDue (closed true) (length bytes) (h .size) [] (replicate (h .outputs) anOutput) ls) _ is e in
+    let a = next-out (readExpected (closed true) (length bytes) (h .size) [] (replicate (h .outputs) anOutput) ls) _ is e in
     let b = next-out (readAnds bytes (behindLines (h .next) (h .outputs) ls) (2 * suc (h .inputs)) (h .ands)) _ is (a .2) in
     record { outs = a .0; gates = b .0; isOuts = a .1; isGates = (behindLines (h .next) (h .outputs) ls, b .1); isItems = holds-once (b .2) }
 
 module _ (bytes : List ℕ) (h : Header) (is : List Item) (s : Binary bytes h is) where
   pub outs-kinds : kindsOf (s .outs) ≡ replicate (h .outputs) anOutput
-  outs-kinds = due-kinds (closed true) (length bytes) (h .size) [] (replicate (h .outputs) anOutput) (linesFrom (h .next) [] (drop (h .next) bytes)) (s .outs) (s .isOuts)
+  outs-kinds = expected-kinds (closed true) (length bytes) (h .size) [] (replicate (h .outputs) anOutput) (linesFrom (h .next) [] (drop (h .next) bytes)) (s .outs) (s .isOuts)
 
   -- "Inputs are variables 1 to I and ANDs follow in sequence."
   pub binary-defined : definedBy is ≡ from 1 (h .inputs) ++ from (suc (h .inputs)) (h .ands)
@@ -188,14 +188,14 @@ module _ (bytes : List ℕ) (h : Header) (is : List Item) (s : Binary bytes h is
       (ands-defined bytes (s .isGates .0) (suc (h .inputs)) (h .ands) (s .gates) (s .isGates .1)))
 
   -- and in turn
-  pub binary-turns : (i : Item) → List·Memᴰ i (s .gates) → InTurn (suc (h .inputs)) (suc (h .inputs) + h .ands) i
-  binary-turns = ands-turn bytes (s .isGates .0) (suc (h .inputs)) (h .ands) (s .gates) (s .isGates .1)
+  pub binary-steps : (i : Item) → List·Memᴰ i (s .gates) → InStep (suc (h .inputs)) (suc (h .inputs) + h .ands) i
+  binary-steps = ands-step bytes (s .isGates .0) (suc (h .inputs)) (h .ands) (s .gates) (s .isGates .1)
 
   binary-good : h .inputs + h .ands ≤ h .size → (i : Item) → List·Memᴰ i is → Good (h .size) i
   unfolding inputItems howMany all
   binary-good fit i m = ⊎-elim (λ n. let o = map-out (inputItem (h .next)) (from 1 (h .inputs)) n in input (o .0) (o .1) (o .2)) (λ q.
-      ⊎-elim (due-good (closed true) (length bytes) (h .size) [] (replicate (h .outputs) anOutput)
-      (linesFrom (h .next) [] (drop (h .next) bytes)) (s .outs) (s .isOuts) i) (λ e. gate (binary-turns i e))
+      ⊎-elim (expected-good (closed true) (length bytes) (h .size) [] (replicate (h .outputs) anOutput)
+      (linesFrom (h .next) [] (drop (h .next) bytes)) (s .outs) (s .isOuts) i) (λ e. gate (binary-steps i e))
       (List·Memᴰ·append-cases (s .outs) q)) (List·Memᴰ·append-cases (inputItems h) (rw (s .isItems) m))
     where
       input : (v : ℕ) → List·Memᴰ v (from 1 (h .inputs)) → i ≡ inputItem (h .next) v → Good (h .size) i
@@ -203,7 +203,7 @@ module _ (bytes : List ℕ) (h : Header) (is : List Item) (s : Binary bytes h is
           subst (Good (h .size)) (sym q)
           (record { long = refl; low = yes-and (leb (2 * v) (2 * h .size + 1)) true (le→leb (2 * v) (2 * h .size + 1) (let u = from-high (h .inputs) 1 v n in omega (arith, u))) tt })
 
-      gate : InTurn (suc (h .inputs)) (suc (h .inputs) + h .ands) i → Good (h .size) i
+      gate : InStep (suc (h .inputs)) (suc (h .inputs) + h .ands) i → Good (h .size) i
       gate t = record {
         long = ap length (t .isLiterals) ∙ sym (ap howMany (t .isAnd));
         low = subst (λ (ns : List ℕ). T (all (λ (n : ℕ). leb n (2 * h .size + 1)) ns)) (sym (t .isLiterals))
@@ -215,7 +215,7 @@ module _ (bytes : List ℕ) (h : Header) (is : List Item) (s : Binary bytes h is
   -- what the binary form has is lawful
   pub binary-lawful : h .inputs + h .ands ≤ h .size → Lawful h is
   binary-lawful fit = record {
-    kinds = unfold inputItems due in ap kindsOf (sym (s .isItems)) ∙ map-append (λ (i : Item). i .kind) (inputItems h) (s .outs ++ s .gates)
+    kinds = unfold inputItems expected in ap kindsOf (sym (s .isItems)) ∙ map-append (λ (i : Item). i .kind) (inputItems h) (s .outs ++ s .gates)
         ∙ ap₂ (λ (xs ys : List Kind). xs ++ ys) (inputs-kinds (h .next) (h .inputs) 1)
         (map-append (λ (i : Item). i .kind) (s .outs) (s .gates) ∙ ap₂ (λ (xs ys : List Kind). xs ++ ys) outs-kinds
         (ands-kinds bytes (s .isGates .0) (suc (h .inputs)) (h .ands) (s .gates) (s .isGates .1)));

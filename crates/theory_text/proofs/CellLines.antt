@@ -7,7 +7,7 @@ use Rattle.model.specs.{noLower, isShorter, isLonger, readCells, readLibraryLin
 use Rattle.model.specs.{SameLines, SameCells}
 use Rattle.model.specs.declared.Cell.{Cell}
 use Rattle.theory_graph.proofs.{map-in, map-out, by-bool, by-member}
-use Rattle.theory_text.proofs.Steps.{holds-once, fault-never, unless-out, next-out, from-out, then-out, only-out}
+use Rattle.theory_text.proofs.ReadSteps.{holds-once, fault-never, unless-out, next-out, from-out, then-out, only-out}
 
 -- the cell of a line's bytes
 abbrev cellOfBytes : Bool → List ℕ → Option Cell
@@ -50,7 +50,7 @@ first-line ranged k before l ls cs e =
     let c = b .0 in
     let d = unless-out (not (any (λ (x : Cell). same (nameOf c) (nameOf x)) before)) 5 (l .offset) _ cs (b .2) in
     let f = unless-out (isClean c) 6 (l .offset) _ cs (d .1) in
-    let g = unless-out (noLower (c .lows) (c .delays)) 27 (l .offset) _ cs (f .1) in
+    let g = unless-out (noLower (c .mins) (c .delays)) 27 (l .offset) _ cs (f .1) in
     let h = next-out (readCells ranged (suc k) (c ∷ before) ls) (λ xs. holds (c ∷ xs)) cs (g .1) in
     record { first = c; rest = h .0; isFirst = line-bytes ranged l c (from-out (cellOfLine ranged l) 4 (l .offset) c (b .1)); isRest = h .1; isList = holds-once (h .2) }
 

@@ -3,7 +3,7 @@ use Rattle.base.specs.{ℕ, suc, _+_, arith, _≡_, refl, sym, _∙_, ap, ap₂
 use Rattle.base.specs.{append-assoc, append-nil, eqb, length, length-reverse}
 use Rattle.model.specs.{Line, nextOf, closing, linesFrom, onto, split, fields}
 use Rattle.theory_graph.proofs.{by-bool}
-use Rattle.theory_text.proofs.Plain.{Free}
+use Rattle.theory_text.proofs.PlainLines.{Free}
 
 -- one byte more: byte 10 closes the line
 pub lines-step : (at : ℕ) (held : List ℕ) (b : ℕ) (l : List ℕ)

@@ -11,7 +11,7 @@ use Rattle.model.specs.Blif.{Blif, gateOf}
 use Rattle.model.specs.declared.Cell.{Cell}
 use Rattle.model.specs.declared.Figures.{Figures}
 use Rattle.theory_graph.proofs.{map-map, map-same, is-true, is-false, from-low}
-use Rattle.theory_text.proofs.Plain.{Free, above, free-append, decimal-free, net-free, label-free, Plain, plain, name-plain}
+use Rattle.theory_text.proofs.PlainLines.{Free, above, free-append, decimal-free, net-free, label-free, Plain, plain, name-plain}
 
 -- ---- parts
 

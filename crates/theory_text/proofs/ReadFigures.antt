@@ -7,7 +7,7 @@ use Rattle.model.specs.{digitsFrom, figure, behindEnd, readFigureWords, readFig
 use Rattle.model.specs.Graph.{Graph}
 use Rattle.model.specs.declared.Figures.{Figures}
 use Rattle.theory_graph.proofs.{is-true}
-use Rattle.theory_text.proofs.Plain.{above, decimal-free}
+use Rattle.theory_text.proofs.PlainLines.{above, decimal-free}
 use Rattle.theory_text.proofs.LineLaws.{fields-word, fields-last}
 use Rattle.theory_text.proofs.ReadBack.{body, bodyOf, figuresLine, namesOf, inputNames, outputNames, wireBody, wireBodies, linesOf}
 use Rattle.theory_text.proofs.ReadBack.{text-lines}

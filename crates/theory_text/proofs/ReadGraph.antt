@@ -1,21 +1,21 @@
--- A graph that is read is in the limits, and accepted if all its ANDs can be placed.
+-- A graph that is read is in the limits, and accepted if all its ANDs can be ordered.
 use Rattle.base.specs.{ℕ, zero, suc, _+_, _*_, _≤_, _<_, le-of-suc-le-suc, not-suc-le-zero, arith, _≡_, refl, sym, _∙_, ap, ap₂, subst}
 use Rattle.base.specs.{⊎-elim, Bool, true, false, not, cond, _&&_, _||_, false≢true, List, [], _∷_, _++_, map, List·Memᴰ, List·Memᴰ·not-nil}
 use Rattle.base.specs.{List·Memᴰ·cases-cons, List·Memᴰ·append-cases, List·Memᴰ·eq-of-singleton, Memᴰ·cast, cons≢nil, nil≢cons}
 use Rattle.base.specs.{head-eq-of-cons-eq, tail-eq-of-cons-eq, T, eqb, leb, leb→le, le→leb, lit<, not-T, length, getD, drop, replicate}
 use Rattle.base.specs.{length-append, length-map, and-yes, yes-and, eqb-yes, leb-yes}
-use Rattle.model.specs.{all, elem, keep, each, linesFrom, holds, next, from?, And, varOf, unplaced, andVars, closed, headerOf, inLimits}
-use Rattle.model.specs.{inSequence, readHeader, Kind, anInput, anOutput, anAnd, howMany, defines, due, Item, readItems, uses, definedBy}
+use Rattle.model.specs.{all, elem, keep, each, linesFrom, holds, next, from?, And, varOf, unordered, andVars, closed, headerOf, inLimits}
+use Rattle.model.specs.{inSequence, readHeader, Kind, anInput, anOutput, anAnd, howMany, defines, expected, Item, readItems, uses, definedBy}
 use Rattle.model.specs.{checkUses, sameKind, isKind, graphOf, readGraph, Distinct}
 use Rattle.model.specs.Graph.{Graph}
 use Rattle.model.specs.declared.Header.{Header}
 use Rattle.theory_graph.proofs.{map-out, keep-out, each-out, elem-out, map-map, getD-in, all-of, all-in, is-true, keep-append, by-bool}
 use Rattle.theory_graph.proofs.{by-list, by-nat, by-member}
-use Rattle.theory_graph.specs.Accepted.{Accepted}
+use Rattle.theory_graph.specs.AcceptedGraph.{Accepted}
 use Rattle.theory_graph.specs.{distinct}
 use Rattle.theory_text.specs.{LowLiterals, GraphFits}
-use Rattle.theory_text.proofs.Steps.{holds-once, unless-out, next-out}
-use Rattle.theory_text.proofs.Items.{head, Good, defined-cons, kindsOf, Lawful, due-lawful}
+use Rattle.theory_text.proofs.ReadSteps.{holds-once, unless-out, next-out}
+use Rattle.theory_text.proofs.GraphItems.{head, Good, defined-cons, kindsOf, Lawful, expected-lawful}
 use Rattle.theory_text.proofs.Binary.{binary-parts, binary-lawful}
 
 -- the AND of a line
@@ -114,19 +114,19 @@ use-in i k e h n b later = rw e (go (defines k) (i .literals) (omega arith) late
 
 -- ---- the graph
 
--- what is known of a graph that is read, whether or not its ANDs can be placed: every variable is defined once, none is 0, all are in range, and what
+-- what is known of a graph that is read, whether or not its ANDs can be ordered: every variable is defined once, none is 0, all are in range, and what
 -- is used is defined
 pub record Known (g : Graph) : Type 0 where
   pub once : Distinct (0 ∷ g .inputs ++ andVars g)
   pub inRange : (v : ℕ) → List·Memᴰ v (g .inputs ++ andVars g) → v ≤ g .size
   pub used : (l : ℕ) → List·Memᴰ l (g .outputs ++ each (λ (a : And). a .left ∷ a .right ∷ []) (g .ands)) → List·Memᴰ (varOf l) (0 ∷ g .inputs ++ andVars g)
 
-known-accepted : (g : Graph) → Known g → unplaced g ≡ [] → Accepted g
+known-accepted : (g : Graph) → Known g → unordered g ≡ [] → Accepted g
 known-accepted g k p = record {
   defined = once-distinct (0 ∷ g .inputs ++ andVars g) (k .once);
   inRange = all-in (λ (v : ℕ). leb v (g .size)) (g .inputs ++ andVars g) (λ x m. le→leb x (g .size) (k .inRange x m));
   used = k .used;
-  placed = p;
+  ordered = p;
 }
 
 module _ (h : Header) (is : List Item) (lawful : Lawful h is)
@@ -135,7 +135,7 @@ module _ (h : Header) (is : List Item) (lawful : Lawful h is)
   whole = graphOf (h .size) is
 
   vars : whole .inputs ++ andVars whole ≡ definedBy is
-  unfolding graphOf due
+  unfolding graphOf expected
   vars = cc (map-map (λ (a : And). a .var) andOf (keep (isKind anAnd) is), of-all (h .inputs) (h .outputs) (h .ands) is (lawful .kinds))
 
   -- a literal that a line of kind k has at place n is of a variable that is defined, or 0
@@ -178,10 +178,10 @@ unfolding keep isKind
 count-kinds k [] = refl
 count-kinds k (i ∷ is) = by-bool (sameKind k (i .kind)) (λ e. cc (count-kinds k is)) (λ q. cc (count-kinds k is))
 
-count-due : (k : Kind) (h : Header) (is : List Item) → Lawful h is
+count-expected : (k : Kind) (h : Header) (is : List Item) → Lawful h is
     → length (keep (isKind k) is) ≡ cond (sameKind k anInput) (h .inputs) 0 + (cond (sameKind k anOutput) (h .outputs) 0 + cond (sameKind k anAnd) (h .ands) 0)
-unfolding due
-count-due k h is e = count-kinds k is ∙ ap (λ (ks : List Kind). length (keep (sameKind k) ks)) (e .kinds)
+unfolding expected
+count-expected k h is e = count-kinds k is ∙ ap (λ (ks : List Kind). length (keep (sameKind k) ks)) (e .kinds)
     ∙ both (replicate (h .inputs) anInput) (replicate (h .outputs) anOutput ++ replicate (h .ands) anAnd)
     ∙ ap₂ _+_ (keep-replicate (sameKind k) (h .inputs) anInput) (both (replicate (h .outputs) anOutput) (replicate (h .ands) anAnd)
     ∙ ap₂ _+_ (keep-replicate (sameKind k) (h .outputs) anOutput) (keep-replicate (sameKind k) (h .ands) anAnd))
@@ -234,7 +234,7 @@ record Lines (bytes : List ℕ) (h : Header) (g : Graph) : Type 0 where
 items-lawful : (bytes : List ℕ) (h : Header) (is : List Item) → h .inputs + h .ands ≤ h .size → readItems bytes h ≡ holds is → Lawful h is
 unfolding readItems
 items-lawful bytes h is fit e = by-bool (h .binary) (λ q. binary-lawful bytes h is (binary-parts bytes h is (rw q at e)) fit)
-    (λ p. due-lawful (closed false) (length bytes) h (linesFrom (h .next) [] (drop (h .next) bytes)) is (rw p at e))
+    (λ p. expected-lawful (closed false) (length bytes) h (linesFrom (h .next) [] (drop (h .next) bytes)) is (rw p at e))
 
 graph-lines : (bytes : List ℕ) (h : Header) (g : Graph) → readHeader bytes ≡ holds h → readGraph bytes h ≡ holds g → Lines bytes h g
 unfolding readGraph
@@ -252,8 +252,8 @@ graph-lines bytes h g d e =
 pub graph-known : (bytes : List ℕ) (h : Header) (g : Graph) → readHeader bytes ≡ holds h → readGraph bytes h ≡ holds g → Known g
 graph-known bytes h g d e = let s = graph-lines bytes h g d e in subst Known (s .isGraph) (graph-is-known h (s .items) (s .isLawful) (s .isUsed))
 
--- a graph text that is read gives, if all its ANDs can be placed, an accepted graph
-pub graph-accepted : (bytes : List ℕ) (h : Header) (g : Graph) → readHeader bytes ≡ holds h → readGraph bytes h ≡ holds g → unplaced g ≡ [] → Accepted g
+-- a graph text that is read gives, if all its ANDs can be ordered, an accepted graph
+pub graph-accepted : (bytes : List ℕ) (h : Header) (g : Graph) → readHeader bytes ≡ holds h → readGraph bytes h ≡ holds g → unordered g ≡ [] → Accepted g
 graph-accepted bytes h g d e p = known-accepted g (graph-known bytes h g d e) p
 
 -- a graph has the numbers of its header
@@ -269,19 +269,19 @@ graph-counted bytes h g d e =
     let s = graph-lines bytes h g d e in
     subst (Counted h) (s .isGraph) (record {
       size = refl;
-      inputs = length-map (keep (isKind anInput) (s .items)) head ∙ (let q = count-due anInput h (s .items) (s .isLawful) in omega (arith, q));
-      outputs = length-map (keep (isKind anOutput) (s .items)) (λ (i : Item). getD (i .literals) 0 0) ∙ (let q = count-due anOutput h (s .items) (s .isLawful) in omega (arith, q));
+      inputs = length-map (keep (isKind anInput) (s .items)) head ∙ (let q = count-expected anInput h (s .items) (s .isLawful) in omega (arith, q));
+      outputs = length-map (keep (isKind anOutput) (s .items)) (λ (i : Item). getD (i .literals) 0 0) ∙ (let q = count-expected anOutput h (s .items) (s .isLawful) in omega (arith, q));
       ands = length-map (keep (isKind anAnd) (s .items)) andOf
-          ∙ (let q = count-due anAnd h (s .items) (s .isLawful) in omega (arith, q));
+          ∙ (let q = count-expected anAnd h (s .items) (s .isLawful) in omega (arith, q));
     })
 
 -- a graph's text says nothing of arrivals: every input arrives at 0
-pub graph-untimed : (bytes : List ℕ) (h : Header) (g : Graph) → readGraph bytes h ≡ holds g → (λ (v : ℕ). 0) ≡ g .late
+pub graph-untimed : (bytes : List ℕ) (h : Header) (g : Graph) → readGraph bytes h ≡ holds g → (λ (v : ℕ). 0) ≡ g .inputArrival
 unfolding readGraph graphOf
 graph-untimed bytes h g e =
     let a = next-out (readItems bytes h) (λ is. next (checkUses (definedBy is) is) (λ js. holds (graphOf (h .size) js))) g e in
     let b = next-out (checkUses (definedBy (a .0)) (a .0)) (λ js. holds (graphOf (h .size) js)) g (a .2) in
-    ap (λ (x : Graph). x .late) (holds-once (b .2))
+    ap (λ (x : Graph). x .inputArrival) (holds-once (b .2))
 
 pub graph-low : (bytes : List ℕ) (h : Header) (g : Graph) → readHeader bytes ≡ holds h → readGraph bytes h ≡ holds g → LowLiterals g
 unfolding graphOf howMany

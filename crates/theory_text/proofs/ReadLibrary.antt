@@ -9,9 +9,9 @@ use Rattle.model.specs.{readLibrary}
 use Rattle.model.specs.declared.Cell.{Cell}
 use Rattle.theory_graph.proofs.{same-eq, same-refl, any-each, getD-in, all-in, is-false, by-member, by-bool}
 use Rattle.theory_graph.specs.{cellFits, libraryFits}
-use Rattle.theory_text.proofs.Steps.{holds-once, fault-never, unless-out, from-out, next-out, then-out, only-out, numbers-length}
-use Rattle.theory_text.proofs.Steps.{numbers-small}
-use Rattle.theory_text.proofs.Plain.{name-short}
+use Rattle.theory_text.proofs.ReadSteps.{holds-once, fault-never, unless-out, from-out, next-out, then-out, only-out, numbers-length}
+use Rattle.theory_text.proofs.ReadSteps.{numbers-small}
+use Rattle.theory_text.proofs.PlainLines.{name-short}
 
 -- ---- a cell
 
@@ -24,7 +24,7 @@ made ranged ws ns table = record {
   table = table;
   area = getD ns 1 0;
   delays = take 4 (drop 2 ns);
-  lows = drop (cond ranged 6 2) ns;
+  mins = drop (cond ranged 6 2) ns;
 }
 
 -- its name is the line's first field
@@ -42,8 +42,8 @@ pub record Written (c : Cell) : Type 0 where
   pub area : c .area ≤ 65535
   pub four : length (c .delays) ≡ 4
   pub delays : (d : ℕ) → List·Memᴰ d (c .delays) → d ≤ 65535
-  pub fourLows : length (c .lows) ≡ 4
-  pub lows : (d : ℕ) → List·Memᴰ d (c .lows) → d ≤ 65535
+  pub fourMins : length (c .mins) ≡ 4
+  pub mins : (d : ℕ) → List·Memᴰ d (c .mins) → d ≤ 65535
 
 made-written : (ranged : Bool) (ws : List (List ℕ)) (ns : List ℕ) (table : ℕ) → length ws ≡ cond ranged 12 8 → T (isName (getD ws 0 [])) → numbers (getD ws 1 [] ∷ drop 3 ws) ≡ some ns → T (leb (getD ns 0 0) 4)
     → Written (made ranged ws ns table)
@@ -63,8 +63,8 @@ made-written ranged ws ns table eight named read few =
       area = small (getD ns 1 0) (getD-in ns 1 0 (omega (arith, many)));
       four = four-left (drop 2 ns) (omega (arith, many, length-drop 2 ns));
       delays = λ d m. small d (behind 2 ns d (front 4 (drop 2 ns) d m));
-      fourLows = lows-four ranged count;
-      lows = λ d m. small d (behind (cond ranged 6 2) ns d m);
+      fourMins = mins-four ranged count;
+      mins = λ d m. small d (behind (cond ranged 6 2) ns d m);
     }
   where
     count : length ns ≡ cond ranged 10 6
@@ -74,9 +74,9 @@ made-written ranged ws ns table eight named read few =
     many : 6 ≤ length ns
     many = by-bool ranged (λ e. omega (arith, rw e at count)) (λ q. omega (arith, rw q at count))
 
-    lows-four : (r : Bool) → length ns ≡ cond r 10 6 → length (drop (cond r 6 2) ns) ≡ 4
-    lows-four true e = omega (arith, length-drop 6 ns)
-    lows-four false e = omega (arith, length-drop 2 ns)
+    mins-four : (r : Bool) → length ns ≡ cond r 10 6 → length (drop (cond r 6 2) ns) ≡ 4
+    mins-four true e = omega (arith, length-drop 6 ns)
+    mins-four false e = omega (arith, length-drop 2 ns)
 
 line-written : (ranged : Bool) (l : Line) (c : Cell) → cellOfLine ranged l ≡ some c → Written c
 unfolding cellOfLine
@@ -97,7 +97,7 @@ unfolding isClean cellFits
 written-fits c w t =
     yes-and (isName (nameOf c)) (leb (c .pins) 4 && (ltb (c .table) (2 ^ 2 ^ c .pins) && eqb (length (c .delays)) 4)) (w .isNamed)
     (yes-and (leb (c .pins) 4) (ltb (c .table) (2 ^ 2 ^ c .pins) && eqb (length (c .delays)) 4) (yes-leb (w .pins))
-    (yes-and (ltb (c .table) (2 ^ 2 ^ c .pins)) (eqb (length (c .delays)) 4) (and-yes (ltb (c .table) (2 ^ 2 ^ c .pins)) (all (eqb 0) (drop (c .pins) (c .delays)) && all (eqb 0) (drop (c .pins) (c .lows))) t .0) (yes-eqb (w .four))))
+    (yes-and (ltb (c .table) (2 ^ 2 ^ c .pins)) (eqb (length (c .delays)) 4) (and-yes (ltb (c .table) (2 ^ 2 ^ c .pins)) (all (eqb 0) (drop (c .pins) (c .delays)) && all (eqb 0) (drop (c .pins) (c .mins))) t .0) (yes-eqb (w .four))))
 
 -- ---- the lines
 
@@ -105,10 +105,10 @@ written-fits c w t =
 record Step (ranged : Bool) (k : ℕ) (before : List Cell) (l : Line) (ls : List Line) (cs : List Cell) : Type 0 where
   first : Cell
   rest : List Cell
-  isRoom : k < 32
+  isCapacity : k < 32
   isWritten : Written first
   isClean′ : T (isClean first)
-  isRange : T (noLower (first .lows) (first .delays))
+  isRange : T (noLower (first .mins) (first .delays))
   isNew : T (not (any (λ (d : Cell). same (nameOf first) (nameOf d)) before))
   isRest : readCells ranged (suc k) (first ∷ before) ls ≡ holds rest
   isList : first ∷ rest ≡ cs
@@ -121,9 +121,9 @@ read-step ranged k before l ls cs e =
     let c = b .0 in
     let d = unless-out (not (any (λ (x : Cell). same (nameOf c) (nameOf x)) before)) 5 (l .offset) _ cs (b .2) in
     let f = unless-out (isClean c) 6 (l .offset) _ cs (d .1) in
-    let r = unless-out (noLower (c .lows) (c .delays)) 27 (l .offset) _ cs (f .1) in
+    let r = unless-out (noLower (c .mins) (c .delays)) 27 (l .offset) _ cs (f .1) in
     let h = next-out (readCells ranged (suc k) (c ∷ before) ls) (λ xs. holds (c ∷ xs)) cs (r .1) in
-    record { first = c; rest = h .0; isRoom = ltb→lt k 32 (a .0); isWritten = line-written ranged l c (from-out (cellOfLine ranged l) 4 (l .offset) c (b .1)); isClean′ = f .0; isRange = r .0; isNew = d .0; isRest = h .1; isList = holds-once (h .2) }
+    record { first = c; rest = h .0; isCapacity = ltb→lt k 32 (a .0); isWritten = line-written ranged l c (from-out (cellOfLine ranged l) 4 (l .offset) c (b .1)); isClean′ = f .0; isRange = r .0; isNew = d .0; isRest = h .1; isList = holds-once (h .2) }
 
 any-not : (p : Cell → Bool) (xs : List Cell) → T (not (any p xs)) → (x : Cell) → List·Memᴰ x xs → T (not (p x))
 any-not p xs t x m = subst (λ (b : Bool). T (not b)) (sym (any-each p xs (is-false (any p xs) t) x m)) tt
@@ -168,7 +168,7 @@ unfolding readCells
 read-few ranged k before [] cs h e = subst (λ (xs : List Cell). k + length xs ≤ 32) (holds-once e) (omega arith)
 read-few ranged k before (l ∷ ls) cs h e =
     let s = read-step ranged k before l ls cs e in
-    let r : suc k + length (s .rest) ≤ 32 = read-few ranged (suc k) (s .first ∷ before) ls (s .rest) (s .isRoom) (s .isRest) in
+    let r : suc k + length (s .rest) ≤ 32 = read-few ranged (suc k) (s .first ∷ before) ls (s .rest) (s .isCapacity) (s .isRest) in
     subst (λ (xs : List Cell). k + length xs ≤ 32) (s .isList) (omega arith)
 
 -- the lines behind the names line are the cells'
@@ -196,15 +196,15 @@ unfolding readLibrary
 library-written bytes cells e = let q = library-lines (linesFrom 0 [] bytes) cells e in read-written (q .0) 0 [] (q .1) cells (q .2)
 
 -- and no lowest delay is over its delay
-read-ranged : (ranged : Bool) (k : ℕ) (before : List Cell) (ls : List Line) (cs : List Cell) → readCells ranged k before ls ≡ holds cs → (c : Cell) → List·Memᴰ c cs → T (noLower (c .lows) (c .delays))
+read-ranged : (ranged : Bool) (k : ℕ) (before : List Cell) (ls : List Line) (cs : List Cell) → readCells ranged k before ls ≡ holds cs → (c : Cell) → List·Memᴰ c cs → T (noLower (c .mins) (c .delays))
 unfolding readCells
 read-ranged ranged k before [] cs e c m = absurd (List·Memᴰ·not-nil (subst (λ (xs : List Cell). List·Memᴰ c xs) (sym (holds-once e)) m))
 read-ranged ranged k before (l ∷ ls) cs e c m =
     let s = read-step ranged k before l ls cs e in
     by-member (subst (λ (xs : List Cell). List·Memᴰ c xs) (sym (s .isList)) m)
-    (λ q. subst (λ (x : Cell). T (noLower (x .lows) (x .delays))) (sym q) (s .isRange))
+    (λ q. subst (λ (x : Cell). T (noLower (x .mins) (x .delays))) (sym q) (s .isRange))
     (read-ranged ranged (suc k) (s .first ∷ before) ls (s .rest) (s .isRest) c)
 
-pub library-ranged : (bytes : List ℕ) (cells : List Cell) → readLibrary bytes ≡ holds cells → (c : Cell) → List·Memᴰ c cells → T (noLower (c .lows) (c .delays))
+pub library-ranged : (bytes : List ℕ) (cells : List Cell) → readLibrary bytes ≡ holds cells → (c : Cell) → List·Memᴰ c cells → T (noLower (c .mins) (c .delays))
 unfolding readLibrary
 library-ranged bytes cells e = let q = library-lines (linesFrom 0 [] bytes) cells e in read-ranged (q .0) 0 [] (q .1) cells (q .2)

@@ -1,15 +1,15 @@
--- Texts that are read give a library that fits and a graph that is in the limits, and accepted if all its ANDs can be placed.
+-- Texts that are read give a library that fits and a graph that is in the limits, and accepted if all its ANDs can be ordered.
 use Rattle.base.specs.{ℕ, _≤_, arith, _≡_, refl, sym, _∙_, ap, subst, Bool, false, _&&_, List, [], List·Memᴰ, T, leb, le→leb, length}
 use Rattle.base.specs.{and-yes, leb-yes}
-use Rattle.model.specs.{need, holds, next, unless, readLibrary, isRanged, isClean, noLower, cellsFor, readHeader, readGraph, Late}
-use Rattle.model.specs.{readArrivals, timedBy, unplaced, Call, Design, designOf, short, readListed, readTexts}
+use Rattle.model.specs.{need, holds, next, unless, readLibrary, isRanged, isClean, noLower, cellsFor, readHeader, readGraph, InputArrival}
+use Rattle.model.specs.{readArrivals, timedBy, unordered, Call, Design, designOf, short, readListed, readTexts}
 use Rattle.model.specs.Graph.{Graph}
 use Rattle.model.specs.declared.Cell.{Cell}
 use Rattle.model.specs.declared.Header.{Header}
-use Rattle.theory_graph.proofs.{is-true, timed-accepted, timed-unplaced, by-read}
-use Rattle.theory_graph.specs.Accepted.{Accepted}
+use Rattle.theory_graph.proofs.{is-true, timed-accepted, timed-unordered, by-read}
+use Rattle.theory_graph.specs.AcceptedGraph.{Accepted}
 use Rattle.theory_graph.specs.{libraryFits}
-use Rattle.theory_text.proofs.Steps.{holds-once, unless-out, next-out}
+use Rattle.theory_text.proofs.ReadSteps.{holds-once, unless-out, next-out}
 use Rattle.theory_text.proofs.ReadLibrary.{Written, library-fits, library-few, library-written, library-ranged}
 use Rattle.theory_text.specs.{GraphFits}
 use Rattle.theory_text.proofs.ReadGraph.{graph-accepted, graph-fits}
@@ -42,9 +42,9 @@ pub record Texts (c : Call) (d : Design) : Type 0 where
   pub meant : Graph
   pub isGraph : readGraph (c .graph) header ≡ holds meant
   pub shortArrivals : length (c .arrivals) ≤ 65536
-  pub late : List Late
-  pub isLate : readArrivals (header .inputs) (c .arrivals) ≡ holds late
-  pub isTimed : timedBy meant late ≡ d .graph
+  pub inputArrival : List InputArrival
+  pub isInputArrival : readArrivals (header .inputs) (c .arrivals) ≡ holds inputArrival
+  pub isTimed : timedBy meant inputArrival ≡ d .graph
 
 pub texts-read : (c : Call) (d : Design) → readTexts c ≡ holds d → Texts c d
 unfolding readTexts
@@ -71,13 +71,13 @@ texts-read c d e =
       meant = g .0;
       isGraph = g .1;
       shortArrivals = leb-yes (q .1);
-      late = t .0;
-      isLate = t .1;
+      inputArrival = t .0;
+      isInputArrival = t .1;
       isTimed = refl;
     })
 
 -- the limits say nothing of arrivals
-pub timed-fits : (g : Graph) (es : List Late) → GraphFits g → GraphFits (timedBy g es)
+pub timed-fits : (g : Graph) (es : List InputArrival) → GraphFits g → GraphFits (timedBy g es)
 unfolding timedBy
 timed-fits g es f = record { size = f .size; outputs = f .outputs; variables = f .variables; low = record { outputs = f .low .outputs; lefts = f .low .lefts; rights = f .low .rights } }
 
@@ -90,16 +90,16 @@ module _ (c : Call) (d : Design) (e : readTexts c ≡ holds d) where
   design-written = library-written (c .library) (d .listed) (texts-read c d e .isLibrary)
 
   -- and of 27
-  pub design-ranged : (k : Cell) → List·Memᴰ k (d .listed) → T (noLower (k .lows) (k .delays))
+  pub design-ranged : (k : Cell) → List·Memᴰ k (d .listed) → T (noLower (k .mins) (k .delays))
   design-ranged = library-ranged (c .library) (d .listed) (texts-read c d e .isLibrary)
 
   -- the graph is free of refusals 9 and 12
   pub design-graph : GraphFits (d .graph)
-  design-graph = let t = texts-read c d e in subst GraphFits (t .isTimed) (timed-fits (t .meant) (t .late) (graph-fits (c .graph) (t .header) (t .meant) (t .isHeader) (t .isGraph)))
+  design-graph = let t = texts-read c d e in subst GraphFits (t .isTimed) (timed-fits (t .meant) (t .inputArrival) (graph-fits (c .graph) (t .header) (t .meant) (t .isHeader) (t .isGraph)))
 
-  -- and of 13 to 15, if all its ANDs can be placed
-  pub design-accepted : unplaced (d .graph) ≡ [] → Accepted (d .graph)
+  -- and of 13 to 15, if all its ANDs can be ordered
+  pub design-accepted : unordered (d .graph) ≡ [] → Accepted (d .graph)
   design-accepted p =
       let t = texts-read c d e in
-      subst Accepted (t .isTimed) (timed-accepted (t .meant) (t .late)
-      (graph-accepted (c .graph) (t .header) (t .meant) (t .isHeader) (t .isGraph) (sym (timed-unplaced (t .meant) (t .late)) ∙ ap unplaced (t .isTimed) ∙ p)))
+      subst Accepted (t .isTimed) (timed-accepted (t .meant) (t .inputArrival)
+      (graph-accepted (c .graph) (t .header) (t .meant) (t .isHeader) (t .isGraph) (sym (timed-unordered (t .meant) (t .inputArrival)) ∙ ap unordered (t .isTimed) ∙ p)))

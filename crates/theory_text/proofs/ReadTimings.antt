@@ -4,7 +4,7 @@ use Rattle.model.specs.{same, andThen, only, text, decimal, parts, fields, spli
 use Rattle.model.specs.{timingLines, TimingLine, readTimingWords, readTimingLines, behindFigures, readTimings}
 use Rattle.model.specs.Graph.{Graph}
 use Rattle.model.specs.declared.Figures.{Figures}
-use Rattle.theory_text.proofs.Plain.{Free, above, free-append, decimal-free}
+use Rattle.theory_text.proofs.PlainLines.{Free, above, free-append, decimal-free}
 use Rattle.theory_text.proofs.LineLaws.{fields-word, fields-last}
 use Rattle.theory_text.proofs.ReadBack.{parts-line, body, bodyOf, figuresLine, namesOf, inputNames, outputNames, wireBody}
 use Rattle.theory_text.proofs.ReadBack.{wireBodies, linesOf, text-lines}

@@ -1,3 +1,3 @@
--- `Fits`: a graph in the limits.
-pub mod Fits
-pub use Fits.{GraphFits, LowLiterals}
+-- `TextFits`: a graph in the limits.
+pub mod TextFits
+pub use TextFits.{GraphFits, LowLiterals}

@@ -1,4 +1,4 @@
-//! What the documents and include/mapper.h promise of every call, whatever the texts are,
+//! What the documents and include/arraymap.h promise of every call, whatever the texts are,
 //! asked of the mapper under test alone: its answers are held against each other, against
 //! what they leave in memory and against the lines that it prints. No other mapper has a
 //! say, so that any text can be tried, and any number of them.
@@ -216,12 +216,12 @@ fn header(graph: &[u8]) -> Option<[usize; 3]> {
     }
 }
 
-/// MAPPER_WORDS, or 0 where the header is one that is refused.
+/// ARRAYMAP_WORDS, or 0 where the header is one that is refused.
 fn words_needed(graph: &[u8]) -> usize {
     header(graph).map_or(0, |[m, _, o]| WORDS_EACH * (m + 1) + o)
 }
 
-/// MAPPER_TEXT or MAPPER_TEXT_PAIRS.
+/// ARRAYMAP_TEXT or ARRAYMAP_TEXT_PAIRS.
 fn bytes_enough(graph: &[u8], pairs: bool) -> usize {
     header(graph).map_or(0, |[m, _, o]| if pairs { 182 } else { 116 } * (m + 1) + 72 * o + 128)
 }
@@ -289,7 +289,7 @@ fn around(rng: &mut Rng, one: &One, pairs: bool, counts: &mut Counts) -> Result<
         return Ok((answer, netlist));
     }
     #[cfg(feature = "ours")]
-    ensure!(mapper::words_needed(one.graph) == need, "the binding says {} words", mapper::words_needed(one.graph));
+    ensure!(arraymap::words_needed(one.graph) == need, "the binding says {} words", arraymap::words_needed(one.graph));
     again(need - 1, enough, refused(10, 0))?;
     again(0, 0, refused(10, 0))?;
     again(need + 7, enough + 9, (answer, netlist.clone()))?;

@@ -23,49 +23,49 @@ mod archive {
     use crate::reference::Answer;
     use crate::two::Channel;
 
-    fn answered(mapper::Answer { number, value, gates, area, arrival }: mapper::Answer) -> Answer {
+    fn answered(arraymap::Answer { number, value, gates, area, arrival }: arraymap::Answer) -> Answer {
         Answer { number: number as u32, value: value as u32, gates, area, arrival }
     }
 
-    fn both(mapper::AnswerTwo { first, second }: mapper::AnswerTwo) -> [Answer; 2] {
+    fn both(arraymap::AnswerTwo { first, second }: arraymap::AnswerTwo) -> [Answer; 2] {
         [first, second].map(answered)
     }
 
     pub fn map(cells: &[u8], graph: &[u8], arrivals: &[u8], work: &mut [u16], text: &mut [u8]) -> Answer {
-        answered(mapper::call(cells, graph, arrivals, work, text))
+        answered(arraymap::call(cells, graph, arrivals, work, text))
     }
 
     pub fn map_pairs(cells: &[u8], graph: &[u8], arrivals: &[u8], work: &mut [u16], text: &mut [u8]) -> Answer {
-        answered(mapper::call_pairs(cells, graph, arrivals, work, text))
+        answered(arraymap::call_pairs(cells, graph, arrivals, work, text))
     }
 
     pub fn map_two(cells: &[u8], channels: [Channel; 2], work: &mut [u16], texts: [&mut [u8]; 2]) -> [Answer; 2] {
-        let [first, second] = channels.map(|Channel { graph, arrivals }| mapper::Channel { graph, arrivals });
+        let [first, second] = channels.map(|Channel { graph, arrivals }| arraymap::Channel { graph, arrivals });
         let [text1, text2] = texts;
-        both(mapper::call_two(cells, first, second, work, text1, text2))
+        both(arraymap::call_two(cells, first, second, work, text1, text2))
     }
 
     pub fn map_two_pairs(cells: &[u8], channels: [Channel; 2], work: &mut [u16], texts: [&mut [u8]; 2]) -> [Answer; 2] {
-        let [first, second] = channels.map(|Channel { graph, arrivals }| mapper::Channel { graph, arrivals });
+        let [first, second] = channels.map(|Channel { graph, arrivals }| arraymap::Channel { graph, arrivals });
         let [text1, text2] = texts;
-        both(mapper::call_two_pairs(cells, first, second, work, text1, text2))
+        both(arraymap::call_two_pairs(cells, first, second, work, text1, text2))
     }
 
     pub fn cells(genlib: &[u8], text: &mut [u8]) -> Answer {
-        answered(mapper::call_cells(genlib, text))
+        answered(arraymap::call_cells(genlib, text))
     }
 
     pub fn count(cells: &[u8], netlist: &[u8], tally: &mut [u64]) -> Answer {
-        answered(mapper::call_count(cells, netlist, tally))
+        answered(arraymap::call_count(cells, netlist, tally))
     }
 
     pub fn report(cells: &[u8], tally: &[u64], text: &mut [u8]) -> Answer {
-        answered(mapper::call_report(cells, tally, text))
+        answered(arraymap::call_report(cells, tally, text))
     }
 
     /// The verdict and its two numbers.
     pub fn check(cells: &[u8], graph: &[u8], netlist: &[u8], work: &mut [u16]) -> [u64; 3] {
-        let mapper::AnswerChecked { verdict, first, second } = mapper::call_check(cells, graph, netlist, work);
+        let arraymap::AnswerChecked { verdict, first, second } = arraymap::call_check(cells, graph, netlist, work);
         [verdict, first, second]
     }
 }

@@ -1,7 +1,7 @@
-//! What include/mapper.h says of every array of every call: null is one of no elements, and
+//! What include/arraymap.h says of every array of every call: null is one of no elements, and
 //! texts that are only read may share memory. The same from C is in calls.c.
 
-use mapper::{Answer, AnswerChecked, AnswerTwo, Channel};
+use arraymap::{Answer, AnswerChecked, AnswerTwo, Channel};
 use std::ptr::{null, null_mut};
 
 const CELLS: &[u8] = b"cell pins table area d0 d1 d2 d3\ninv 1 0001 1 10 0 0 0\nnand2 2 0007 2 20 20 0 0\n";
@@ -13,10 +13,10 @@ const BYTES: usize = 600;
 
 /// The calls with the pointers that C hands over. A slice of Rust is never null.
 mod raw {
-    use mapper::{Answer, AnswerChecked, AnswerTwo};
+    use arraymap::{Answer, AnswerChecked, AnswerTwo};
 
     extern "C" {
-        pub fn mapper_map(
+        pub fn arraymap_map(
             cells: *const u8,
             cells_len: usize,
             graph: *const u8,
@@ -28,7 +28,7 @@ mod raw {
             text: *mut u8,
             text_len: usize,
         ) -> Answer;
-        pub fn mapper_map_pairs(
+        pub fn arraymap_map_pairs(
             cells: *const u8,
             cells_len: usize,
             graph: *const u8,
@@ -40,7 +40,7 @@ mod raw {
             text: *mut u8,
             text_len: usize,
         ) -> Answer;
-        pub fn mapper_map_two(
+        pub fn arraymap_map_two(
             cells: *const u8,
             cells_len: usize,
             graph1: *const u8,
@@ -58,7 +58,7 @@ mod raw {
             text2: *mut u8,
             text2_len: usize,
         ) -> AnswerTwo;
-        pub fn mapper_map_two_pairs(
+        pub fn arraymap_map_two_pairs(
             cells: *const u8,
             cells_len: usize,
             graph1: *const u8,
@@ -76,7 +76,7 @@ mod raw {
             text2: *mut u8,
             text2_len: usize,
         ) -> AnswerTwo;
-        pub fn mapper_check(
+        pub fn arraymap_check(
             cells: *const u8,
             cells_len: usize,
             graph: *const u8,
@@ -86,8 +86,8 @@ mod raw {
             work: *mut u16,
             work_len: usize,
         ) -> AnswerChecked;
-        pub fn mapper_cells(genlib: *const u8, genlib_len: usize, text: *mut u8, text_len: usize) -> Answer;
-        pub fn mapper_count(
+        pub fn arraymap_cells(genlib: *const u8, genlib_len: usize, text: *mut u8, text_len: usize) -> Answer;
+        pub fn arraymap_count(
             cells: *const u8,
             cells_len: usize,
             netlist: *const u8,
@@ -95,7 +95,7 @@ mod raw {
             tally: *mut u64,
             tally_len: usize,
         ) -> Answer;
-        pub fn mapper_report(
+        pub fn arraymap_report(
             cells: *const u8,
             cells_len: usize,
             tally: *const u64,
@@ -123,7 +123,7 @@ fn map(pairs: bool, texts: [&[u8]; 3], words: usize, bytes: usize) -> Answer {
     let [(cells, n), (graph, m), (arrivals, k)] = texts.map(of);
     let (mut work, mut text) = (vec![7; words], vec![7; bytes]);
     let ((work, w), (text, t)) = (memory(&mut work), memory(&mut text));
-    let map = if pairs { raw::mapper_map_pairs } else { raw::mapper_map };
+    let map = if pairs { raw::arraymap_map_pairs } else { raw::arraymap_map };
     // Each pointer comes with its own length.
     unsafe { map(cells, n, graph, m, arrivals, k, work, w, text, t) }
 }
@@ -134,7 +134,7 @@ fn map_two(pairs: bool, cells: &[u8], texts: [&[u8]; 4], words: usize, bytes: [u
     let (work, w) = memory(&mut work);
     let mut texts = bytes.map(|bytes| vec![7; bytes]);
     let [(text1, t1), (text2, t2)] = texts.each_mut().map(|text| memory(text));
-    let map = if pairs { raw::mapper_map_two_pairs } else { raw::mapper_map_two };
+    let map = if pairs { raw::arraymap_map_two_pairs } else { raw::arraymap_map_two };
     // As above.
     unsafe { map(cells, n, graph1, m1, arrivals1, k1, graph2, m2, arrivals2, k2, work, w, text1, t1, text2, t2) }
 }
@@ -144,31 +144,31 @@ fn check(texts: [&[u8]; 3], words: usize) -> AnswerChecked {
     let mut work = vec![7; words];
     let (work, w) = memory(&mut work);
     // As above.
-    unsafe { raw::mapper_check(cells, n, graph, m, netlist, k, work, w) }
+    unsafe { raw::arraymap_check(cells, n, graph, m, netlist, k, work, w) }
 }
 
 fn cells(genlib: &[u8], bytes: usize) -> Answer {
     let ((genlib, n), mut text) = (of(genlib), vec![7; bytes]);
     let (text, t) = memory(&mut text);
     // As above.
-    unsafe { raw::mapper_cells(genlib, n, text, t) }
+    unsafe { raw::arraymap_cells(genlib, n, text, t) }
 }
 
 fn count(cells: &[u8], netlist: &[u8], mut tally: Vec<u64>) -> Answer {
     let ((cells, n), (netlist, m), (tally, k)) = (of(cells), of(netlist), memory(&mut tally));
     // As above.
-    unsafe { raw::mapper_count(cells, n, netlist, m, tally, k) }
+    unsafe { raw::arraymap_count(cells, n, netlist, m, tally, k) }
 }
 
 fn report(cells: &[u8], mut tally: Vec<u64>, bytes: usize) -> Answer {
     let ((cells, n), (tally, k), mut text) = (of(cells), memory(&mut tally), vec![7; bytes]);
     let (text, t) = memory(&mut text);
     // As above.
-    unsafe { raw::mapper_report(cells, n, tally, k, text, t) }
+    unsafe { raw::arraymap_report(cells, n, tally, k, text, t) }
 }
 
 fn netlist() -> Vec<u8> {
-    mapper::map(CELLS, GRAPH, b"").expect("case B").text.into_bytes()
+    arraymap::map(CELLS, GRAPH, b"").expect("case B").text.into_bytes()
 }
 
 #[test]
@@ -234,7 +234,7 @@ fn texts_that_are_only_read_may_share_memory() {
     let (graph, cells) = (&all[netlist.len()..], &all[netlist.len() + GRAPH.len() + LATE.len()..]);
     let late = &graph[GRAPH.len()..][..LATE.len()];
     let lent = || (vec![7; 4 * WORDS], vec![7; BYTES], vec![7; BYTES]);
-    for map in [mapper::call, mapper::call_pairs] {
+    for map in [arraymap::call, arraymap::call_pairs] {
         let by = |[cells, graph, arrivals]: [&[u8]; 3]| {
             let (mut work, mut text, _) = lent();
             (map(cells, graph, arrivals, &mut work, &mut text), work, text)
@@ -245,7 +245,7 @@ fn texts_that_are_only_read_may_share_memory() {
             alike([cells, one, one], by);
         }
     }
-    for map in [mapper::call_two, mapper::call_two_pairs] {
+    for map in [arraymap::call_two, arraymap::call_two_pairs] {
         let by = |[cells, graph1, arrivals1, graph2, arrivals2]: [&[u8]; 5]| {
             let (mut work, mut text1, mut text2) = lent();
             let first = Channel { graph: graph1, arrivals: arrivals1 };
@@ -259,14 +259,14 @@ fn texts_that_are_only_read_may_share_memory() {
     }
     let by = |[cells, graph, netlist]: [&[u8]; 3]| {
         let (mut work, _, _) = lent();
-        (mapper::call_check(cells, graph, netlist, &mut work), work)
+        (arraymap::call_check(cells, graph, netlist, &mut work), work)
     };
     assert_eq!(alike([cells, graph, &all], by).0, AnswerChecked { verdict: 0, first: 0, second: 0 });
     alike([&all; 3], by);
     alike([cells; 3], by);
     let by = |[cells, netlist]: [&[u8]; 2]| {
         let mut tally = vec![0; 97];
-        (mapper::call_count(cells, netlist, &mut tally), tally)
+        (arraymap::call_count(cells, netlist, &mut tally), tally)
     };
     assert_eq!(alike([cells, &all[..netlist.len()]], by).0.number, 0);
     assert_eq!(alike([cells, cells], by).0, refused(29, 0));
@@ -275,6 +275,6 @@ fn texts_that_are_only_read_may_share_memory() {
     let tally = [0; 97];
     let bytes = unsafe { std::slice::from_raw_parts(tally.as_ptr().cast::<u8>(), 8 * tally.len()) };
     let mut text = vec![7; BYTES];
-    assert_eq!(mapper::call_report(bytes, &tally, &mut text), refused(2, 0));
+    assert_eq!(arraymap::call_report(bytes, &tally, &mut text), refused(2, 0));
     assert_eq!(text, vec![7; BYTES]);
 }

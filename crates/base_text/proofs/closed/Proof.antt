@@ -1,7 +1,7 @@
 -- `base_text::closed` meets its contract: each return knows what stands behind the digits.
 use Rattle.base.specs.{needs, sym, _∙_, ⊎-elim, eqb-true, eqb-false, not-true, not-false}
-use Rattle.base_text.proofs.Words.{word-step, word-space, word-line, word-out}
-use Rattle.base_text.proofs.Runs.{closed-none, closed-some}
+use Rattle.base_text.proofs.TextWords.{word-step, word-space, word-line, word-out}
+use Rattle.base_text.proofs.ByteRuns.{closed-none, closed-some}
 use Rattle.base_text.proofs.closed.Statement.{statement}
 use Rattle.base_text.proofs.closed.Tie as tie
 

@@ -1,6 +1,6 @@
 -- `base_text::digits_at` meets its contract. The invariant: the bytes so far are digits, of value n, to which the rest adds; the measure is what is left.
 use Rattle.base.specs.{needs, sym, _∙_, _-_, length}
-use Rattle.base_text.proofs.Runs.{Run, run-first, run-on, run-large, run-other, run-closed, run-end}
+use Rattle.base_text.proofs.ByteRuns.{Run, run-first, run-on, run-large, run-other, run-closed, run-end}
 use Rattle.base_text.proofs.digits_at.Statement.{statement}
 use Rattle.base_text.proofs.digits_at.Tie as tie
 

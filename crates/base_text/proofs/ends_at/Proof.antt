@@ -1,6 +1,6 @@
 -- `base_text::ends_at` meets its contract: each return knows the bytes that stand there.
 use Rattle.base.specs.{needs, arith, sym, ⊎-elim, _-_, length, ltb-true, ltb-false}
-use Rattle.base_text.proofs.Words.{end-out, end-ten, end-other, end-last, end-alone, end-both}
+use Rattle.base_text.proofs.TextWords.{end-out, end-ten, end-other, end-last, end-alone, end-both}
 use Rattle.base_text.proofs.ends_at.Statement.{statement}
 use Rattle.base_text.proofs.ends_at.Tie as tie
 

@@ -1,7 +1,7 @@
 -- `base_text::field_end` meets its contract. The invariant: the field from here on ends where that from the start does; the measure is what is left of the text.
 use Rattle.base.specs.{needs, _≡_, refl, sym, _∙_, ⊎-elim, _-_, length, eqb-true, eqb-false, not-true, not-false}
 use Rattle.base_text.specs.{endAt}
-use Rattle.base_text.proofs.Words.{word-space, word-line, word-out, end-none, end-step}
+use Rattle.base_text.proofs.TextWords.{word-space, word-line, word-out, end-none, end-step}
 use Rattle.base_text.proofs.field_end.Statement.{statement}
 use Rattle.base_text.proofs.field_end.Tie as tie
 

@@ -1,6 +1,6 @@
 -- `base_text::is_name` meets its contract: each return knows what was met in the field.
 use Rattle.base.specs.{needs, sym, _∙_, eq-eqb, lt-leb}
-use Rattle.base_text.proofs.Names.{name-empty, name-long, name-first, name-rest}
+use Rattle.base_text.proofs.NameBytes.{name-empty, name-long, name-first, name-rest}
 use Rattle.base_text.proofs.is_name.Statement.{statement}
 use Rattle.base_text.proofs.is_name.Tie as tie
 

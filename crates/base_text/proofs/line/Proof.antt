@@ -1,7 +1,7 @@
 -- `base_text::line` meets its contract. The invariant: the line from here on stops where that from the start does; the measure is what is left of the text.
 use Rattle.base.specs.{needs, _≡_, refl, sym, ap, _∙_, ℕ, _+_, _-_, arith, length}
 use Rattle.base_text.specs.{spanAt}
-use Rattle.base_text.proofs.Words.{end-fits}
+use Rattle.base_text.proofs.TextWords.{end-fits}
 use Rattle.base_text.proofs.Spans.{span-stop, span-out, span-step}
 use Rattle.base_text.proofs.line.Statement.{statement}
 use Rattle.base_text.proofs.line.Tie as tie

@@ -1,6 +1,6 @@
 -- `base_text::name_bytes` meets its contract: bytes put over eight zeros leave zeros behind them.
 use Rattle.base.specs.{needs, _∙_}
-use Rattle.base_text.proofs.Names.{name-put}
+use Rattle.base_text.proofs.NameBytes.{name-put}
 use Rattle.base_text.proofs.name_bytes.Statement.{statement}
 use Rattle.base_text.proofs.name_bytes.Tie as tie
 

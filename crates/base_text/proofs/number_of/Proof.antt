@@ -1,7 +1,7 @@
 -- `base_text::number_of` meets its contract: each return knows what number was found, and whether its field is all of the text.
 use Rattle.base.specs.{needs, sym, ap, _∙_}
 use Rattle.base_text.specs.{valueOf}
-use Rattle.base_text.proofs.Runs.{whole-is, whole-not, whole-none}
+use Rattle.base_text.proofs.ByteRuns.{whole-is, whole-not, whole-none}
 use Rattle.base_text.proofs.number_of.Statement.{statement}
 use Rattle.base_text.proofs.number_of.Tie as tie
 

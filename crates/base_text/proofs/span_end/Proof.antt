@@ -1,7 +1,7 @@
 -- `base_text::span_end` meets its contract. The invariant: from here on the bytes pass up to where they do from the start; the measure is what is left.
 use Rattle.base.specs.{needs, not-true, not-false, _≡_, refl, sym, _∙_, _-_, length}
 use Rattle.base_text.specs.{inClass, spanEnd}
-use Rattle.base_text.proofs.Classes.{class-stop, class-step, class-out}
+use Rattle.base_text.proofs.ByteClassLaws.{class-stop, class-step, class-out}
 use Rattle.base_text.proofs.span_end.Statement.{statement}
 use Rattle.base_text.proofs.span_end.Tie as tie
 

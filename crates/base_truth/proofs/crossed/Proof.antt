@@ -3,7 +3,7 @@ use Rattle.base.specs.{_≡_, ap, _∙_, ℕ, _-_, _*_, _/_, _%_, _^_, _<_, ari
 use Rattle.model.specs.{phaseTable}
 use Rattle.base_truth.specs.{leafTable, crossed}
 use Rattle.base_truth.proofs.Tables.{power}
-use Rattle.base_truth.proofs.Turning.{shifted, kept, crossed-rows}
+use Rattle.base_truth.proofs.PermutedTables.{shifted, kept, crossed-rows}
 use Rattle.base_truth.proofs.crossed.Statement.{statement}
 use Rattle.base_truth.proofs.crossed.Tie as tie
 

@@ -3,7 +3,7 @@ use Rattle.base.specs.{_≡_, sym, ap, _∙_, Bool, cond, ℕ, _/_, _%_, _^_, a
 use Rattle.model.specs.{bit, value}
 use Rattle.base_truth.specs.{placesOf, crossed, crossedAt}
 use Rattle.base_truth.proofs.Tables.{value-shift}
-use Rattle.base_truth.proofs.Variants.{place-small}
+use Rattle.base_truth.proofs.VariantTables.{place-small}
 use Rattle.base_truth.proofs.crossed_at.Statement.{statement}
 use Rattle.base_truth.proofs.crossed_at.Tie as tie
 

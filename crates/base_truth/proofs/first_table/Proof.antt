@@ -3,8 +3,8 @@ use Rattle.base.specs.{_≡_, refl, sym, ap, _∙_, Bool, List, map, ℕ, zero,
 use Rattle.base.specs.{add-suc, suc-add, arith, xor-zero-r, getD}
 use Rattle.model.specs.{one, from, below, value, rowMap, pinRow, tabulate}
 use Rattle.base_truth.specs.{placesOf, variantTable}
-use Rattle.base_truth.proofs.Downward.{rowsFrom, down, rows-small, rows-whole}
-use Rattle.base_truth.proofs.Variants.{pin-row, places-four}
+use Rattle.base_truth.proofs.RowDescent.{rowsFrom, down, rows-small, rows-whole}
+use Rattle.base_truth.proofs.VariantTables.{pin-row, places-four}
 use Rattle.base_truth.proofs.first_table.Statement.{statement}
 use Rattle.base_truth.proofs.first_table.Tie as tie
 
@@ -41,8 +41,8 @@ unfolding cell
 loop-again c =
     let s = c .before .before .before .before .before .before in let a = s .args in let l = c .before .before .before .before .loop in
     let f : ℕ → Bool = cell (a .pins) (a .table) (a .order) in
-    let here : c .before .before .wide .result % 2 ^ a .pins ≡ pinRow (a .pins) (placesOf (a .order)) 0 (l .r - 1) =
-    ap (λ (q : ℕ). q % 2 ^ a .pins) (c .before .before .wide .ensures) ∙ row-of (a .pins) (a .order) (l .r - 1) (c .before .before .before .before .before .rows .result) (s .pre .0) (s .pre .1) (omega (arith, l .inv .0, c .before .before .before .loop-test .taken)) (c .before .before .before .before .before .rows .ensures) in
+    let here : c .before .before .index-of .result % 2 ^ a .pins ≡ pinRow (a .pins) (placesOf (a .order)) 0 (l .r - 1) =
+    ap (λ (q : ℕ). q % 2 ^ a .pins) (c .before .before .index-of .ensures) ∙ row-of (a .pins) (a .order) (l .r - 1) (c .before .before .before .before .before .rows .result) (s .pre .0) (s .pre .1) (omega (arith, l .inv .0, c .before .before .before .loop-test .taken)) (c .before .before .before .before .before .rows .ensures) in
     let now : c .with-row .result ≡ one (f (l .r - 1)) + 2 * l .t =
     c .with-row .ensures ∙ ap (λ (q : Bool). one q + 2 * l .t) (c .before .value-at .ensures ∙ ap (value (a .table)) here) in
     (omega (arith, l .inv .0), now ∙ down 16 f (l .r) (l .t) (omega arith) (l .inv .0) (l .inv .1))

@@ -2,7 +2,7 @@
 use Rattle.base.specs.{arith, needs}
 use Rattle.model.specs.{bit}
 use Rattle.base_truth.proofs.Tables.{one-bit}
-use Rattle.base_truth.proofs.Nets.{literal-one}
+use Rattle.base_truth.proofs.PinNets.{literal-one}
 use Rattle.base_truth.proofs.masked.Statement.{statement}
 use Rattle.base_truth.proofs.masked.Tie as tie
 

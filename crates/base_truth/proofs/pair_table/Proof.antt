@@ -2,8 +2,8 @@
 use Rattle.base.specs.{_≡_, sym, ap, _∙_, Bool, map, ℕ, _+_, _-_, _*_, _%_, _^_, _≤_, arith, pow-mono, shl-exact}
 use Rattle.model.specs.{one, bit, below, pairPins, pairValue, pairTable}
 use Rattle.model.specs.declared.Cell.{Cell}
-use Rattle.base_truth.proofs.Downward.{rowsFrom, down, rows-small, rows-none, rows-whole}
-use Rattle.base_truth.proofs.Pairs.{pair-row}
+use Rattle.base_truth.proofs.RowDescent.{rowsFrom, down, rows-small, rows-none, rows-whole}
+use Rattle.base_truth.proofs.PairTables.{pair-row}
 use Rattle.base_truth.proofs.pair_table.Statement.{statement}
 use Rattle.base_truth.proofs.pair_table.Tie as tie
 

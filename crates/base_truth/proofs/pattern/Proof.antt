@@ -2,7 +2,7 @@
 use Rattle.base.specs.{Bool, ℕ, _*_, _/_, _%_, _^_, T, eqb, eqb→eq, needs}
 use Rattle.model.specs.{all, below, bit, tabulate}
 use Rattle.base_truth.specs.{leafTable}
-use Rattle.base_truth.proofs.Tested.{at}
+use Rattle.base_truth.proofs.ComputedTables.{at}
 use Rattle.base_truth.proofs.pattern.Statement.{statement}
 use Rattle.base_truth.proofs.pattern.Tie as tie
 

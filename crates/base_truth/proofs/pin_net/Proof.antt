@@ -1,7 +1,7 @@
 -- `base_truth::pin_net` meets its contract.
 use Rattle.base.specs.{ap, _∙_, ℕ, arith, getD, needs}
 use Rattle.model.specs.{bit, literal}
-use Rattle.base_truth.proofs.Variants.{place-small}
+use Rattle.base_truth.proofs.VariantTables.{place-small}
 use Rattle.base_truth.proofs.pin_net.Statement.{statement}
 use Rattle.base_truth.proofs.pin_net.Tie as tie
 

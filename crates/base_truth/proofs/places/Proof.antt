@@ -2,7 +2,7 @@
 use Rattle.base.specs.{_≡_, subst, sym, Bool, ℕ, _*_, _/_, _%_, _^_, _<_, arith, T, eqb, eqb→eq, getD}
 use Rattle.model.specs.{all, below, orders}
 use Rattle.base_truth.specs.{placesOf}
-use Rattle.base_truth.proofs.Tested.{at}
+use Rattle.base_truth.proofs.ComputedTables.{at}
 use Rattle.base_truth.proofs.places.Statement.{statement}
 use Rattle.base_truth.proofs.places.Tie as tie
 

@@ -1,6 +1,6 @@
 -- `base_truth::root_bit` meets its contract, by the place of the fed pin.
 use Rattle.base.specs.{sym, _∙_, needs}
-use Rattle.base_truth.proofs.Pairs.{bit-below, bit-at, bit-above}
+use Rattle.base_truth.proofs.PairTables.{bit-below, bit-at, bit-above}
 use Rattle.base_truth.proofs.root_bit.Statement.{statement}
 use Rattle.base_truth.proofs.root_bit.Tie as tie
 

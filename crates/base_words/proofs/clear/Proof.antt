@@ -1,7 +1,7 @@
 -- `base_words::clear` meets its contract. The invariant: the words from a up to i are zeros, and the others as they were; the length stays. The measure is what is left of the region.
 use Rattle.base.specs.{_≡_, refl, sym, ap, _∙_, List, ℕ, _+_, _-_, _≤_, arith, length, set, length-set}
 use Rattle.base_words.specs.{putAt, zeros}
-use Rattle.base_words.proofs.Putting.{put-none, put-zeros}
+use Rattle.base_words.proofs.WordStores.{put-none, put-zeros}
 use Rattle.base_words.proofs.clear.Statement.{statement}
 use Rattle.base_words.proofs.clear.Tie as tie
 

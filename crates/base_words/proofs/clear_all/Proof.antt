@@ -1,7 +1,7 @@
 -- `base_words::clear_all` meets its contract: zeros put from the first word to the last are all there is.
 use Rattle.base.specs.{_≡_, ap, _∙_, List, ℕ, _-_, arith, length, length-replicate, needs}
 use Rattle.base_words.specs.{putAt, zeros}
-use Rattle.base_words.proofs.Parts.{put-whole}
+use Rattle.base_words.proofs.WordRanges.{put-whole}
 use Rattle.base_words.proofs.clear_all.Statement.{statement}
 use Rattle.base_words.proofs.clear_all.Tie as tie
 

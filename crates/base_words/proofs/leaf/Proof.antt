@@ -1,6 +1,6 @@
 -- `base_words::leaf` meets its contract: as many columns past the size as the leaf's number, and one.
 use Rattle.base.specs.{needs, arith, mul-le-mul-right, ℕ, _+_, _*_, _≤_}
-use Rattle.base_words.proofs.Stored.{leaf-word}
+use Rattle.base_words.proofs.StoredCuts.{leaf-word}
 use Rattle.base_words.proofs.leaf.Statement.{statement}
 use Rattle.base_words.proofs.leaf.Tie as tie
 
@@ -26,7 +26,7 @@ mul-result-2 c =
 shared-slice-read-result : tie.Need-shared-slice-read-result
 shared-slice-read-result c =
     let t = c .before in let s = t .before .before .before in
-    omega (arith, far (s .args .i) (t .column .result) (omega (arith, s .pre .3)), t .column .ensures, t .before .size-at .ensures, s .pre .0 .room, s .pre .1, s .pre .2)
+    omega (arith, far (s .args .i) (t .column .result) (omega (arith, s .pre .3)), t .column .ensures, t .before .size-at .ensures, s .pre .0 .capacity, s .pre .1, s .pre .2)
 
 returns : tie.Need-returns
 returns c =

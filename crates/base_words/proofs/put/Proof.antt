@@ -1,7 +1,7 @@
 -- `base_words::put` meets its contract. The invariant: the first i words of `from` stand from `at` on, and the others as they were; the length stays. The measure is what is left of `from`.
 use Rattle.base.specs.{_≡_, refl, sym, ap, _∙_, List, ℕ, _+_, _-_, _≤_, arith, length, getD, set, take, length-set, take-all}
 use Rattle.base_words.specs.{putAt}
-use Rattle.base_words.proofs.Putting.{put-none, put-taken}
+use Rattle.base_words.proofs.WordStores.{put-none, put-taken}
 use Rattle.base_words.proofs.put.Statement.{statement}
 use Rattle.base_words.proofs.put.Tie as tie
 

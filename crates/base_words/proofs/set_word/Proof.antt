@@ -1,6 +1,6 @@
 -- `base_words::set_word` meets its contract: one store is one word put.
 use Rattle.base.specs.{arith, needs}
-use Rattle.base_words.proofs.Putting.{put-one}
+use Rattle.base_words.proofs.WordStores.{put-one}
 use Rattle.base_words.proofs.set_word.Statement.{statement}
 use Rattle.base_words.proofs.set_word.Tie as tie
 

@@ -1,7 +1,7 @@
 -- `base_words::store_cut` meets its contract: the size of cut k of v, and each leaf a column further.
 use Rattle.base.specs.{needs, _≡_, ap, _∙_, List, [], _∷_, ℕ, _+_, _*_, length, getD}
 use Rattle.base_words.specs.{putAt}
-use Rattle.base_words.proofs.Stored.{five-stores}
+use Rattle.base_words.proofs.StoredCuts.{five-stores}
 use Rattle.base_words.proofs.store_cut.Statement.{statement}
 use Rattle.base_words.proofs.store_cut.Tie as tie
 

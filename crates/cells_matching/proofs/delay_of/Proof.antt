@@ -1,6 +1,6 @@
 -- `cells_matching::delay_of` meets its contract: by whether there is such a pin.
 use Rattle.base.specs.{needs}
-use Rattle.cells_matching.proofs.Walking.{delay-there, delay-absent}
+use Rattle.cells_matching.proofs.BucketWalk.{delay-there, delay-absent}
 use Rattle.cells_matching.proofs.delay_of.Statement.{statement}
 use Rattle.cells_matching.proofs.delay_of.Tie as tie
 

@@ -5,7 +5,7 @@ use Rattle.model.specs.declared.Cell.{Cell}
 use Rattle.model.specs.{noCell, cellsOf}
 use Rattle.cells_matching.specs.declared.Inverter.{Inverter}
 use Rattle.cells_matching.specs.{tried, inverterFrom, inverterOf}
-use Rattle.cells_matching.proofs.Inverting.{inverter-done, inverter-step}
+use Rattle.cells_matching.proofs.InverterChoice.{inverter-done, inverter-step}
 use Rattle.cells_matching.proofs.inverter_of.Statement.{statement}
 use Rattle.cells_matching.proofs.inverter_of.Tie as tie
 

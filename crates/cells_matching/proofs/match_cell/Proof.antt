@@ -9,7 +9,7 @@ unfolding cellMatched
 returns c =
     let a = c .before .before .before .before .before .before .before .args in
     c .before .before .match-parts .ensures
-    ∙ ap (λ (ds : List ℕ). passed (a .c .pins) (a .c .table) (384 * a .line) 384 (timed (a .c .pins) ds (a .line) (a .sheet .now))) (c .before .before .before .before .widened .ensures)
+    ∙ ap (λ (ds : List ℕ). passed (a .c .pins) (a .c .table) (384 * a .line) 384 (timed (a .c .pins) ds (a .line) (a .matches .now))) (c .before .before .before .before .widened .ensures)
 
 pub match-cell-spec : {M : Type 1} → statement M
 match-cell-spec = tie.close (tie.spec (λ c κs. search needs) (λ c κs. search needs) (λ c. search needs) returns)

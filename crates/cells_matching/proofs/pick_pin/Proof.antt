@@ -3,7 +3,7 @@ use Rattle.base.specs.{_≡_, ap, _∙_, ℕ, _*_, arith, needs}
 use Rattle.base_truth.specs.{placesOf}
 use Rattle.base_truth.proofs.{place-small}
 use Rattle.cells_matching.specs.{pickPin}
-use Rattle.cells_matching.proofs.Walking.{pick-first, pick-absent, pick-small}
+use Rattle.cells_matching.proofs.BucketWalk.{pick-first, pick-absent, pick-small}
 use Rattle.cells_matching.proofs.pick_pin.Statement.{statement}
 use Rattle.cells_matching.proofs.pick_pin.Tie as tie
 

@@ -4,11 +4,11 @@ use Rattle.cells_matching.specs.{pushed}
 use Rattle.cells_matching.proofs.push.Statement.{statement}
 use Rattle.cells_matching.proofs.push.Tie as tie
 
-slice-write-sheet-2 : tie.Need-slice-write-sheet-2
-slice-write-sheet-2 c =
+slice-write-matches-2 : tie.Need-slice-write-matches-2
+slice-write-matches-2 c =
     let s = c .before in
     let a = s .args in
-    omega (arith, s .fits .t, s .pre .1, length-set (a .sheet .now) (66560 + 2 * a .x) (getD (a .sheet .now) (a .t) 0))
+    omega (arith, s .fits .t, s .pre .1, length-set (a .matches .now) (66560 + 2 * a .x) (getD (a .matches .now) (a .t) 0))
 
 returns : tie.Need-returns
 unfolding pushed
@@ -17,5 +17,5 @@ returns c = refl
 pub push-spec : {M : Type 1} → statement M
 push-spec = tie.close (tie.spec
     (λ c. search needs) (λ c. search needs) (λ c. search needs) (λ c. search needs) (λ c. search needs) (λ c. search needs)
-    (λ c. search needs) (λ c. search needs) (λ c. search needs) slice-write-sheet-2 (λ c. search needs) (λ c. search needs)
+    (λ c. search needs) (λ c. search needs) (λ c. search needs) slice-write-matches-2 (λ c. search needs) (λ c. search needs)
     (λ c. search needs) (λ c. search needs) returns)

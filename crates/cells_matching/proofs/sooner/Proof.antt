@@ -2,7 +2,7 @@
 use Rattle.base.specs.{sym, ap, _∙_, needs}
 use Rattle.cells_matching.specs.declared.Inverter.{Inverter}
 use Rattle.cells_matching.specs.{quicker}
-use Rattle.cells_matching.proofs.Inverting.{quicker-less, quicker-not}
+use Rattle.cells_matching.proofs.InverterChoice.{quicker-less, quicker-not}
 use Rattle.cells_matching.proofs.sooner.Statement.{statement}
 use Rattle.cells_matching.proofs.sooner.Tie as tie
 

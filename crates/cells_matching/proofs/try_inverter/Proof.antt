@@ -1,6 +1,6 @@
 -- `cells_matching::try_inverter` meets its contract, by the three tests.
 use Rattle.base.specs.{sym, _∙_, needs}
-use Rattle.cells_matching.proofs.Inverting.{tried-inverter, tried-pins, tried-table, tried-nameless}
+use Rattle.cells_matching.proofs.InverterChoice.{tried-inverter, tried-pins, tried-table, tried-nameless}
 use Rattle.cells_matching.proofs.try_inverter.Statement.{statement}
 use Rattle.cells_matching.proofs.try_inverter.Tie as tie
 

@@ -1,7 +1,7 @@
 -- `cells_matching::try_variant` meets its contract: one pin that is not earlier is enough to stay, and with none the variant is the better.
 use Rattle.base.specs.{_≡_, refl, ap₂, _∙_, ℕ, _+_, _*_, _/_, _%_, _<_, max, arith, getD, needs}
 use Rattle.cells_matching.specs.{waits}
-use Rattle.cells_matching.proofs.Walking.{delay-within, brief-at, brief-first, one-late, all-early}
+use Rattle.cells_matching.proofs.BucketWalk.{delay-within, brief-at, brief-first, one-input-arrival, all-early}
 use Rattle.cells_matching.proofs.try_variant.Statement.{statement}
 use Rattle.cells_matching.proofs.try_variant.Tie as tie
 
@@ -12,9 +12,9 @@ pin-time-requires : tie.Need-pin-time-requires
 pin-time-requires c κs =
     let s = c .before .before .before in
     let a = s .args in
-    let p : ℕ = c .wide .result in
-    let picked : p ≡ getD (a .sheet .now) (66560 + 2 * a .x + 1) 0 = c .wide .ensures in
-    (omega arith, omega (arith, delay-within (a .sheet .now) (a .times .now) (a .x) (s .pre .0) (a .b) p picked), brief-first (a .sheet .now) (a .times .now) (a .x) (s .pre .0) (a .b) p picked, s .pre .1)
+    let p : ℕ = c .index-of .result in
+    let picked : p ≡ getD (a .matches .now) (66560 + 2 * a .x + 1) 0 = c .index-of .ensures in
+    (omega arith, omega (arith, delay-within (a .matches .now) (a .times .now) (a .x) (s .pre .0) (a .b) p picked), brief-first (a .matches .now) (a .times .now) (a .x) (s .pre .0) (a .b) p picked, s .pre .1)
 
 returns : tie.Need-returns
 returns c =
@@ -22,9 +22,9 @@ returns c =
     let w = q1 .before in
     let s = w .before .before .before in
     let a = s .args in
-    let p : ℕ = w .wide .result in
-    let picked : p ≡ getD (a .sheet .now) (66560 + 2 * a .x + 1) 0 = w .wide .ensures in
-    one-late (a .sheet .now) (a .times .now) (a .x) (s .pre .0) (a .b) p picked (q1 .pin-time .result) (waits (a .sheet .now) (a .times .now) (p / 16 % 16) (65536 + p / 65536 + 1)) (waits (a .sheet .now) (a .times .now) (p / 256 % 16) (65536 + p / 65536 + 2)) (waits (a .sheet .now) (a .times .now) (p / 4096 % 16) (65536 + p / 65536 + 3)) (q1 .pin-time .ensures, refl, refl, refl) (omega (arith, c .if1 .taken))
+    let p : ℕ = w .index-of .result in
+    let picked : p ≡ getD (a .matches .now) (66560 + 2 * a .x + 1) 0 = w .index-of .ensures in
+    one-input-arrival (a .matches .now) (a .times .now) (a .x) (s .pre .0) (a .b) p picked (q1 .pin-time .result) (waits (a .matches .now) (a .times .now) (p / 16 % 16) (65536 + p / 65536 + 1)) (waits (a .matches .now) (a .times .now) (p / 256 % 16) (65536 + p / 65536 + 2)) (waits (a .matches .now) (a .times .now) (p / 4096 % 16) (65536 + p / 65536 + 3)) (q1 .pin-time .ensures, refl, refl, refl) (omega (arith, c .if1 .taken))
 
 pin-time-requires-2 : tie.Need-pin-time-requires-2
 pin-time-requires-2 c κs =
@@ -32,9 +32,9 @@ pin-time-requires-2 c κs =
     let w = q1 .before in
     let s = w .before .before .before in
     let a = s .args in
-    let p : ℕ = w .wide .result in
-    let picked : p ≡ getD (a .sheet .now) (66560 + 2 * a .x + 1) 0 = w .wide .ensures in
-    (omega arith, omega (arith, delay-within (a .sheet .now) (a .times .now) (a .x) (s .pre .0) (a .b) p picked), brief-at (a .sheet .now) (a .times .now) (a .x) (s .pre .0) (a .b) p picked 1 (omega arith), s .pre .1)
+    let p : ℕ = w .index-of .result in
+    let picked : p ≡ getD (a .matches .now) (66560 + 2 * a .x + 1) 0 = w .index-of .ensures in
+    (omega arith, omega (arith, delay-within (a .matches .now) (a .times .now) (a .x) (s .pre .0) (a .b) p picked), brief-at (a .matches .now) (a .times .now) (a .x) (s .pre .0) (a .b) p picked 1 (omega arith), s .pre .1)
 
 returns-2 : tie.Need-returns-2
 returns-2 c =
@@ -43,9 +43,9 @@ returns-2 c =
     let w = q1 .before in
     let s = w .before .before .before in
     let a = s .args in
-    let p : ℕ = w .wide .result in
-    let picked : p ≡ getD (a .sheet .now) (66560 + 2 * a .x + 1) 0 = w .wide .ensures in
-    one-late (a .sheet .now) (a .times .now) (a .x) (s .pre .0) (a .b) p picked (q1 .pin-time .result) (q2 .pin-time2 .result) (waits (a .sheet .now) (a .times .now) (p / 256 % 16) (65536 + p / 65536 + 2)) (waits (a .sheet .now) (a .times .now) (p / 4096 % 16) (65536 + p / 65536 + 3)) (q1 .pin-time .ensures, q2 .pin-time2 .ensures, refl, refl) (omega (arith, c .if2 .taken))
+    let p : ℕ = w .index-of .result in
+    let picked : p ≡ getD (a .matches .now) (66560 + 2 * a .x + 1) 0 = w .index-of .ensures in
+    one-input-arrival (a .matches .now) (a .times .now) (a .x) (s .pre .0) (a .b) p picked (q1 .pin-time .result) (q2 .pin-time2 .result) (waits (a .matches .now) (a .times .now) (p / 256 % 16) (65536 + p / 65536 + 2)) (waits (a .matches .now) (a .times .now) (p / 4096 % 16) (65536 + p / 65536 + 3)) (q1 .pin-time .ensures, q2 .pin-time2 .ensures, refl, refl) (omega (arith, c .if2 .taken))
 
 pin-time-requires-3 : tie.Need-pin-time-requires-3
 pin-time-requires-3 c κs =
@@ -54,9 +54,9 @@ pin-time-requires-3 c κs =
     let w = q1 .before in
     let s = w .before .before .before in
     let a = s .args in
-    let p : ℕ = w .wide .result in
-    let picked : p ≡ getD (a .sheet .now) (66560 + 2 * a .x + 1) 0 = w .wide .ensures in
-    (omega arith, omega (arith, delay-within (a .sheet .now) (a .times .now) (a .x) (s .pre .0) (a .b) p picked), brief-at (a .sheet .now) (a .times .now) (a .x) (s .pre .0) (a .b) p picked 2 (omega arith), s .pre .1)
+    let p : ℕ = w .index-of .result in
+    let picked : p ≡ getD (a .matches .now) (66560 + 2 * a .x + 1) 0 = w .index-of .ensures in
+    (omega arith, omega (arith, delay-within (a .matches .now) (a .times .now) (a .x) (s .pre .0) (a .b) p picked), brief-at (a .matches .now) (a .times .now) (a .x) (s .pre .0) (a .b) p picked 2 (omega arith), s .pre .1)
 
 returns-3 : tie.Need-returns-3
 returns-3 c =
@@ -66,9 +66,9 @@ returns-3 c =
     let w = q1 .before in
     let s = w .before .before .before in
     let a = s .args in
-    let p : ℕ = w .wide .result in
-    let picked : p ≡ getD (a .sheet .now) (66560 + 2 * a .x + 1) 0 = w .wide .ensures in
-    one-late (a .sheet .now) (a .times .now) (a .x) (s .pre .0) (a .b) p picked (q1 .pin-time .result) (q2 .pin-time2 .result) (q3 .pin-time3 .result) (waits (a .sheet .now) (a .times .now) (p / 4096 % 16) (65536 + p / 65536 + 3)) (q1 .pin-time .ensures, q2 .pin-time2 .ensures, q3 .pin-time3 .ensures, refl) (omega (arith, c .if3 .taken))
+    let p : ℕ = w .index-of .result in
+    let picked : p ≡ getD (a .matches .now) (66560 + 2 * a .x + 1) 0 = w .index-of .ensures in
+    one-input-arrival (a .matches .now) (a .times .now) (a .x) (s .pre .0) (a .b) p picked (q1 .pin-time .result) (q2 .pin-time2 .result) (q3 .pin-time3 .result) (waits (a .matches .now) (a .times .now) (p / 4096 % 16) (65536 + p / 65536 + 3)) (q1 .pin-time .ensures, q2 .pin-time2 .ensures, q3 .pin-time3 .ensures, refl) (omega (arith, c .if3 .taken))
 
 pin-time-requires-4 : tie.Need-pin-time-requires-4
 pin-time-requires-4 c κs =
@@ -78,9 +78,9 @@ pin-time-requires-4 c κs =
     let w = q1 .before in
     let s = w .before .before .before in
     let a = s .args in
-    let p : ℕ = w .wide .result in
-    let picked : p ≡ getD (a .sheet .now) (66560 + 2 * a .x + 1) 0 = w .wide .ensures in
-    (omega arith, omega (arith, delay-within (a .sheet .now) (a .times .now) (a .x) (s .pre .0) (a .b) p picked), brief-at (a .sheet .now) (a .times .now) (a .x) (s .pre .0) (a .b) p picked 3 (omega arith), s .pre .1)
+    let p : ℕ = w .index-of .result in
+    let picked : p ≡ getD (a .matches .now) (66560 + 2 * a .x + 1) 0 = w .index-of .ensures in
+    (omega arith, omega (arith, delay-within (a .matches .now) (a .times .now) (a .x) (s .pre .0) (a .b) p picked), brief-at (a .matches .now) (a .times .now) (a .x) (s .pre .0) (a .b) p picked 3 (omega arith), s .pre .1)
 
 returns-4 : tie.Need-returns-4
 returns-4 c =
@@ -91,9 +91,9 @@ returns-4 c =
     let w = q1 .before in
     let s = w .before .before .before in
     let a = s .args in
-    let p : ℕ = w .wide .result in
-    let picked : p ≡ getD (a .sheet .now) (66560 + 2 * a .x + 1) 0 = w .wide .ensures in
-    one-late (a .sheet .now) (a .times .now) (a .x) (s .pre .0) (a .b) p picked (q1 .pin-time .result) (q2 .pin-time2 .result) (q3 .pin-time3 .result) (q4 .pin-time4 .result) (q1 .pin-time .ensures, q2 .pin-time2 .ensures, q3 .pin-time3 .ensures, q4 .pin-time4 .ensures) (omega (arith, c .if4 .taken))
+    let p : ℕ = w .index-of .result in
+    let picked : p ≡ getD (a .matches .now) (66560 + 2 * a .x + 1) 0 = w .index-of .ensures in
+    one-input-arrival (a .matches .now) (a .times .now) (a .x) (s .pre .0) (a .b) p picked (q1 .pin-time .result) (q2 .pin-time2 .result) (q3 .pin-time3 .result) (q4 .pin-time4 .result) (q1 .pin-time .ensures, q2 .pin-time2 .ensures, q3 .pin-time3 .ensures, q4 .pin-time4 .ensures) (omega (arith, c .if4 .taken))
 
 returns-5 : tie.Need-returns-5
 returns-5 c =
@@ -108,10 +108,10 @@ returns-5 c =
     let w = q1 .before in
     let s = w .before .before .before in
     let a = s .args in
-    let p : ℕ = w .wide .result in
-    let picked : p ≡ getD (a .sheet .now) (66560 + 2 * a .x + 1) 0 = w .wide .ensures in
+    let p : ℕ = w .index-of .result in
+    let picked : p ≡ getD (a .matches .now) (66560 + 2 * a .x + 1) 0 = w .index-of .ensures in
     let top = c .larger3 .ensures ∙ ap₂ max (c .before .before .larger .ensures) (c .before .larger2 .ensures) in
-    all-early (a .sheet .now) (a .times .now) (a .x) (s .pre .0) (a .b) p picked (q1 .pin-time .result) (q2 .pin-time2 .result) (q3 .pin-time3 .result) (q4 .pin-time4 .result) (c .larger3 .result) (q1 .pin-time .ensures, q2 .pin-time2 .ensures, q3 .pin-time3 .ensures, q4 .pin-time4 .ensures) top
+    all-early (a .matches .now) (a .times .now) (a .x) (s .pre .0) (a .b) p picked (q1 .pin-time .result) (q2 .pin-time2 .result) (q3 .pin-time3 .result) (q4 .pin-time4 .result) (c .larger3 .result) (q1 .pin-time .ensures, q2 .pin-time2 .ensures, q3 .pin-time3 .ensures, q4 .pin-time4 .ensures) top
     (lowest (a .b .arrival) (q1 .pin-time .result) (q2 .pin-time2 .result) (q3 .pin-time3 .result) (q4 .pin-time4 .result) (c .larger3 .result) top (i1 .if1 .left) (i2 .if2 .left) (i3 .if3 .left) (i4 .if4 .left))
 
 pub try-variant-spec : {M : Type 1} → statement M

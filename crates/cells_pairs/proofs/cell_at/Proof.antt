@@ -8,7 +8,7 @@ returns : tie.Need-returns
 returns c =
     let s = c .before .before .before in
     let at = 1 + 12 * s .args .k in
-    c .cell-from .ensures ∙ ap cellFrom (take-all (length (s .args .book .now) - at) (drop at (s .args .book .now)) (omega (arith, length-drop at (s .args .book .now))))
+    c .cell-from .ensures ∙ ap cellFrom (take-all (length (s .args .records .now) - at) (drop at (s .args .records .now)) (omega (arith, length-drop at (s .args .records .now))))
 
 pub cell-at-spec : {M : Type 1} → statement M
 cell-at-spec = tie.close (tie.spec

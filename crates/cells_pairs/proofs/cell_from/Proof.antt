@@ -15,7 +15,7 @@ returns c =
       table = 0;
       area = c .before .before .half2 .ensures .0 i + 256 * c .half3 .ensures .0 i;
       delays = replicate 4 0;
-      lows = replicate 4 0;
+      mins = replicate 4 0;
     }
 
 pub cell-from-spec : {M : Type 1} → statement M

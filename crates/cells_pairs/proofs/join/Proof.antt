@@ -1,7 +1,7 @@
 -- `cells_pairs::join` meets its contract: each of the four by `join_pin`.
 use Rattle.base.specs.{needs}
 use Rattle.model.specs.{pairDelays}
-use Rattle.cells_pairs.proofs.Cells.{join-four, four-are}
+use Rattle.cells_pairs.proofs.PairCells.{join-four, four-are}
 use Rattle.cells_pairs.proofs.join.Statement.{statement}
 use Rattle.cells_pairs.proofs.join.Tie as tie
 

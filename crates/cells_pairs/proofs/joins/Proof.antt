@@ -1,6 +1,6 @@
 -- `cells_pairs::joins` meets its contract, by its two tests.
 use Rattle.base.specs.{_∙_, lt-leb, needs}
-use Rattle.cells_pairs.proofs.Joining.{joins-pinless, joins-pinned}
+use Rattle.cells_pairs.proofs.PairJoins.{joins-pinless, joins-pinned}
 use Rattle.cells_pairs.proofs.joins.Statement.{statement}
 use Rattle.cells_pairs.proofs.joins.Tie as tie
 

@@ -1,7 +1,7 @@
 -- `cells_pairs::listed` meets its contract.
 use Rattle.base.specs.{sym, needs}
 use Rattle.model.specs.{cellsOf}
-use Rattle.cells_pairs.proofs.Joining.{listed-is}
+use Rattle.cells_pairs.proofs.PairJoins.{listed-is}
 use Rattle.cells_pairs.proofs.listed.Statement.{statement}
 use Rattle.cells_pairs.proofs.listed.Tie as tie
 

@@ -2,47 +2,47 @@
 use Rattle.base.specs.{ap, _∙_, arith, needs}
 use Rattle.model.specs.{cellsOf}
 use Rattle.model.specs.declared.Cell.{Cell}
-use Rattle.cells_pairs.proofs.Cells.{number-listed, number-pairs, number-pair, pins-are}
+use Rattle.cells_pairs.proofs.PairCells.{number-listed, number-pairs, number-pair, pins-are}
 use Rattle.cells_pairs.proofs.pins_of.Statement.{statement}
 use Rattle.cells_pairs.proofs.pins_of.Tie as tie
 
 returns : tie.Need-returns
 returns c =
     let s = c .before .before .before in
-    ap (λ (x : Cell). x .pins) (c .listed .ensures ∙ number-listed (s .args .lib) (s .args .codes .now) (s .pre .0) (s .args .k) (c .before .if1 .taken))
+    ap (λ (x : Cell). x .pins) (c .listed .ensures ∙ number-listed (s .args .lib) (s .args .ids .now) (s .pre .0) (s .args .k) (c .before .if1 .taken))
 
 listed-requires-2 : tie.Need-listed-requires-2
 listed-requires-2 c κs =
     let w = c in
     let s = w .before .before .before .before in
-    (s .pre .0 .joinable, (number-pairs (s .args .lib) (s .args .codes .now) (s .pre .0) (s .args .k) (w .wide .result) (w .before .before .if1 .left) (s .pre .1) (w .wide .ensures .0)) .root)
+    (s .pre .0 .joinable, (number-pairs (s .args .lib) (s .args .ids .now) (s .pre .0) (s .args .k) (w .index-of .result) (w .before .before .if1 .left) (s .pre .1) (w .index-of .ensures .0)) .root)
 
 listed-requires-3 : tie.Need-listed-requires-3
 listed-requires-3 c κs =
     let w = c .before in
     let s = w .before .before .before .before in
-    (s .pre .0 .joinable, (number-pairs (s .args .lib) (s .args .codes .now) (s .pre .0) (s .args .k) (w .wide .result) (w .before .before .if1 .left) (s .pre .1) (w .wide .ensures .0)) .inner)
+    (s .pre .0 .joinable, (number-pairs (s .args .lib) (s .args .ids .now) (s .pre .0) (s .args .k) (w .index-of .result) (w .before .before .if1 .left) (s .pre .1) (w .index-of .ensures .0)) .inner)
 
 add-result : tie.Need-add-result
 add-result c =
     let w = c .before .before .before .before in
     let s = w .before .before .before .before in
-    let p = number-pairs (s .args .lib) (s .args .codes .now) (s .pre .0) (s .args .k) (w .wide .result) (w .before .before .if1 .left) (s .pre .1) (w .wide .ensures .0) in
+    let p = number-pairs (s .args .lib) (s .args .ids .now) (s .pre .0) (s .args .k) (w .index-of .result) (w .before .before .if1 .left) (s .pre .1) (w .index-of .ensures .0) in
     omega (arith, p .five, p .some, ap (λ (x : Cell). x .pins) (c .before .before .listed3 .ensures), ap (λ (x : Cell). x .pins) (c .before .before .before .listed2 .ensures))
 
 sub-result : tie.Need-sub-result
 sub-result c =
     let w = c .before .before .before .before in
     let s = w .before .before .before .before in
-    let p = number-pairs (s .args .lib) (s .args .codes .now) (s .pre .0) (s .args .k) (w .wide .result) (w .before .before .if1 .left) (s .pre .1) (w .wide .ensures .0) in
+    let p = number-pairs (s .args .lib) (s .args .ids .now) (s .pre .0) (s .args .k) (w .index-of .result) (w .before .before .if1 .left) (s .pre .1) (w .index-of .ensures .0) in
     omega (arith, p .five, p .some, ap (λ (x : Cell). x .pins) (c .before .before .listed3 .ensures), ap (λ (x : Cell). x .pins) (c .before .before .before .listed2 .ensures))
 
 returns-2 : tie.Need-returns-2
 returns-2 c =
     let w = c .before .before .before .before in
     let s = w .before .before .before .before in
-    pins-are (cellsOf (s .args .lib)) (w .wide .result) (c .before .before .before .listed2 .result) (c .before .before .listed3 .result) (c .before .before .before .listed2 .ensures) (c .before .before .listed3 .ensures)
-    ∙ ap (λ (x : Cell). x .pins) (number-pair (s .args .lib) (s .args .codes .now) (s .pre .0) (s .args .k) (w .wide .result) (w .before .before .if1 .left) (s .pre .1) (w .wide .ensures .0))
+    pins-are (cellsOf (s .args .lib)) (w .index-of .result) (c .before .before .before .listed2 .result) (c .before .before .listed3 .result) (c .before .before .before .listed2 .ensures) (c .before .before .listed3 .ensures)
+    ∙ ap (λ (x : Cell). x .pins) (number-pair (s .args .lib) (s .args .ids .now) (s .pre .0) (s .args .k) (w .index-of .result) (w .before .before .if1 .left) (s .pre .1) (w .index-of .ensures .0))
 
 pub pins-of-spec : {M : Type 1} → statement M
 pins-of-spec = tie.close (tie.spec

@@ -1,9 +1,9 @@
 -- `cells_pairs::put_cell` meets its contract: the name, which is an array of eight bytes, and four figures.
 use Rattle.base.specs.{_≡_, refl, sym, ap, _∙_, List, _∷_, [], append-nil, ℕ, _%_, _/_, arith, length, take, length-take-le, needs}
 use Rattle.model.specs.{nameOf}
-use Rattle.base_text.proofs.{Partly, begin, step, room, finish}
+use Rattle.base_text.proofs.{Partly, begin, step, capacity, finish}
 use Rattle.cells_pairs.specs.{cellBytes}
-use Rattle.cells_pairs.proofs.Looking.{cell-is, cell-bytes-length}
+use Rattle.cells_pairs.proofs.RecordLookup.{cell-is, cell-bytes-length}
 use Rattle.cells_pairs.proofs.put_cell.Statement.{statement}
 use Rattle.cells_pairs.proofs.put_cell.Tie as tie
 
@@ -15,7 +15,7 @@ figures c =
 
 -- the name is written
 named : (c : tie.After-name-len)
-    → Partly (c .before .before .before .before .before .before .before .before .args .book .now) (c .before .before .before .put-bytes .last .0) (c .before .before .before .before .before .before .before .before .args .at)
+    → Partly (c .before .before .before .before .before .before .before .before .args .records .now) (c .before .before .before .put-bytes .last .0) (c .before .before .before .before .before .before .before .before .args .at)
     (c .before .before .before .put-bytes .result) (cellBytes (c .before .before .before .before .before .before .before .before .args .c)) (figures c)
 unfolding nameOf
 named c =
@@ -24,7 +24,7 @@ named c =
     let n = c .name-len in
     let eight : length (x .name) ≡ 8 = search needs in
     let long : n .result ≡ length (take (x .len) (x .name)) = sym (length-take-le (n .result) (x .name) (omega (arith, n .ensures .0))) ∙ ap length (n .ensures .1 (x .name) eight) in
-    step (s .pre .1) (begin (s .args .book .now) (s .args .at) (cell-is x (n .result) eight long)) (c .before .before .before .put-bytes .last .0) (c .before .before .before .put-bytes .result) (x .name) (figures c) refl
+    step (s .pre .1) (begin (s .args .records .now) (s .args .at) (cell-is x (n .result) eight long)) (c .before .before .before .put-bytes .last .0) (c .before .before .before .put-bytes .result) (x .name) (figures c) refl
     (c .before .before .before .put-bytes .ensures)
 
 put-bytes-requires : tie.Need-put-bytes-requires
@@ -37,8 +37,8 @@ put-bytes-requires-2 : tie.Need-put-bytes-requires-2
 put-bytes-requires-2 c κs =
     let n = c .before .before .before .before .before in
     let s = n .before .before .before .before .before .before .before .before in
-    let p : Partly (s .args .book .now) (n .before .before .before .put-bytes .last .0) (s .args .at) (n .before .before .before .put-bytes .result) (cellBytes (s .args .c)) (figures n) = named n in
-    room (s .pre .1) p (figures n) [] (sym (append-nil (figures n)))
+    let p : Partly (s .args .records .now) (n .before .before .before .put-bytes .last .0) (s .args .at) (n .before .before .before .put-bytes .result) (cellBytes (s .args .c)) (figures n) = named n in
+    capacity (s .pre .1) p (figures n) [] (sym (append-nil (figures n)))
 
 returns : tie.Need-returns
 returns c =

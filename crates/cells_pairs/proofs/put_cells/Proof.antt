@@ -3,21 +3,21 @@ use Rattle.base.specs.{_≡_, refl, ap, _∙_, _++_, ℕ, _+_, _-_, _≤_, _<_,
 use Rattle.model.specs.{each, noCell, cellsOf}
 use Rattle.model.specs.declared.Cell.{Cell}
 use Rattle.model.specs.declared.Library.{Library}
-use Rattle.base_text.proofs.{Partly, begin, step, room, kept, end}
+use Rattle.base_text.proofs.{Partly, begin, step, capacity, kept, end}
 use Rattle.cells_pairs.specs.{Joinable, cellBytes}
-use Rattle.cells_pairs.proofs.Joining.{listed-pins}
-use Rattle.cells_pairs.proofs.Looking.{next-cell, no-cell}
+use Rattle.cells_pairs.proofs.PairJoins.{listed-pins}
+use Rattle.cells_pairs.proofs.RecordLookup.{next-cell, no-cell}
 use Rattle.cells_pairs.proofs.put_cells.Statement.{statement}
 use Rattle.cells_pairs.proofs.put_cells.Tie as tie
 
 abbrev Inv-loop : tie.InvT-loop
-Inv-loop book₀ at cells n next₀ i₀ book next i = (i ≤ n) × Partly book₀ book at next (each cellBytes (take n cells)) (each cellBytes (drop i (take n cells)))
+Inv-loop records₀ at cells n next₀ i₀ records next i = (i ≤ n) × Partly records₀ records at next (each cellBytes (take n cells)) (each cellBytes (drop i (take n cells)))
 
 abbrev μ-loop : tie.MeasureT-loop
-μ-loop book₀ at cells n next₀ i₀ book next i = n - i
+μ-loop records₀ at cells n next₀ i₀ records next i = n - i
 
 loop-holds : tie.Need-loop-holds Inv-loop μ-loop
-loop-holds c = (omega arith, begin (c .before .before .args .book .now) (c .before .before .args .at) refl)
+loop-holds c = (omega arith, begin (c .before .before .args .records .now) (c .before .before .args .at) refl)
 
 mul-c : tie.Need-mul-c Inv-loop μ-loop
 mul-c c = omega (arith, c .before .before .before .before .pre .0 .few)
@@ -40,7 +40,7 @@ put-cell-requires c κs =
     let l = c .before .before .before .loop in
     let h : l .i < s .args .lib .n = c .before .before .loop-test .taken in (
       listed-pins (s .args .lib) (s .pre .0) (l .i) h,
-      room (s .pre .1) (l .inv .1) (cellBytes (getD (s .args .lib .cells) (l .i) noCell)) (each cellBytes (drop (l .i + 1) (take (s .args .lib .n) (s .args .lib .cells)))) (next-one (s .args .lib) (s .pre .0) (l .i) h),
+      capacity (s .pre .1) (l .inv .1) (cellBytes (getD (s .args .lib .cells) (l .i) noCell)) (each cellBytes (drop (l .i + 1) (take (s .args .lib .n) (s .args .lib .cells)))) (next-one (s .args .lib) (s .pre .0) (l .i) h),
     )
 
 loop-again : tie.Need-loop-again Inv-loop μ-loop

@@ -1,18 +1,18 @@
 -- `cells_pairs::put_inners` meets its contract. The invariant: the numbers of the first j inner lines are written. The measure is the number of lines left.
 use Rattle.base.specs.{_+_, _-_, _<_, _≤_, arith, needs, length, take, getD}
 use Rattle.model.specs.{from, below, noCell, cellsOf}
-use Rattle.base_text.proofs.{Partly, begin, step, room, kept, end}
-use Rattle.cells_pairs.specs.{codeOf, codeFor, innerCodes}
-use Rattle.cells_pairs.proofs.Joining.{listed-pins, inner-begin, inner-next, inner-end}
+use Rattle.base_text.proofs.{Partly, begin, step, capacity, kept, end}
+use Rattle.cells_pairs.specs.{idOf, idFor, innerIds}
+use Rattle.cells_pairs.proofs.PairJoins.{listed-pins, inner-begin, inner-next, inner-end}
 use Rattle.cells_pairs.proofs.put_inners.Statement.{statement}
 use Rattle.cells_pairs.proofs.put_inners.Tie as tie
 
 abbrev Inv-loop : tie.InvT-loop
-Inv-loop codes₀ at i p cells n root next₀ j₀ codes next j =
-    (j ≤ n) × Partly codes₀ codes at next (innerCodes (take n cells) i p (below (length (take n cells)))) (innerCodes (take n cells) i p (from j (n - j)))
+Inv-loop ids₀ at i p cells n root next₀ j₀ ids next j =
+    (j ≤ n) × Partly ids₀ ids at next (innerIds (take n cells) i p (below (length (take n cells)))) (innerIds (take n cells) i p (from j (n - j)))
 
 abbrev μ-loop : tie.MeasureT-loop
-μ-loop codes₀ at i p cells n root next₀ j₀ codes next j = n - j
+μ-loop ids₀ at i p cells n root next₀ j₀ ids next j = n - j
 
 mul-root : tie.Need-mul-root Inv-loop μ-loop
 mul-root c = omega (arith, c .before .before .pre .0 .few, c .before .before .pre .1)
@@ -23,7 +23,7 @@ array-copy-out-root c = omega (arith, c .before .before .pre .0 .few, c .before 
 loop-holds : tie.Need-loop-holds Inv-loop μ-loop
 loop-holds c =
     let s = c .before .before .before in
-    (omega arith, begin (s .args .codes .now) (s .args .at) (inner-begin (s .args .lib) (s .pre .0) (s .args .i) (s .args .p)))
+    (omega arith, begin (s .args .ids .now) (s .args .at) (inner-begin (s .args .lib) (s .pre .0) (s .args .i) (s .args .p)))
 
 mul-inner : tie.Need-mul-inner Inv-loop μ-loop
 mul-inner c = omega (arith, c .before .before .before .before .before .pre .0 .few)
@@ -31,31 +31,31 @@ mul-inner c = omega (arith, c .before .before .before .before .before .pre .0 .f
 array-copy-out-inner : tie.Need-array-copy-out-inner Inv-loop μ-loop
 array-copy-out-inner c = omega (arith, c .before .before .before .before .before .pre .0 .few)
 
-mul-put-code : tie.Need-mul-put-code Inv-loop μ-loop
-mul-put-code c = let s = c .before .before .before .before .before .before .before in omega (arith, s .pre .0 .few, s .pre .1)
+mul-put-pair-id : tie.Need-mul-put-pair-id Inv-loop μ-loop
+mul-put-pair-id c = let s = c .before .before .before .before .before .before .before in omega (arith, s .pre .0 .few, s .pre .1)
 
-mul-put-code-2 : tie.Need-mul-put-code-2 Inv-loop μ-loop
-mul-put-code-2 c = let s = c .before .before .before .before .before .before .before in omega (arith, s .pre .2)
+mul-put-pair-id-2 : tie.Need-mul-put-pair-id-2 Inv-loop μ-loop
+mul-put-pair-id-2 c = let s = c .before .before .before .before .before .before .before in omega (arith, s .pre .2)
 
-add-put-code : tie.Need-add-put-code Inv-loop μ-loop
-add-put-code c = let s = c .before .before .before .before .before .before .before in omega (arith, s .pre .0 .few, s .pre .1, s .pre .2)
+add-put-pair-id : tie.Need-add-put-pair-id Inv-loop μ-loop
+add-put-pair-id c = let s = c .before .before .before .before .before .before .before in omega (arith, s .pre .0 .few, s .pre .1, s .pre .2)
 
-add-put-code-2 : tie.Need-add-put-code-2 Inv-loop μ-loop
-add-put-code-2 c =
+add-put-pair-id-2 : tie.Need-add-put-pair-id-2 Inv-loop μ-loop
+add-put-pair-id-2 c =
     let s = c .before .before .before .before .before .before .before in
     omega (arith, s .pre .0 .few, s .pre .1, s .pre .2, c .before .before .loop-test .taken)
 
-put-code-requires : tie.Need-put-code-requires Inv-loop μ-loop
+put-pair-id-requires : tie.Need-put-pair-id-requires Inv-loop μ-loop
 unfolding cellsOf
-put-code-requires c κs =
+put-pair-id-requires c κs =
     let s = c .before .before .before .before .before .before .before in
     let l = c .before .before .before .loop in
     let h : l .j < s .args .lib .n = c .before .before .loop-test .taken in (
       listed-pins (s .args .lib) (s .pre .0) (s .args .i) (s .pre .1),
       listed-pins (s .args .lib) (s .pre .0) (l .j) h,
       omega (arith, s .pre .0 .few, s .pre .1, s .pre .2, h),
-      room (s .pre .3) (l .inv .1) (codeFor (getD (s .args .lib .cells) (s .args .i) noCell) (getD (s .args .lib .cells) (l .j) noCell) (codeOf (s .args .i) (s .args .p) (l .j)))
-          (innerCodes (take (s .args .lib .n) (s .args .lib .cells)) (s .args .i) (s .args .p) (from (l .j + 1) (s .args .lib .n - (l .j + 1))))
+      capacity (s .pre .3) (l .inv .1) (idFor (getD (s .args .lib .cells) (s .args .i) noCell) (getD (s .args .lib .cells) (l .j) noCell) (idOf (s .args .i) (s .args .p) (l .j)))
+          (innerIds (take (s .args .lib .n) (s .args .lib .cells)) (s .args .i) (s .args .p) (from (l .j + 1) (s .args .lib .n - (l .j + 1))))
           (inner-next (s .args .lib) (s .pre .0) (s .args .i) (s .args .p) (l .j) (s .pre .1) h),
     )
 
@@ -65,12 +65,12 @@ loop-again c =
     let at-loop = c .before .before .before .before .before .before in
     let s = at-loop .before .before .before .before in
     let l = at-loop .loop in
-    let q = c .before .before .put-code in
+    let q = c .before .before .put-pair-id in
     let h : l .j < s .args .lib .n = c .before .before .before .before .before .loop-test .taken in (
       omega arith,
       step (s .pre .3) (l .inv .1) (q .last .0) (q .result)
-          (codeFor (getD (s .args .lib .cells) (s .args .i) noCell) (getD (s .args .lib .cells) (l .j) noCell) (codeOf (s .args .i) (s .args .p) (l .j)))
-          (innerCodes (take (s .args .lib .n) (s .args .lib .cells)) (s .args .i) (s .args .p) (from (l .j + 1) (s .args .lib .n - (l .j + 1))))
+          (idFor (getD (s .args .lib .cells) (s .args .i) noCell) (getD (s .args .lib .cells) (l .j) noCell) (idOf (s .args .i) (s .args .p) (l .j)))
+          (innerIds (take (s .args .lib .n) (s .args .lib .cells)) (s .args .i) (s .args .p) (from (l .j + 1) (s .args .lib .n - (l .j + 1))))
           (inner-next (s .args .lib) (s .pre .0) (s .args .i) (s .args .p) (l .j) (s .pre .1) h) (q .ensures),
     )
 
@@ -86,5 +86,5 @@ returns c =
 
 pub put-inners-spec : {M : Type 1} → statement M
 put-inners-spec = tie.close (tie.spec
-    Inv-loop μ-loop mul-root array-copy-out-root loop-holds mul-inner array-copy-out-inner mul-put-code mul-put-code-2 add-put-code
-    add-put-code-2 put-code-requires (λ c. search needs) (λ c. omega arith) loop-again same-length returns)
+    Inv-loop μ-loop mul-root array-copy-out-root loop-holds mul-inner array-copy-out-inner mul-put-pair-id mul-put-pair-id-2 add-put-pair-id
+    add-put-pair-id-2 put-pair-id-requires (λ c. search needs) (λ c. omega arith) loop-again same-length returns)

@@ -2,32 +2,32 @@
 use Rattle.base.specs.{ap, _∙_, arith, needs}
 use Rattle.model.specs.{cellsOf}
 use Rattle.model.specs.declared.Cell.{Cell}
-use Rattle.cells_pairs.proofs.Cells.{number-listed, number-pairs, number-pair, table-are}
+use Rattle.cells_pairs.proofs.PairCells.{number-listed, number-pairs, number-pair, table-are}
 use Rattle.cells_pairs.proofs.table_of.Statement.{statement}
 use Rattle.cells_pairs.proofs.table_of.Tie as tie
 
 returns : tie.Need-returns
 returns c =
     let s = c .before .before .before in
-    ap (λ (x : Cell). x .table) (c .listed .ensures ∙ number-listed (s .args .lib) (s .args .codes .now) (s .pre .0) (s .args .k) (c .before .if1 .taken))
+    ap (λ (x : Cell). x .table) (c .listed .ensures ∙ number-listed (s .args .lib) (s .args .ids .now) (s .pre .0) (s .args .k) (c .before .if1 .taken))
 
 listed-requires-2 : tie.Need-listed-requires-2
 listed-requires-2 c κs =
     let w = c in
     let s = w .before .before .before .before in
-    (s .pre .0 .joinable, (number-pairs (s .args .lib) (s .args .codes .now) (s .pre .0) (s .args .k) (w .wide .result) (w .before .before .if1 .left) (s .pre .1) (w .wide .ensures .0)) .root)
+    (s .pre .0 .joinable, (number-pairs (s .args .lib) (s .args .ids .now) (s .pre .0) (s .args .k) (w .index-of .result) (w .before .before .if1 .left) (s .pre .1) (w .index-of .ensures .0)) .root)
 
 listed-requires-3 : tie.Need-listed-requires-3
 listed-requires-3 c κs =
     let w = c .before in
     let s = w .before .before .before .before in
-    (s .pre .0 .joinable, (number-pairs (s .args .lib) (s .args .codes .now) (s .pre .0) (s .args .k) (w .wide .result) (w .before .before .if1 .left) (s .pre .1) (w .wide .ensures .0)) .inner)
+    (s .pre .0 .joinable, (number-pairs (s .args .lib) (s .args .ids .now) (s .pre .0) (s .args .k) (w .index-of .result) (w .before .before .if1 .left) (s .pre .1) (w .index-of .ensures .0)) .inner)
 
 pair-table-requires : tie.Need-pair-table-requires
 pair-table-requires c κs =
     let w = c .before .before in
     let s = w .before .before .before .before in
-    let p = number-pairs (s .args .lib) (s .args .codes .now) (s .pre .0) (s .args .k) (w .wide .result) (w .before .before .if1 .left) (s .pre .1) (w .wide .ensures .0) in
+    let p = number-pairs (s .args .lib) (s .args .ids .now) (s .pre .0) (s .args .k) (w .index-of .result) (w .before .before .if1 .left) (s .pre .1) (w .index-of .ensures .0) in
     let r = ap (λ (x : Cell). x .pins) (c .before .listed2 .ensures) in
     let i = ap (λ (x : Cell). x .pins) (c .listed3 .ensures) in
     (omega (arith, p .pin, r), omega (arith, p .some, i), omega (arith, p .five, r, i))
@@ -37,8 +37,8 @@ returns-2 c =
     let w = c .before .before .before in
     let s = w .before .before .before .before in
     c .pair-table .ensures
-    ∙ table-are (cellsOf (s .args .lib)) (w .wide .result) (c .before .before .listed2 .result) (c .before .listed3 .result) (c .before .before .listed2 .ensures) (c .before .listed3 .ensures)
-    ∙ ap (λ (x : Cell). x .table) (number-pair (s .args .lib) (s .args .codes .now) (s .pre .0) (s .args .k) (w .wide .result) (w .before .before .if1 .left) (s .pre .1) (w .wide .ensures .0))
+    ∙ table-are (cellsOf (s .args .lib)) (w .index-of .result) (c .before .before .listed2 .result) (c .before .listed3 .result) (c .before .before .listed2 .ensures) (c .before .listed3 .ensures)
+    ∙ ap (λ (x : Cell). x .table) (number-pair (s .args .lib) (s .args .ids .now) (s .pre .0) (s .args .k) (w .index-of .result) (w .before .before .if1 .left) (s .pre .1) (w .index-of .ensures .0))
 
 pub table-of-spec : {M : Type 1} → statement M
 table-of-spec = tie.close (tie.spec

@@ -3,8 +3,8 @@ use Rattle.base.specs.{needs, _≡_, sym, ap, _∙_, subst, _-_, _≤_, arith, 
 use Rattle.model.specs.{linesFrom, libraryOf, libraryAnswer, readCells}
 use Rattle.model.specs.declared.Library.{Library}
 use Rattle.model.specs.declared.Verdict.the-variants.{Accepted}
-use Rattle.cells_reader.proofs.Turns.{soFar, so-far-first, so-far-last, so-far-stop, so-far-added, added-room, added-length, Tidy}
-use Rattle.cells_reader.proofs.Turns.{tidy-first, tidy-added, judged-cell, part-from, part-to, part-short}
+use Rattle.cells_reader.proofs.CellLineSteps.{soFar, so-far-first, so-far-last, so-far-stop, so-far-added, added-capacity, added-length, Tidy}
+use Rattle.cells_reader.proofs.CellLineSteps.{tidy-first, tidy-added, validated-cell, part-from, part-to, part-short}
 use Rattle.cells_reader.proofs.cells.Statement.{statement}
 use Rattle.cells_reader.proofs.cells.Tie as tie
 
@@ -25,36 +25,36 @@ loop-holds c =
     )
 
 sub-cell-of : tie.Need-sub-cell-of Inv-loop μ-loop
-sub-cell-of c = omega (arith, part-from _ _ _ _ _ _ ((judged-cell _ _ _ _ _ _ _ (sym (c .before .before .before .judge .ensures) ∙ c .before .end .given .1)) .1))
+sub-cell-of c = omega (arith, part-from _ _ _ _ _ _ ((validated-cell _ _ _ _ _ _ _ (sym (c .before .before .before .validate .ensures) ∙ c .before .end .given .1)) .1))
 
 part-cell-of-start : tie.Need-part-cell-of-start Inv-loop μ-loop
-part-cell-of-start c = omega (arith, part-from _ _ _ _ _ _ ((judged-cell _ _ _ _ _ _ _ (sym (c .before .before .before .judge .ensures) ∙ c .before .end .given .1)) .1))
+part-cell-of-start c = omega (arith, part-from _ _ _ _ _ _ ((validated-cell _ _ _ _ _ _ _ (sym (c .before .before .before .validate .ensures) ∙ c .before .end .given .1)) .1))
 
 part-cell-of-end : tie.Need-part-cell-of-end Inv-loop μ-loop
-part-cell-of-end c = omega (arith, part-to _ _ _ _ _ _ ((judged-cell _ _ _ _ _ _ _ (sym (c .before .before .before .judge .ensures) ∙ c .before .end .given .1)) .1) (omega arith))
+part-cell-of-end c = omega (arith, part-to _ _ _ _ _ _ ((validated-cell _ _ _ _ _ _ _ (sym (c .before .before .before .validate .ensures) ∙ c .before .end .given .1)) .1) (omega arith))
 
 cell-of-requires : tie.Need-cell-of-requires Inv-loop μ-loop
-cell-of-requires c κs = part-short _ _ _ _ _ _ ((judged-cell _ _ _ _ _ _ _ (sym (c .before .before .before .before .judge .ensures) ∙ c .before .before .end .given .1)) .1)
+cell-of-requires c κs = part-short _ _ _ _ _ _ ((validated-cell _ _ _ _ _ _ _ (sym (c .before .before .before .before .validate .ensures) ∙ c .before .before .end .given .1)) .1)
 
 add-requires : tie.Need-add-requires Inv-loop μ-loop
-add-requires c κs = judged-cell _ _ _ _ _ _ _ (sym (c .before .before .before .before .before .judge .ensures) ∙ c .before .before .before .end .given .1) .0
+add-requires c κs = validated-cell _ _ _ _ _ _ _ (sym (c .before .before .before .before .before .validate .ensures) ∙ c .before .before .before .end .given .1) .0
 
 loop-less : tie.Need-loop-less Inv-loop μ-loop
-loop-less c = omega (arith, ap (λ (l : Library). l .n) (c .add .ensures), judged-cell _ _ _ _ _ _ _ (sym (c .before .before .before .before .before .before .judge .ensures) ∙ c .before .before .before .before .end .given .1) .0)
+loop-less c = omega (arith, ap (λ (l : Library). l .n) (c .add .ensures), validated-cell _ _ _ _ _ _ _ (sym (c .before .before .before .before .before .before .validate .ensures) ∙ c .before .before .before .before .end .given .1) .0)
 
 loop-again : tie.Need-loop-again Inv-loop μ-loop
 loop-again c =
     let l = c .before .before .before .before .before .before .before .before in
-    let j = sym (c .before .before .before .before .before .before .judge .ensures) ∙ c .before .before .before .before .end .given .1 in (
-      added-room (l .loop .library) (c .before .cell-of .result) (c .add .result) (judged-cell _ _ _ _ _ _ _ j .0) (c .add .ensures),
+    let j = sym (c .before .before .before .before .before .before .validate .ensures) ∙ c .before .before .before .before .end .given .1 in (
+      added-capacity (l .loop .library) (c .before .cell-of .result) (c .add .result) (validated-cell _ _ _ _ _ _ _ j .0) (c .add .ensures),
       added-length (l .loop .library) (c .before .cell-of .result) (c .add .result) (l .loop .inv .1) (c .add .ensures),
       l .loop .inv .2 ∙ so-far-added _ (l .loop .library) _ _ _ _ _ (c .before .cell-of .result) (c .add .result) (c .before .before .before .before .before .before .before .loop-test .taken) (l .loop .inv .1) j (c .before .cell-of .ensures) (c .add .ensures),
-      tidy-added (l .loop .library) (c .before .cell-of .result) (c .add .result) (l .loop .inv .3) (judged-cell _ _ _ _ _ _ _ j .0) (l .loop .inv .1) (c .add .ensures),
+      tidy-added (l .loop .library) (c .before .cell-of .result) (c .add .result) (l .loop .inv .3) (validated-cell _ _ _ _ _ _ _ j .0) (l .loop .inv .1) (c .add .ensures),
     )
 
 returns : tie.Need-returns Inv-loop μ-loop
 returns c =
-    let e = c .before .before .before .before .before .before .loop .inv .2 ∙ so-far-stop _ _ _ _ _ (c .before .before .before .before .before .loop-test .taken) (sym (c .before .before .before .before .judge .ensures) ∙ c .before .before .number .given .1) in
+    let e = c .before .before .before .before .before .before .loop .inv .2 ∙ so-far-stop _ _ _ _ _ (c .before .before .before .before .before .loop-test .taken) (sym (c .before .before .before .before .validate .ensures) ∙ c .before .before .number .given .1) in
     c .refused .ensures ∙ sym (ap libraryAnswer e)
 
 returns-2 : tie.Need-returns-2 Inv-loop μ-loop

@@ -1,6 +1,6 @@
 -- `cells_reader::in_range` meets its contract, pin by pin.
 use Rattle.base.specs.{sym, _∙_, le-leb, lt-leb}
-use Rattle.cells_reader.proofs.Judging.{range-is}
+use Rattle.cells_reader.proofs.CellValidation.{range-is}
 use Rattle.cells_reader.proofs.in_range.Statement.{statement}
 use Rattle.cells_reader.proofs.in_range.Tie as tie
 

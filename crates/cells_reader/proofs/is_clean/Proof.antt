@@ -1,6 +1,6 @@
 -- `cells_reader::is_clean` meets its contract, by the limit of the tables and the delays one by one.
 use Rattle.base.specs.{needs, sym, _∙_, arith, le-ltb}
-use Rattle.cells_reader.proofs.Judging.{clean-table, clean-delays}
+use Rattle.cells_reader.proofs.CellValidation.{clean-table, clean-delays}
 use Rattle.cells_reader.proofs.is_clean.Statement.{statement}
 use Rattle.cells_reader.proofs.is_clean.Tie as tie
 

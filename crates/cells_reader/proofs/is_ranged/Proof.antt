@@ -3,7 +3,7 @@ use Rattle.base.specs.{sym, _∙_, length-take-le, needs}
 use Rattle.model.specs.{text}
 use Rattle.base_text.proofs.{first-fits}
 use Rattle.cells_reader.specs.{longerLine}
-use Rattle.cells_reader.proofs.First.{names-ranged}
+use Rattle.cells_reader.proofs.NamesLine.{names-ranged}
 use Rattle.cells_reader.proofs.is_ranged.Statement.{statement}
 use Rattle.cells_reader.proofs.is_ranged.Tie as tie
 

@@ -1,6 +1,6 @@
 -- `cells_reader::limit` meets its contract: the shifts stay below their widths.
 use Rattle.base.specs.{needs}
-use Rattle.cells_reader.proofs.Judging.{shift-fits, limit-is}
+use Rattle.cells_reader.proofs.CellValidation.{shift-fits, limit-is}
 use Rattle.cells_reader.proofs.limit.Statement.{statement}
 use Rattle.cells_reader.proofs.limit.Tie as tie
 

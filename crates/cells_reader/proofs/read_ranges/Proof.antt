@@ -13,21 +13,21 @@ returns c =
 returns-2 : tie.Need-returns-2
 unfolding rangesAt
 returns-2 c =
-    let at-lows = c .before .before .before in let at-delays = at-lows .before .before .before in
+    let at-mins = c .before .before .before in let at-delays = at-mins .before .before .before in
     rw (
       sym (at-delays .before .before .read-delays .ensures) ∙ at-delays .delays .given .1,
-      not-false (at-delays .before .before .before .before .args .ranged) (at-lows .before .if1 .left),
-      sym (at-lows .read-delays2 .ensures) ∙ c .before .lows .given .1,
+      not-false (at-delays .before .before .before .before .args .ranged) (at-mins .before .if1 .left),
+      sym (at-mins .read-delays2 .ensures) ∙ c .before .mins .given .1,
     )
 
 returns-3 : tie.Need-returns-3
 unfolding rangesAt
 returns-3 c =
-    let at-lows = c .before .before in let at-delays = at-lows .before .before .before in
+    let at-mins = c .before .before in let at-delays = at-mins .before .before .before in
     rw (
       sym (at-delays .before .before .read-delays .ensures) ∙ at-delays .delays .given .1,
-      not-false (at-delays .before .before .before .before .args .ranged) (at-lows .before .if1 .left),
-      sym (at-lows .read-delays2 .ensures) ∙ c .enum-told .given .1,
+      not-false (at-delays .before .before .before .before .args .ranged) (at-mins .before .if1 .left),
+      sym (at-mins .read-delays2 .ensures) ∙ c .enum-told .given .1,
     )
 
 returns-4 : tie.Need-returns-4

@@ -2,7 +2,7 @@
 use Rattle.base.specs.{needs, _≡_, sym, ap, _∙_, _+_, _-_, _≤_, arith, false}
 use Rattle.model.specs.{nameOf}
 use Rattle.cells_reader.specs.{isRepeated}
-use Rattle.cells_reader.proofs.Judging.{repeated-none, repeated-step, repeated-more}
+use Rattle.cells_reader.proofs.CellValidation.{repeated-none, repeated-step, repeated-more}
 use Rattle.cells_reader.proofs.repeated.Statement.{statement}
 use Rattle.cells_reader.proofs.repeated.Tie as tie
 

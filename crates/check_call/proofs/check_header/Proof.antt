@@ -3,7 +3,7 @@ use Rattle.base.specs.{needs, _≡_, sym, _∙_, ap, ℕ, arith, length, replic
 use Rattle.model.specs.{need}
 use Rattle.theory_text.proofs.{header-fits}
 use Rattle.graph_reader.proofs.{header-read}
-use Rattle.check_call.proofs.Steps.{header-stops, header-short, header-done}
+use Rattle.check_call.proofs.CheckStages.{header-stops, header-short, header-done}
 use Rattle.check_call.proofs.check_header.Statement.{statement}
 use Rattle.check_call.proofs.check_header.Tie as tie
 

@@ -1,15 +1,15 @@
--- `check_call::check_nets` meets its contract: the nets judged, then the comparison, or 33.
+-- `check_call::check_nets` meets its contract: the nets validated, then the comparison, or 33.
 use Rattle.base.specs.{needs, _∙_, length-replicate, ℕ}
 use Rattle.model.specs.{inputNets}
-use Rattle.check_call.proofs.Inputs.{placed-frame}
-use Rattle.check_call.proofs.Steps.{wire-asks, wired-comparable, wired-answer, wired-stops}
+use Rattle.check_call.proofs.InputCodes.{ordered-preamble}
+use Rattle.check_call.proofs.CheckStages.{wire-asks, wired-comparable, wired-answer, wired-stops}
 use Rattle.check_call.proofs.check_nets.Statement.{statement}
 use Rattle.check_call.proofs.check_nets.Tie as tie
 
 input-codes-requires : tie.Need-input-codes-requires
 input-codes-requires c κs =
-    let s = c .before .before in let f = placed-frame (s .args .work .now) (s .args .h) (s .pre .0) (s .pre .2 .placed) in
-    (f .room, f .within, f .few)
+    let s = c .before .before in let f = ordered-preamble (s .args .work .now) (s .args .h) (s .pre .0) (s .pre .2 .ordered) in
+    (f .capacity, f .within, f .few)
 
 wire-requires : tie.Need-wire-requires
 wire-requires c κs =

@@ -4,7 +4,7 @@ use Rattle.model.specs.{from, decimal}
 use Rattle.base_words.specs.{putAt, zeros, slotAddr}
 use Rattle.check_names.specs.{code}
 use Rattle.check_call.specs.{inputCode}
-use Rattle.check_call.proofs.Inputs.{codes-none, codes-more, code-is}
+use Rattle.check_call.proofs.InputCodes.{codes-none, codes-more, code-is}
 use Rattle.check_call.proofs.input_codes.Statement.{statement}
 use Rattle.check_call.proofs.input_codes.Tie as tie
 

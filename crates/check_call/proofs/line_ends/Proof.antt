@@ -1,7 +1,7 @@
 -- `check_call::line_ends` meets its contract. The invariant: the number is that of the bytes passed, from the last on; the measure is how many are left.
 use Rattle.base.specs.{_≡_, _∙_, ap, ℕ, _+_, _≤_, arith, length, drop}
 use Rattle.model.specs.{lineEnds}
-use Rattle.check_call.proofs.Ends.{ends-none, ends-one, ends-other}
+use Rattle.check_call.proofs.LineEndChecks.{ends-none, ends-one, ends-other}
 use Rattle.check_call.proofs.line_ends.Statement.{statement}
 use Rattle.check_call.proofs.line_ends.Tie as tie
 

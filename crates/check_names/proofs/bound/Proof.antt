@@ -1,10 +1,10 @@
--- `check_names::bound` meets its contract. The invariant: so many words are bound, and the others are due; the measure is how many are left.
+-- `check_names::bound` meets its contract. The invariant: so many words are bound, and the others are expected; the measure is how many are left.
 use Rattle.base.specs.{needs, _≡_, refl, sym, _∙_, ap, subst, [], _∷_, _+_, _-_, _≤_, _<_, arith, length, set}
 use Rattle.model.specs.{boundNets}
 use Rattle.check_names.specs.{pinAt, letters, fieldsFrom, netsOf, ownNets}
 use Rattle.check_names.specs.declared.Pin.{Pin}
-use Rattle.check_names.proofs.Parting.{fields-none, fields-part}
-use Rattle.check_names.proofs.Binding.{Part, part-start, part-none, part-step, part-end, own-none, own-more, own-last}
+use Rattle.check_names.proofs.WordSplits.{fields-none, fields-part}
+use Rattle.check_names.proofs.PinBinding.{Part, part-start, part-none, part-step, part-end, own-none, own-more, own-last}
 use Rattle.check_names.proofs.bound.Statement.{statement}
 use Rattle.check_names.proofs.bound.Tie as tie
 
@@ -34,12 +34,12 @@ loop-again c =
           (part-step (a .l .now) (a .from) (a .n) (l .loop .at) (l .loop .j) (l .loop .codes) (l .loop .inv .2) (k .before .before .loop-test .taken) (l .loop .inv .1) (λ e. c .if1 .left (ap (λ (p : Pin). p .code) q ∙ e))),
     )
 
--- the words of the pins are bound, and the gate's own is due
-own-due : (k : tie.After-pin-at2 Inv-loop μ-loop) →
+-- the words of the pins are bound, and the gate's own is expected
+own-expected : (k : tie.After-pin-at2 Inv-loop μ-loop) →
     let l = k .before .before in
     let a = l .before .before .args in
     netsOf (a .n) (boundNets (letters 0 (a .n)) (fieldsFrom (a .l .now) (a .from))) ≡ ownNets (l .loop .codes) (boundNets (79 ∷ []) (fieldsFrom (a .l .now) (l .loop .at)))
-own-due k =
+own-expected k =
     let l = k .before .before in let a = l .before .before .args in
     part-end (a .l .now) (a .from) (a .n) (l .loop .at) (l .loop .j) (l .loop .codes) (l .loop .inv .2) (omega (arith, k .before .loop-test .left))
 
@@ -47,14 +47,14 @@ returns-2 : tie.Need-returns-2 Inv-loop μ-loop
 returns-2 c =
     let k = c .before .before .before in let l = k .before .before in let a = l .before .before .args in
     c .no-nets2 .ensures
-    ∙ sym (own-due k ∙ own-none (a .l .now) (l .loop .at) (l .loop .codes) (sym (ap (λ (p : Pin). p .code) (k .pin-at2 .ensures)) ∙ c .before .if2 .taken))
+    ∙ sym (own-expected k ∙ own-none (a .l .now) (l .loop .at) (l .loop .codes) (sym (ap (λ (p : Pin). p .code) (k .pin-at2 .ensures)) ∙ c .before .if2 .taken))
 
 returns-3 : tie.Need-returns-3 Inv-loop μ-loop
 returns-3 c =
     let e = c .before .before .before in let k = e .before .before in let l = k .before .before in let a = l .before .before .args in
     let n = pinAt (a .l .now) (l .loop .at) 79 .next in
     c .no-nets3 .ensures
-    ∙ sym (own-due k
+    ∙ sym (own-expected k
     ∙ own-more (a .l .now) (l .loop .at) (l .loop .codes) (λ q. e .if2 .left (ap (λ (p : Pin). p .code) (k .pin-at2 .ensures) ∙ q)) _ _
     (fields-part (a .l .now) n (subst (λ (p : Pin). p .next ≤ length (a .l .now)) (k .pin-at2 .ensures) (c .before .if3 .taken))))
 
@@ -63,7 +63,7 @@ returns-4 c =
     let e = c .before .before in let k = e .before .before in let l = k .before .before in let a = l .before .before .args in
     let n = pinAt (a .l .now) (l .loop .at) 79 .next in
     ap (λ (p : Pin). record { codes = l .loop .codes; net = p .code }) (k .pin-at2 .ensures)
-    ∙ sym (own-due k
+    ∙ sym (own-expected k
     ∙ own-last (a .l .now) (l .loop .at) (l .loop .codes) (λ q. e .if2 .left (ap (λ (p : Pin). p .code) (k .pin-at2 .ensures) ∙ q))
     (fields-none (a .l .now) n (subst (λ (p : Pin). length (a .l .now) < p .next) (k .pin-at2 .ensures) (c .if3 .left))))
 

@@ -2,7 +2,7 @@
 use Rattle.base.specs.{needs, _≡_, sym, _∙_, _+_, _-_, _≤_, arith, length, drop}
 use Rattle.model.specs.{nameOf, cellsOf}
 use Rattle.check_names.specs.{cellIndex}
-use Rattle.check_names.proofs.Binding.{index-start, index-found, index-next, index-end}
+use Rattle.check_names.proofs.PinBinding.{index-start, index-found, index-next, index-end}
 use Rattle.check_names.proofs.cell_named.Statement.{statement}
 use Rattle.check_names.proofs.cell_named.Tie as tie
 

@@ -1,7 +1,7 @@
 -- `check_names::code_of` meets its contract. The invariant: the number is that of the bytes passed, from the last on; the measure is how many are left.
 use Rattle.base.specs.{needs, _≡_, sym, _∙_, ap, ℕ, _+_, _-_, _*_, _≤_, arith, length, drop}
 use Rattle.check_names.specs.{code}
-use Rattle.check_names.proofs.Names.{code-end, code-fits, code-more}
+use Rattle.check_names.proofs.NetNames.{code-end, code-fits, code-more}
 use Rattle.check_names.proofs.code_of.Statement.{statement}
 use Rattle.check_names.proofs.code_of.Tie as tie
 
@@ -31,7 +31,7 @@ add-n c =
 loop-again : tie.Need-loop-again Inv-loop μ-loop
 loop-again c =
     let l = c .before .before .before in
-    (omega arith, ap (λ (b : ℕ). l .loop .n * 256 + b) (c .wide .ensures) ∙ code-more (l .before .before .args .w .now) (λ k. omega (arith, l .before .shared-slice-known .given k)) (l .loop .i) (l .loop .n) (l .loop .inv .0) (l .loop .inv .1) (c .before .before .loop-test .taken))
+    (omega arith, ap (λ (b : ℕ). l .loop .n * 256 + b) (c .widen .ensures) ∙ code-more (l .before .before .args .w .now) (λ k. omega (arith, l .before .shared-slice-known .given k)) (l .loop .i) (l .loop .n) (l .loop .inv .0) (l .loop .inv .1) (c .before .before .loop-test .taken))
 
 returns : tie.Need-returns Inv-loop μ-loop
 returns c =

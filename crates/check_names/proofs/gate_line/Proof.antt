@@ -3,8 +3,8 @@ use Rattle.base.specs.{needs, _≡_, sym, _∙_, ap, subst, ℕ, _+_, _≤_, ar
 use Rattle.model.specs.{fields, noCell, cellsOf, boundNets, gateOfFields}
 use Rattle.check_names.specs.{letters, fieldsFrom, gateWith, gateOf}
 use Rattle.check_names.specs.declared.Nets.{Nets}
-use Rattle.check_names.proofs.Parting.{space-from, space-fits}
-use Rattle.check_names.proofs.Gates.{line-short, at-places, gate-none, gate-some}
+use Rattle.check_names.proofs.WordSplits.{space-from, space-fits}
+use Rattle.check_names.proofs.GateLines.{line-short, at-places, gate-none, gate-some}
 use Rattle.check_names.proofs.gate_line.Statement.{statement}
 use Rattle.check_names.proofs.gate_line.Tie as tie
 

@@ -1,8 +1,8 @@
 -- `check_names::is_gate` meets its contract: the first field is the keyword.
 use Rattle.base.specs.{needs, sym, _∙_, ap, List, ℕ, arith, length-take-le}
 use Rattle.model.specs.{same, text}
-use Rattle.check_names.proofs.Parting.{space-fits}
-use Rattle.check_names.proofs.Named.{first-is}
+use Rattle.check_names.proofs.WordSplits.{space-fits}
+use Rattle.check_names.proofs.NameLines.{first-is}
 use Rattle.check_names.proofs.is_gate.Statement.{statement}
 use Rattle.check_names.proofs.is_gate.Tie as tie
 

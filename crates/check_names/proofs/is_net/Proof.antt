@@ -1,6 +1,6 @@
 -- `check_names::is_net` meets its contract: each return knows what was met.
 use Rattle.base.specs.{needs, sym, _∙_}
-use Rattle.check_names.proofs.Names.{net-empty, net-long, net-bytes}
+use Rattle.check_names.proofs.NetNames.{net-empty, net-long, net-bytes}
 use Rattle.check_names.proofs.is_net.Statement.{statement}
 use Rattle.check_names.proofs.is_net.Tie as tie
 

@@ -2,8 +2,8 @@
 use Rattle.base.specs.{needs, sym, _∙_, ap}
 use Rattle.model.specs.{number}
 use Rattle.base_text.proofs.{value-is, value-none}
-use Rattle.check_names.proofs.Pins.{rest-all}
-use Rattle.check_names.proofs.Named.{out-empty, out-letter, out-number, out-none}
+use Rattle.check_names.proofs.PinLetters.{rest-all}
+use Rattle.check_names.proofs.NameLines.{out-empty, out-letter, out-number, out-none}
 use Rattle.check_names.proofs.is_out.Statement.{statement}
 use Rattle.check_names.proofs.is_out.Tie as tie
 

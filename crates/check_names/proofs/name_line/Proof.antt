@@ -2,8 +2,8 @@
 use Rattle.base.specs.{needs, sym, _∙_, ap, Bool, _+_, arith, length-take-le}
 use Rattle.model.specs.{text}
 use Rattle.check_names.specs.{pickN, fieldsFrom, twoWords}
-use Rattle.check_names.proofs.Parting.{space-fits}
-use Rattle.check_names.proofs.Named.{line-code}
+use Rattle.check_names.proofs.WordSplits.{space-fits}
+use Rattle.check_names.proofs.NameLines.{line-code}
 use Rattle.check_names.proofs.name_line.Statement.{statement}
 use Rattle.check_names.proofs.name_line.Tie as tie
 

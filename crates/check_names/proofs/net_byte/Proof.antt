@@ -1,7 +1,7 @@
 -- `check_names::net_byte` meets its contract: a byte of a cell's name that is no underscore.
 use Rattle.base.specs.{needs, sym, _∙_, ap}
 use Rattle.check_names.specs.{isNetByte}
-use Rattle.check_names.proofs.Names.{net-line, net-other}
+use Rattle.check_names.proofs.NetNames.{net-line, net-other}
 use Rattle.check_names.proofs.net_byte.Statement.{statement}
 use Rattle.check_names.proofs.net_byte.Tie as tie
 

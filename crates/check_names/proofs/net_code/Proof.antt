@@ -1,6 +1,6 @@
 -- `check_names::net_code` meets its contract.
 use Rattle.base.specs.{needs, sym, _∙_}
-use Rattle.check_names.proofs.Names.{net-short, code-net, code-none}
+use Rattle.check_names.proofs.NetNames.{net-short, code-net, code-none}
 use Rattle.check_names.proofs.net_code.Statement.{statement}
 use Rattle.check_names.proofs.net_code.Tie as tie
 

@@ -2,7 +2,7 @@
 use Rattle.base.specs.{needs, sym, _∙_, ap, ap₂, arith, ℕ, _+_, _-_, List, take, drop}
 use Rattle.model.specs.{pinNet}
 use Rattle.check_names.specs.{spaceFrom, optCode, pinOf, pinAt}
-use Rattle.check_names.proofs.Parting.{fields-none, fields-part, space-fits, space-from}
+use Rattle.check_names.proofs.WordSplits.{fields-none, fields-part, space-fits, space-from}
 use Rattle.check_names.proofs.pin_at.Statement.{statement}
 use Rattle.check_names.proofs.pin_at.Tie as tie
 

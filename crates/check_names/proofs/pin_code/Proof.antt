@@ -1,7 +1,7 @@
 -- `check_names::pin_code` meets its contract: each return knows the bytes that it met.
 use Rattle.base.specs.{needs, sym, _∙_, ap}
 use Rattle.check_names.specs.{netCode}
-use Rattle.check_names.proofs.Pins.{rest-all, pin-short, pin-letter, pin-sign, pin-rest}
+use Rattle.check_names.proofs.PinLetters.{rest-all, pin-short, pin-letter, pin-sign, pin-rest}
 use Rattle.check_names.proofs.pin_code.Statement.{statement}
 use Rattle.check_names.proofs.pin_code.Tie as tie
 

@@ -2,7 +2,7 @@
 -- line.
 use Rattle.base.specs.{needs, _≡_, refl, sym, _∙_, _-_, length}
 use Rattle.check_names.specs.{spaceFrom}
-use Rattle.check_names.proofs.Parting.{space-here, space-later, space-end}
+use Rattle.check_names.proofs.WordSplits.{space-here, space-later, space-end}
 use Rattle.check_names.proofs.space_from.Statement.{statement}
 use Rattle.check_names.proofs.space_from.Tie as tie
 

@@ -1,8 +1,8 @@
 -- `check_names::two_words` meets its contract: the fields from the place on, and where each of them ends.
 use Rattle.base.specs.{needs, sym, _∙_, ap, Bool, _+_, _-_, arith, take, drop}
 use Rattle.check_names.specs.{pickN, netCode}
-use Rattle.check_names.proofs.Parting.{space-from, space-fits}
-use Rattle.check_names.proofs.Named.{two-none, two-one, two-more, two-are}
+use Rattle.check_names.proofs.WordSplits.{space-from, space-fits}
+use Rattle.check_names.proofs.NameLines.{two-none, two-one, two-more, two-are}
 use Rattle.check_names.proofs.two_words.Statement.{statement}
 use Rattle.check_names.proofs.two_words.Tie as tie
 

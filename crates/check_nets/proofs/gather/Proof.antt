@@ -4,10 +4,10 @@ use Rattle.check_nets.proofs.gather.Statement.{statement}
 use Rattle.check_nets.proofs.gather.Tie as tie
 
 abbrev Inv-loop : tie.InvT-loop
-Inv-loop ranks₀ wait waiting own rank m₀ ranks m = m ≤ 10923
+Inv-loop components₀ wait waiting own component m₀ components m = m ≤ 10923
 
 abbrev μ-loop : tie.MeasureT-loop
-μ-loop ranks₀ wait waiting own rank m₀ ranks m = m
+μ-loop components₀ wait waiting own component m₀ components m = m
 
 pub gather-spec : {M : Type 1} → statement M
 gather-spec = tie.close (tie.spec

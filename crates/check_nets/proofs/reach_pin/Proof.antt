@@ -1,6 +1,6 @@
 -- `check_nets::reach_pin` meets its contract.
 use Rattle.base.specs.{needs, _+_, _*_, arith}
-use Rattle.check_order.proofs.{stepped-found, stepped-seen, stepped-append, stepped-room}
+use Rattle.check_order.proofs.{stepped-found, stepped-seen, stepped-append, stepped-capacity}
 use Rattle.check_nets.proofs.reach_pin.Statement.{statement}
 use Rattle.check_nets.proofs.reach_pin.Tie as tie
 
@@ -36,8 +36,8 @@ append-requires c κs =
     let p = e .before in
     let s = p .before in
     let a = s .args in
-    let room = stepped-room (a .refs .now) (a .n) (a .i) (a .k) (a .j) (a .m) (p .pin .result) (a .seen .now) (a .queue .now) (s .pre .0) (s .pre .1) (s .pre .2) (s .pre .3) (s .pre .4) (s .pre .5) (p .pin .ensures) (e .if1 .left) (f .if3 .left) in
-    (room .0, room .1)
+    let capacity = stepped-capacity (a .refs .now) (a .n) (a .i) (a .k) (a .j) (a .m) (p .pin .result) (a .seen .now) (a .queue .now) (s .pre .0) (s .pre .1) (s .pre .2) (s .pre .3) (s .pre .4) (s .pre .5) (p .pin .ensures) (e .if1 .left) (f .if3 .left) in
+    (capacity .0, capacity .1)
 
 returns-4 : tie.Need-returns-4
 returns-4 c =

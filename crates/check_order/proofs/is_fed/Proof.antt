@@ -1,6 +1,6 @@
 -- `check_order::is_fed` meets its contract.
 use Rattle.base.specs.{needs, _+_, _*_, arith}
-use Rattle.check_order.proofs.Placing.{fed-input, fed-marked, fed-waits}
+use Rattle.check_order.proofs.ReadyDrivers.{fed-input, fed-marked, fed-waits}
 use Rattle.check_order.proofs.is_fed.Statement.{statement}
 use Rattle.check_order.proofs.is_fed.Tie as tie
 
@@ -8,7 +8,7 @@ returns : tie.Need-returns
 returns c =
     let p = c .before in
     let a = p .before .args in
-    fed-input (a .refs .now) (a .marks .now) (a .i) (a .j) (p .pin .result) (p .before .pre .2) (p .pin .ensures) (c .if1 .taken)
+    fed-input (a .refs .now) (a .flags .now) (a .i) (a .j) (p .pin .result) (p .before .pre .2) (p .pin .ensures) (c .if1 .taken)
 
 element-copy-out-if2 : tie.Need-element-copy-out-if2
 element-copy-out-if2 c =
@@ -21,14 +21,14 @@ returns-2 c =
     let e = c .before .before in
     let p = e .before in
     let a = p .before .args in
-    fed-waits (a .refs .now) (a .marks .now) (a .i) (a .j) (p .pin .result) (p .before .pre .2) (p .pin .ensures) (e .if1 .left) (c .if2 .taken)
+    fed-waits (a .refs .now) (a .flags .now) (a .i) (a .j) (p .pin .result) (p .before .pre .2) (p .pin .ensures) (e .if1 .left) (c .if2 .taken)
 
 returns-3 : tie.Need-returns-3
 returns-3 c =
     let e = c .before .before in
     let p = e .before in
     let a = p .before .args in
-    fed-marked (a .refs .now) (a .marks .now) (a .i) (a .j) (p .pin .result) (p .before .pre .2) (p .pin .ensures) (e .if1 .left) (c .if2 .left)
+    fed-marked (a .refs .now) (a .flags .now) (a .i) (a .j) (p .pin .result) (p .before .pre .2) (p .pin .ensures) (e .if1 .left) (c .if2 .left)
 
 pub is-fed-spec : {M : Type 1} → statement M
 is-fed-spec = tie.close (tie.spec

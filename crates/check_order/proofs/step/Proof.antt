@@ -1,7 +1,7 @@
 -- `check_order::step` meets its contract: the walk ends, goes down or goes up.
 use Rattle.base.specs.{needs, arith, _-_, ap, _∙_}
 use Rattle.check_order.specs.{Made, made, down}
-use Rattle.check_order.proofs.Making.{step-out, step-under, step-up}
+use Rattle.check_order.proofs.SortSteps.{step-out, step-under, step-up}
 use Rattle.check_order.proofs.step.Statement.{statement}
 use Rattle.check_order.proofs.step.Tie as tie
 
@@ -10,8 +10,8 @@ returns c =
     let d = c .before in
     let s = d .before .before in
     let a = s .args in (
-      record { arranged = s .pre .1 .arranged; deep = omega arith },
-      step-out (a .refs .now) (a .n) (a .w .depth) (d .listed .result) (made (a .w .count) (a .marks .now) (a .order .now)) (a .passed .now) (a .stack .now) (d .listed .ensures) (c .if1 .taken),
+      record { sorted = s .pre .1 .sorted; deep = omega arith },
+      step-out (a .refs .now) (a .n) (a .w .depth) (d .listed .result) (made (a .w .count) (a .flags .now) (a .order .now)) (a .passed .now) (a .stack .now) (d .listed .ensures) (c .if1 .taken),
     )
 
 returns-2 : tie.Need-returns-2
@@ -21,9 +21,9 @@ returns-2 c =
     let d = e .before in
     let s = d .before .before in
     let a = s .args in
-    let l = made (a .w .count) (a .marks .now) (a .order .now) in (
-      record { arranged = s .pre .1 .arranged; deep = c .descend .ensures .0 },
-      c .descend .ensures .1 l ∙ step-under (a .refs .now) (a .n) (a .w .depth) (d .listed .result) l (a .passed .now) (a .stack .now) (d .listed .ensures) (e .if1 .left) (t .if2 .taken),
+    let l = made (a .w .count) (a .flags .now) (a .order .now) in (
+      record { sorted = s .pre .1 .sorted; deep = c .push-fanin .ensures .0 },
+      c .push-fanin .ensures .1 l ∙ step-under (a .refs .now) (a .n) (a .w .depth) (d .listed .result) l (a .passed .now) (a .stack .now) (d .listed .ensures) (e .if1 .left) (t .if2 .taken),
     )
 
 returns-3 : tie.Need-returns-3
@@ -33,9 +33,9 @@ returns-3 c =
     let d = e .before in
     let s = d .before .before in
     let a = s .args in (
-      record { arranged = c .place .ensures .0 .arranged; deep = omega (arith, s .pre .1 .deep) },
-      ap (λ (x : Made). down (a .w .depth - 1) x (a .passed .now) (a .stack .now)) (c .place .ensures .1)
-          ∙ step-up (a .refs .now) (a .n) (a .w .depth) (d .listed .result) (made (a .w .count) (a .marks .now) (a .order .now)) (a .passed .now) (a .stack .now) (d .listed .ensures) (e .if1 .left) (t .if2 .left),
+      record { sorted = c .list-if-ready .ensures .0 .sorted; deep = omega (arith, s .pre .1 .deep) },
+      ap (λ (x : Made). down (a .w .depth - 1) x (a .passed .now) (a .stack .now)) (c .list-if-ready .ensures .1)
+          ∙ step-up (a .refs .now) (a .n) (a .w .depth) (d .listed .result) (made (a .w .count) (a .flags .now) (a .order .now)) (a .passed .now) (a .stack .now) (d .listed .ensures) (e .if1 .left) (t .if2 .left),
     )
 
 pub step-spec : {M : Type 1} → statement M

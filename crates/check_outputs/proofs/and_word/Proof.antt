@@ -1,6 +1,6 @@
 -- `check_outputs::and_word` meets its contract, by those of the two literals.
 use Rattle.base.specs.{_∙_, bitAnd, needs}
-use Rattle.check_outputs.proofs.Gates.{and-literals}
+use Rattle.check_outputs.proofs.GateWords.{and-literals}
 use Rattle.check_outputs.proofs.and_word.Statement.{statement}
 use Rattle.check_outputs.proofs.and_word.Tie as tie
 

@@ -1,6 +1,6 @@
 -- `check_outputs::differing` meets its contract, bit by bit.
 use Rattle.base.specs.{_∙_, arith, needs}
-use Rattle.check_outputs.proofs.Gates.{differ-bits}
+use Rattle.check_outputs.proofs.GateWords.{differ-bits}
 use Rattle.check_outputs.proofs.differing.Statement.{statement}
 use Rattle.check_outputs.proofs.differing.Tie as tie
 

@@ -1,22 +1,22 @@
 -- `check_outputs::evaluate` meets its contract: inside a block nothing changes; where one begins the words of variables and drivers are their values, and the outputs
 -- differ where these do.
 use Rattle.base.specs.{_≡_, sym, _∙_, subst, arith, ℕ, _/_, _<_, needs}
-use Rattle.base_words.specs.{placedOf}
-use Rattle.check_outputs.specs.{Slots, SlotsTurn}
-use Rattle.check_outputs.proofs.Variables.{fits, slots-ready, valueWord, slots-turn}
-use Rattle.check_outputs.proofs.Nets.{drivers-ready, netWord, drivers-turn}
-use Rattle.check_outputs.proofs.Outputs.{output-small, output-word}
+use Rattle.base_words.specs.{orderedCount}
+use Rattle.check_outputs.specs.{Slots, SlotsStep}
+use Rattle.check_outputs.proofs.VariableWords.{fits, slots-ready, valueWord, slots-step}
+use Rattle.check_outputs.proofs.NetWords.{drivers-ready, netWord, drivers-step}
+use Rattle.check_outputs.proofs.OutputWords.{output-small, output-word}
 use Rattle.check_outputs.proofs.evaluate.Statement.{statement}
 use Rattle.check_outputs.proofs.evaluate.Tie as tie
 
 -- where a block begins
-abbrev start-of : tie.After-placed → tie.Start
+abbrev start-of : tie.After-ordered-count → tie.Start
 start-of c = c .before .before .before .before
 
 fill-slots-requires : tie.Need-fill-slots-requires
 fill-slots-requires c κs =
     let start = start-of (c .before) in let a = start .args in let p = start .pre .0 .0 in
-    (subst (Slots (a .work .now) (a .h .size) (a .h .inputs)) (sym (c .before .placed .ensures)) (slots-ready (a .work .now) (a .h) (a .nets .now) (a .n) (a .refs .now) (a .order .now) (p .0) (p .1) (p .2)), search needs)
+    (subst (Slots (a .work .now) (a .h .size) (a .h .inputs)) (sym (c .before .ordered-count .ensures)) (slots-ready (a .work .now) (a .h) (a .nets .now) (a .n) (a .refs .now) (a .order .now) (p .0) (p .1) (p .2)), search needs)
 
 fill-drivers-requires : tie.Need-fill-drivers-requires
 fill-drivers-requires c κs =
@@ -25,16 +25,16 @@ fill-drivers-requires c κs =
 
 sub-first : tie.Need-sub-first
 sub-first c =
-    let p = start-of (c .before .before .before .before .before) .pre .0 .0 in omega (arith, p .2 .room, p .2 .holding .outs)
+    let p = start-of (c .before .before .before .before .before) .pre .0 .0 in omega (arith, p .2 .capacity, p .2 .graphLoaded .outs)
 
 fill-differences-requires : tie.Need-fill-differences-requires
 fill-differences-requires c κs =
     let start = start-of (c .before .before .before .before .before .before .before .before) in
     let a = start .args in let p = start .pre .0 .0 in
     let f = fits (a .work .now) (a .h) (a .nets .now) (a .n) (a .refs .now) (a .order .now) (p .0) (p .1) (p .2) in (
-      f .room,
+      f .capacity,
       f .outs,
-      omega (arith, p .2 .room, p .2 .holding .outs, p .2 .bounded),
+      omega (arith, p .2 .capacity, p .2 .graphLoaded .outs, p .2 .bounded),
       output-small (a .work .now) (a .h) (a .nets .now) (a .n) (a .refs .now) (a .order .now) (p .0) (p .1) (p .2),
       start .pre .0 .1,
     )
@@ -46,18 +46,18 @@ returns-2 : tie.Need-returns-2
 returns-2 c = (
   c .fill-differences .ensures .0,
   (λ g ds q k l.
-      let filled = c .before .before .before .before .before in let slots = filled .before .before in let placed = slots .before .before in
-      let a = start-of placed .args in let n : placed .placed .result ≡ placedOf (a .h) = placed .placed .ensures in
+      let filled = c .before .before .before .before .before in let slots = filled .before .before in let ordered = slots .before .before in
+      let a = start-of ordered .args in let n : ordered .ordered-count .result ≡ orderedCount (a .h) = ordered .ordered-count .ensures in
       let b : ℕ = a .s / 64 in
       let w = a .work .now in let words : ℕ → ℕ = valueWord w (a .h) (a .nets .now) (a .n) (a .refs .now) (a .order .now) g ds q b in
-      c .fill-differences .ensures .1 k (omega (arith, q .holding .outs))
+      c .fill-differences .ensures .1 k (omega (arith, q .graphLoaded .outs))
       ∙ output-word w (a .h) (a .nets .now) (a .n) (a .refs .now) (a .order .now) g ds q b (slots .fill-slots .last .1 .1 .1 .1 .1 .0) (filled .fill-drivers .last .1 .1 .1 .1 .1 .0)
       (λ i s.
       slots .fill-slots .ensures words
-      (subst (λ (x : ℕ). SlotsTurn w (a .h .size) (a .h .inputs) x b words) (sym n) (slots-turn w (a .h) (a .nets .now) (a .n) (a .refs .now) (a .order .now) g ds q b))
+      (subst (λ (x : ℕ). SlotsStep w (a .h .size) (a .h .inputs) x b words) (sym n) (slots-step w (a .h) (a .nets .now) (a .n) (a .refs .now) (a .order .now) g ds q b))
       i (subst (λ (x : ℕ). i < x) (sym n) s))
       (filled .fill-drivers .ensures (netWord w (a .h) (a .nets .now) (a .n) (a .refs .now) (a .order .now) g ds q b)
-      (drivers-turn w (a .h) (a .nets .now) (a .n) (a .refs .now) (a .order .now) g ds q b))
+      (drivers-step w (a .h) (a .nets .now) (a .n) (a .refs .now) (a .order .now) g ds q b))
       k l),
 )
 

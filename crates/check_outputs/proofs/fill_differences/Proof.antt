@@ -2,7 +2,7 @@
 use Rattle.base.specs.{length, getD, length-set, _≡_, ap, _∙_, ℕ, _+_, _-_, _/_, _≤_, _<_, arith, needs}
 use Rattle.base_words.specs.{outputAt}
 use Rattle.check_outputs.specs.{literalWord, differences}
-use Rattle.check_outputs.proofs.Turns.{filled-more}
+use Rattle.check_outputs.proofs.EvaluationSteps.{filled-more}
 use Rattle.check_outputs.proofs.fill_differences.Statement.{statement}
 use Rattle.check_outputs.proofs.fill_differences.Tie as tie
 

@@ -1,14 +1,14 @@
 -- `check_outputs::fill_slots` meets its contract. The invariant: the variables of the slots passed have their words. The measure is the slots left.
 use Rattle.base.specs.{_≡_, sym, _∙_, subst, length, getD, set, length-set, ℕ, _+_, _-_, _≤_, _<_, arith, needs}
 use Rattle.base_words.specs.{slotAt}
-use Rattle.check_outputs.proofs.Turns.{filled-more, slot-same, slots-less}
-use Rattle.check_outputs.specs.{SlotsTurn}
+use Rattle.check_outputs.proofs.EvaluationSteps.{filled-more, slot-same, slots-less}
+use Rattle.check_outputs.specs.{SlotsStep}
 use Rattle.check_outputs.proofs.fill_slots.Statement.{statement}
 use Rattle.check_outputs.proofs.fill_slots.Tie as tie
 
 abbrev Inv-loop : tie.InvT-loop
 Inv-loop work m inputs n b variables₀ i₀ variables i =
-    (i ≤ n) × ((values : ℕ → ℕ) → SlotsTurn work m inputs n b values → (j : ℕ) → j < i → getD variables (slotAt work m j) 0 ≡ values (slotAt work m j)) × (length variables ≡ 4096)
+    (i ≤ n) × ((values : ℕ → ℕ) → SlotsStep work m inputs n b values → (j : ℕ) → j < i → getD variables (slotAt work m j) 0 ≡ values (slotAt work m j)) × (length variables ≡ 4096)
 
 abbrev μ-loop : tie.MeasureT-loop
 μ-loop work m inputs n b variables₀ i₀ variables i = n - i
@@ -21,18 +21,18 @@ slot-word-requires c κs =
 mul-variables : tie.Need-mul-variables Inv-loop μ-loop
 mul-variables c =
     let at-loop = c .before .before .before .before in let start = at-loop .before .before in
-    omega (arith, c .slot .ensures, start .pre .0 .slots (at-loop .loop .i) (omega arith), start .pre .0 .room .small)
+    omega (arith, c .slot .ensures, start .pre .0 .slots (at-loop .loop .i) (omega arith), start .pre .0 .capacity .small)
 
 element-write-variables : tie.Need-element-write-variables Inv-loop μ-loop
 element-write-variables c =
     let at-loop = c .before .before .before .before in let start = at-loop .before .before in
-    omega (arith, c .slot .ensures, start .pre .0 .slots (at-loop .loop .i) (omega arith), start .pre .0 .room .small)
+    omega (arith, c .slot .ensures, start .pre .0 .slots (at-loop .loop .i) (omega arith), start .pre .0 .capacity .small)
 
 loop-again : tie.Need-loop-again Inv-loop μ-loop
 loop-again c =
     let at-loop = c .before .before .before .before in let start = at-loop .before .before in let a = start .args in
     let i = at-loop .loop .i in let xs = at-loop .loop .variables in
-    let inside : slotAt (a .work .now) (a .m) i < length xs = omega (arith, start .pre .0 .slots i (omega arith), start .pre .0 .room .small, at-loop .loop .inv .2) in (
+    let inside : slotAt (a .work .now) (a .m) i < length xs = omega (arith, start .pre .0 .slots i (omega arith), start .pre .0 .capacity .small, at-loop .loop .inv .2) in (
       omega arith,
       (λ values t.
           subst (λ (v : ℕ). (j : ℕ) → j < i + 1 → getD (set xs v (c .before .slot-word .result)) (slotAt (a .work .now) (a .m) j) 0 ≡ values (slotAt (a .work .now) (a .m) j)) (sym (c .slot .ensures))

@@ -1,8 +1,8 @@
 -- `check_outputs::first_wrong` meets its contract. The invariant: what is sought from here on is what is sought; the measure is the outputs left.
 use Rattle.base.specs.{_≡_, sym, ap, _∙_, ℕ, _+_, _-_, _≤_, arith, needs, getD}
 use Rattle.model.specs.{bit}
-use Rattle.graph_placing.specs.{seek}
-use Rattle.graph_placing.proofs.{seek-here, seek-past, seek-end}
+use Rattle.graph_order.specs.{seek}
+use Rattle.graph_order.proofs.{seek-here, seek-past, seek-end}
 use Rattle.check_outputs.proofs.first_wrong.Statement.{statement}
 use Rattle.check_outputs.proofs.first_wrong.Tie as tie
 

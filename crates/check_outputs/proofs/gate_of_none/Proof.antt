@@ -1,7 +1,7 @@
 -- `check_outputs::gate_of_none` meets its contract: row 0 counts.
 use Rattle.base.specs.{sym, _∙_, true, false, _%_, eq-eqb, ne-eqb}
-use Rattle.check_outputs.proofs.Bits.{all-bits, no-bits}
-use Rattle.check_outputs.proofs.Gates.{no-pins}
+use Rattle.check_outputs.proofs.AssignmentBits.{all-bits, no-bits}
+use Rattle.check_outputs.proofs.GateWords.{no-pins}
 use Rattle.check_outputs.proofs.gate_of_none.Statement.{statement}
 use Rattle.check_outputs.proofs.gate_of_none.Tie as tie
 

@@ -1,7 +1,7 @@
 -- `check_outputs::gate_of_one` meets its contract, by the last pin.
 use Rattle.base.specs.{_∙_, needs}
 use Rattle.check_outputs.specs.{selected}
-use Rattle.check_outputs.proofs.Gates.{last-of-one}
+use Rattle.check_outputs.proofs.GateWords.{last-of-one}
 use Rattle.check_outputs.proofs.gate_of_one.Statement.{statement}
 use Rattle.check_outputs.proofs.gate_of_one.Tie as tie
 

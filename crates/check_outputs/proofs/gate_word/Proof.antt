@@ -1,7 +1,7 @@
 -- `check_outputs::gate_word` meets its contract, by the last pin.
 use Rattle.base.specs.{_∙_, needs}
 use Rattle.check_outputs.specs.{selected}
-use Rattle.check_outputs.proofs.Gates.{last-of-four}
+use Rattle.check_outputs.proofs.GateWords.{last-of-four}
 use Rattle.check_outputs.proofs.gate_word.Statement.{statement}
 use Rattle.check_outputs.proofs.gate_word.Tie as tie
 

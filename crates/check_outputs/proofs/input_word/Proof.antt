@@ -3,7 +3,7 @@ use Rattle.base.specs.{_≡_, sym, _∙_, Bool, true, false, List, map, ℕ, _+
 use Rattle.model.specs.{all, below, bit, tabulate}
 use Rattle.base_truth.proofs.{at}
 use Rattle.check_outputs.specs.{wordOf, inputWord}
-use Rattle.check_outputs.proofs.Bits.{words-same, all-bits, no-bits, input-low, input-high}
+use Rattle.check_outputs.proofs.AssignmentBits.{words-same, all-bits, no-bits, input-low, input-high}
 use Rattle.check_outputs.proofs.input_word.Statement.{statement}
 use Rattle.check_outputs.proofs.input_word.Tie as tie
 

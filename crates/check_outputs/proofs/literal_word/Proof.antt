@@ -1,6 +1,6 @@
 -- `check_outputs::literal_word` meets its contract, by the phase.
 use Rattle.base.specs.{_%_, eq-eqb, ne-eqb, arith, needs}
-use Rattle.check_outputs.proofs.Gates.{negative, positive}
+use Rattle.check_outputs.proofs.GateWords.{negative, positive}
 use Rattle.check_outputs.proofs.literal_word.Statement.{statement}
 use Rattle.check_outputs.proofs.literal_word.Tie as tie
 

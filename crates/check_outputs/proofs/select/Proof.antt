@@ -1,6 +1,6 @@
 -- `check_outputs::select` meets its contract, bit by bit.
 use Rattle.base.specs.{arith, needs}
-use Rattle.check_outputs.proofs.Gates.{select-bits}
+use Rattle.check_outputs.proofs.GateWords.{select-bits}
 use Rattle.check_outputs.proofs.select.Statement.{statement}
 use Rattle.check_outputs.proofs.select.Tie as tie
 

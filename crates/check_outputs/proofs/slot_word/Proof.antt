@@ -1,7 +1,7 @@
 -- `check_outputs::slot_word` meets its contract.
 use Rattle.base.specs.{ap, _∙_, ℕ, _/_, _≤_, _<_, arith, getD, needs}
 use Rattle.check_outputs.specs.{andWord, andAt}
-use Rattle.check_outputs.proofs.Turns.{slot-zero, slot-input, slot-and}
+use Rattle.check_outputs.proofs.EvaluationSteps.{slot-zero, slot-input, slot-and}
 use Rattle.check_outputs.proofs.slot_word.Statement.{statement}
 use Rattle.check_outputs.proofs.slot_word.Tie as tie
 
@@ -24,12 +24,12 @@ inside c = let start = c .before .before .before .before in omega (arith, c .slo
 left-inside : (c : tie.After-left) → c .left .result / 2 < 4096
 left-inside c =
     let slot = c .before in let pre = slot .before .before .before .before .pre in
-    omega (arith, c .left .ensures, inside slot, pre .lefts (slot .slot .result) (inside slot), pre .room .small)
+    omega (arith, c .left .ensures, inside slot, pre .lefts (slot .slot .result) (inside slot), pre .capacity .small)
 
 right-inside : (c : tie.After-right) → c .right .result / 2 < 4096
 right-inside c =
     let slot = c .before .before in let pre = slot .before .before .before .before .pre in
-    omega (arith, c .right .ensures, inside slot, pre .rights (slot .slot .result) (inside slot), pre .room .small)
+    omega (arith, c .right .ensures, inside slot, pre .rights (slot .slot .result) (inside slot), pre .capacity .small)
 
 returns-3 : tie.Need-returns-3
 unfolding andAt
@@ -44,7 +44,7 @@ returns-3 c =
 pub slot-word-spec : {M : Type 1} → statement M
 slot-word-spec = tie.close (tie.spec
     returns (λ c. search needs) (λ c κs. search needs) returns-2 (λ c κs. search needs)
-    (λ c κs. (c .before .before .before .before .pre .room, inside c))
-    (λ c κs. (c .before .before .before .before .before .pre .room, inside (c .before)))
+    (λ c κs. (c .before .before .before .before .pre .capacity, inside c))
+    (λ c κs. (c .before .before .before .before .before .pre .capacity, inside (c .before)))
     (λ c. omega (arith, left-inside (c .before))) (λ c. omega (arith, left-inside (c .before)))
     (λ c. omega (arith, right-inside (c .before))) (λ c. omega (arith, right-inside (c .before))) (λ c κs. search needs) returns-3)

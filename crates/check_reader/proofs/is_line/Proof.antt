@@ -2,7 +2,7 @@
 use Rattle.base.specs.{needs, _≡_, sym, _∙_, ap, List, ℕ, _+_, arith}
 use Rattle.model.specs.{same}
 use Rattle.base_text.specs.{lineAt}
-use Rattle.check_reader.proofs.Seen.{line-not, line-is, stop-from, stop-fits, stop-next, line-bytes}
+use Rattle.check_reader.proofs.StoredDrivers.{line-not, line-is, stop-from, stop-fits, stop-next, line-bytes}
 use Rattle.check_reader.proofs.is_line.Statement.{statement}
 use Rattle.check_reader.proofs.is_line.Tie as tie
 

@@ -1,7 +1,7 @@
 -- `check_reader::label_code` meets its contract: the number is written behind the letter.
 use Rattle.base.specs.{needs, refl, sym, _∙_, ap, ap₂, List, ℕ, arith, length, take, length-take-le}
 use Rattle.check_names.specs.{code}
-use Rattle.check_reader.proofs.Naming.{labelBytes, out-long, out-size, out-put}
+use Rattle.check_reader.proofs.NameLineReading.{labelBytes, out-long, out-size, out-put}
 use Rattle.check_reader.proofs.label_code.Statement.{statement}
 use Rattle.check_reader.proofs.label_code.Tie as tie
 

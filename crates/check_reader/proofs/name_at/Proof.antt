@@ -1,10 +1,10 @@
--- `check_reader::name_at` meets its contract: the line is judged where byte 10 alone ends it.
+-- `check_reader::name_at` meets its contract: the line is validated where byte 10 alone ends it.
 use Rattle.base.specs.{needs, _≡_, sym, _∙_, ap, List, ℕ, _+_, arith}
 use Rattle.model.specs.{nameDriver}
 use Rattle.base_text.specs.{lineAt}
 use Rattle.check_names.specs.{nameCode}
-use Rattle.check_reader.proofs.Seen.{stop-from, stop-fits, stop-next, line-bytes}
-use Rattle.check_reader.proofs.Gathering.{name-not, name-is}
+use Rattle.check_reader.proofs.StoredDrivers.{stop-from, stop-fits, stop-next, line-bytes}
+use Rattle.check_reader.proofs.GateGathering.{name-not, name-is}
 use Rattle.check_reader.proofs.name_at.Statement.{statement}
 use Rattle.check_reader.proofs.name_at.Tie as tie
 

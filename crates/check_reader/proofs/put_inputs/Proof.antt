@@ -2,9 +2,9 @@
 use Rattle.base.specs.{_≡_, sym, ap, _∙_, List, _∷_, _++_, ℕ, _+_, _-_, _≤_, arith}
 use Rattle.model.specs.{decimal}
 use Rattle.base_words.specs.{slotAddr}
-use Rattle.base_text.proofs.{Partly, begin, step, room, kept, end}
+use Rattle.base_text.proofs.{Partly, begin, step, capacity, kept, end}
 use Rattle.check_reader.specs.{namesFrom, inputName}
-use Rattle.check_reader.proofs.Names.{names-next, names-none, input-is}
+use Rattle.check_reader.proofs.OutputNames.{names-next, names-none, input-is}
 use Rattle.check_reader.proofs.put_inputs.Statement.{statement}
 use Rattle.check_reader.proofs.put_inputs.Tie as tie
 
@@ -45,7 +45,7 @@ cast-put-word c =
 put-word-requires : tie.Need-put-word-requires Inv-loop μ-loop
 put-word-requires c κs =
     let t = c .before in let l = t .before .before in
-    room (l .before .before .before .pre .2) (l .loop .inv .1) (32 ∷ 112 ∷ decimal (t .slot .result)) (later t) (next-name t)
+    capacity (l .before .before .before .pre .2) (l .loop .inv .1) (32 ∷ 112 ∷ decimal (t .slot .result)) (later t) (next-name t)
 
 loop-again : tie.Need-loop-again Inv-loop μ-loop
 loop-again c =

@@ -1,9 +1,9 @@
 -- `check_reader::put_outputs` meets its contract. The invariant: the first i names are written. The measure is the number of names left.
 use Rattle.base.specs.{_≡_, ap, _∙_, List, _∷_, _++_, ℕ, _+_, _-_, _≤_, arith}
 use Rattle.model.specs.{decimal, outName}
-use Rattle.base_text.proofs.{Partly, begin, step, room, kept, end}
+use Rattle.base_text.proofs.{Partly, begin, step, capacity, kept, end}
 use Rattle.check_reader.specs.{namesFrom}
-use Rattle.check_reader.proofs.Names.{names-next, names-none, out-is}
+use Rattle.check_reader.proofs.OutputNames.{names-next, names-none, out-is}
 use Rattle.check_reader.proofs.put_outputs.Statement.{statement}
 use Rattle.check_reader.proofs.put_outputs.Tie as tie
 
@@ -35,7 +35,7 @@ cast-put-word c = let t = c .before in omega (arith, t .before .before .before .
 put-word-requires : tie.Need-put-word-requires Inv-loop μ-loop
 put-word-requires c κs =
     let t = c .before in let s = t .before .before .before in
-    room (s .pre .1) (t .before .loop .inv .1) (32 ∷ 111 ∷ decimal (t .before .loop .i)) (later (s .args .n) (t .before .loop .i)) (next-name t)
+    capacity (s .pre .1) (t .before .loop .inv .1) (32 ∷ 111 ∷ decimal (t .before .loop .i)) (later (s .args .n) (t .before .loop .i)) (next-name t)
 
 loop-again : tie.Need-loop-again Inv-loop μ-loop
 loop-again c =

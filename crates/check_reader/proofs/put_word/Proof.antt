@@ -1,7 +1,7 @@
 -- `check_reader::put_word` meets its contract: a space and the letter, and the number behind them.
 use Rattle.base.specs.{needs, refl, sym, _∷_, [], append-nil, arith}
 use Rattle.model.specs.{decimal}
-use Rattle.base_text.proofs.{Partly, begin, step, room, finish, as-wrote}
+use Rattle.base_text.proofs.{Partly, begin, step, capacity, finish, as-wrote}
 use Rattle.check_reader.proofs.put_word.Statement.{statement}
 use Rattle.check_reader.proofs.put_word.Tie as tie
 
@@ -15,7 +15,7 @@ one c =
 put-number-requires : tie.Need-put-number-requires
 put-number-requires c κs =
     let p = c .before .before .before in let s = p .before .before .before .before in
-    room (s .pre) (one p) (decimal (s .args .n)) [] (sym (append-nil (decimal (s .args .n))))
+    capacity (s .pre) (one p) (decimal (s .args .n)) [] (sym (append-nil (decimal (s .args .n))))
 
 returns : tie.Need-returns
 returns c =

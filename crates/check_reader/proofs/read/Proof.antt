@@ -1,7 +1,7 @@
 -- `check_reader::read` meets its contract: the lines read, and the array cleared where one breaks its form.
 use Rattle.base.specs.{needs, _≡_, sym, ap, subst, _∙_, Bool, ℕ, arith, length, replicate}
 use Rattle.check_reader.specs.{Taken}
-use Rattle.check_reader.proofs.Taking.{read-broken, read-whole}
+use Rattle.check_reader.proofs.NetlistReading.{read-broken, read-whole}
 use Rattle.check_reader.proofs.read.Statement.{statement}
 use Rattle.check_reader.proofs.read.Tie as tie
 

@@ -1,4 +1,4 @@
--- `check_reader::read_gates` meets its contract. The invariant: the drivers of the lines so far stand first in the array, and the lines from here on are due; each line has six bytes at least. The measure is
+-- `check_reader::read_gates` meets its contract. The invariant: the drivers of the lines so far stand first in the array, and the lines from here on are expected; each line has six bytes at least. The measure is
 -- what is left of the text.
 use Rattle.base.specs.{needs, not-true, not-false, _≡_, refl, sym, _∙_, ap, subst, List, [], ℕ, _+_, _-_, _*_, _≤_, arith, length, getD}
 use Rattle.base.specs.{true}
@@ -8,9 +8,9 @@ use Rattle.base_words.proofs.{length-put}
 use Rattle.base_text.specs.{lineAt}
 use Rattle.check_names.proofs.{gate-long}
 use Rattle.check_reader.specs.{gateWords}
-use Rattle.check_reader.proofs.Seen.{stop-from, stop-fits, stop-next, line-bytes, line-next, line-long}
-use Rattle.check_reader.proofs.Gathering.{gate-eight, Sofar, so-start, so-end, so-names, so-broken, so-step, drives-none}
-use Rattle.check_reader.proofs.Gathering.{drives-some}
+use Rattle.check_reader.proofs.StoredDrivers.{stop-from, stop-fits, stop-next, line-bytes, line-next, line-long}
+use Rattle.check_reader.proofs.GateGathering.{gate-eight, Sofar, so-start, so-end, so-names, so-broken, so-step, drives-none}
+use Rattle.check_reader.proofs.GateGathering.{drives-some}
 use Rattle.check_reader.proofs.read_gates.Statement.{statement}
 use Rattle.check_reader.proofs.read_gates.Tie as tie
 
@@ -90,12 +90,12 @@ loop-again c =
     let ten : here .ending ≡ 1 = d .2 in
     let puts : t .store .last .0 ≡ putAt (l .loop .nets) (8 * l .loop .count) (gateWords (l .loop .at) (q .gate-at .result)) = t .store .ensures in
     let same-size : length (l .loop .nets) ≡ length (a .nets .now) = l .loop .inv .1 in
-    let room : 8 * l .loop .count + 8 ≤ length (a .nets .now) = omega (arith, l .loop .inv .0, b .pre .1, b .pre .2, n .before .loop-test .taken) in (
+    let capacity : 8 * l .loop .count + 8 ≤ length (a .nets .now) = omega (arith, l .loop .inv .0, b .pre .1, b .pre .2, n .before .loop-test .taken) in (
       omega arith,
       ap length puts ∙ length-put (l .loop .nets) (8 * l .loop .count) (gateWords (l .loop .at) (q .gate-at .result)) (omega (arith, gate-eight (l .loop .at) (q .gate-at .result))) ∙ same-size,
       subst (λ (k : ℕ). Sofar (a .s .now) (a .lib) (a .from) k (l .loop .count + 1) (a .nets .now) (t .store .last .0)) (sym (line-next (a .s .now) (l .loop .at) (n .line .result) (n .line .ensures)))
           (so-step (a .s .now) (a .lib) (a .from) (l .loop .at) (l .loop .count) (a .nets .now) (l .loop .nets) (l .loop .inv .2) (l .loop .inv .0) (n .before .loop-test .taken) gate (d .0) (d .1) ten (t .store .last .0)
-          (puts ∙ ap (putAt (l .loop .nets) (8 * l .loop .count)) (d .3)) room),
+          (puts ∙ ap (putAt (l .loop .nets) (8 * l .loop .count)) (d .3)) capacity),
     )
 
 returns-3 : tie.Need-returns-3 Inv-loop μ-loop

@@ -1,7 +1,7 @@
--- `check_reader::read_pairs` meets its contract. The invariant: the drivers of the outputs so far stand in the array, and the lines from here on are due; the measure is how many
+-- `check_reader::read_pairs` meets its contract. The invariant: the drivers of the outputs so far stand in the array, and the lines from here on are expected; the measure is how many
 -- outputs are left.
 use Rattle.base.specs.{_≡_, _∙_, _+_, _-_, _*_, _≤_, arith, length}
-use Rattle.check_reader.proofs.Naming.{Pairs, pairs-start, pairs-broken, pairs-step, pairs-end}
+use Rattle.check_reader.proofs.NameLineReading.{Pairs, pairs-start, pairs-broken, pairs-step, pairs-end}
 use Rattle.check_reader.proofs.read_pairs.Statement.{statement}
 use Rattle.check_reader.proofs.read_pairs.Tie as tie
 
@@ -48,7 +48,7 @@ loop-again c =
     let t = c .before .before .before in let l = t .before .before .before in let b = l .before .before .before in
     let a = b .args in (
       omega (arith, t .before .before .loop-test .taken),
-      (let further : l .loop .at + 6 ≤ t .name-step .result .at = t .name-step .ensures .due (c .if1 .left) .2 in omega (arith, l .loop .inv .1)),
+      (let further : l .loop .at + 6 ≤ t .name-step .result .at = t .name-step .ensures .expected (c .if1 .left) .2 in omega (arith, l .loop .inv .1)),
       pairs-step (a .s .now) (a .outs) (a .from) (a .first) (l .loop .at) (l .loop .k) (a .nets .now) (l .loop .nets) (l .loop .inv .2) (t .before .before .loop-test .taken)
           (t .name-step .result) _ (t .name-step .ensures) (omega (arith, b .pre .1, b .pre .3, l .loop .inv .1, t .name-step .ensures .within (c .if1 .left))) (c .if1 .left),
     )

@@ -1,7 +1,7 @@
 -- `check_reader::wire` meets its contract.
 use Rattle.base.specs.{needs, sym, _∙_, ap, ℕ, [], _∷_}
 use Rattle.check_names.specs.{code}
-use Rattle.check_reader.proofs.Names.{out-is}
+use Rattle.check_reader.proofs.OutputNames.{out-is}
 use Rattle.check_reader.proofs.wire.Statement.{statement}
 use Rattle.check_reader.proofs.wire.Tie as tie
 

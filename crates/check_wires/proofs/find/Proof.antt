@@ -1,7 +1,7 @@
--- `check_wires::find` meets its contract. The invariant: a driver of this number is on what is left of the chain. The measure is how far the chain can lead.
+-- `check_wires::find` meets its contract. The invariant: a driver of this number is on what is left of the bucket. The measure is how far the bucket can lead.
 use Rattle.base.specs.{ℕ, _-_, _≤_, arith, _≡_, sym, subst}
 use Rattle.check_wires.specs.{ownAt, On}
-use Rattle.check_wires.proofs.Chaining.{on-none, on-next}
+use Rattle.check_wires.proofs.HashBuckets.{on-none, on-next}
 use Rattle.check_wires.proofs.find.Statement.{statement}
 use Rattle.check_wires.proofs.find.Tie as tie
 

@@ -1,7 +1,7 @@
 -- `check_wires::look` meets its contract.
 use Rattle.base.specs.{needs, _%_, _≤_, arith}
 use Rattle.check_wires.specs.{headOf}
-use Rattle.check_wires.proofs.Chaining.{looked-input, looked-none, looked-driver}
+use Rattle.check_wires.proofs.HashBuckets.{looked-input, looked-none, looked-driver}
 use Rattle.check_wires.proofs.look.Statement.{statement}
 use Rattle.check_wires.proofs.look.Tie as tie
 

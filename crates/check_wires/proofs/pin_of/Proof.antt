@@ -1,6 +1,6 @@
 -- `check_wires::pin_of` meets its contract.
 use Rattle.base.specs.{needs, _/_, _%_, arith, refl}
-use Rattle.check_wires.proofs.Pinning.{pin-looked}
+use Rattle.check_wires.proofs.PinReferences.{pin-looked}
 use Rattle.check_wires.proofs.pin_of.Statement.{statement}
 use Rattle.check_wires.proofs.pin_of.Tie as tie
 

@@ -3,8 +3,8 @@ use Rattle.base.specs.{ℕ, sym, subst, length-replicate, needs}
 use Rattle.program_files.specs.{Loaded-in}
 use Rattle.program_files.specs.declared.Loaded.{Loaded}
 use Rattle.program_files.specs.declared.Loaded.the-variants.{Bytes}
-use Rattle.checker.specs.Enough.{Enough}
-use Rattle.checker.proofs.Lent.{lent-enough}
+use Rattle.checker.specs.BufferBounds.{Enough}
+use Rattle.checker.proofs.BufferSizes.{buffer-enough}
 use Rattle.checker.proofs.main.Statement.{statement}
 use Rattle.checker.proofs.main.Tie as tie
 
@@ -45,7 +45,7 @@ slice-aggregate-check-files-4 : tie.Need-slice-aggregate-check-files-4
 slice-aggregate-check-files-4 c = sym (length-replicate {A = ℕ} 1036288 0)
 
 check-files-requires : tie.Need-check-files-requires
-check-files-requires c κs = subst Enough (sym (length-replicate {A = ℕ} 1036288 0)) lent-enough
+check-files-requires c κs = subst Enough (sym (length-replicate {A = ℕ} 1036288 0)) buffer-enough
 
 pub main-spec : {M : Type 1} → statement M
 main-spec = tie.close (tie.spec

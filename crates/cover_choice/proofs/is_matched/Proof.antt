@@ -9,10 +9,10 @@ returns c = λ e. absurd (true≢false e)
 
 returns-2 : tie.Need-returns-2
 returns-2 c =
-    let turned = c .before in
-    let tested = turned .before .before in
+    let permuted = c .before in
+    let tested = permuted .before .before in
     let a = tested .before .before .args in
-    λ e. (sym (tested .is-listed .ensures) ∙ turned .before .if1 .left, ap (λ (x : ℕ). isListed (a .sheet .now) x) (sym (turned .in-phase .ensures)) ∙ sym (c .is-listed2 .ensures) ∙ e)
+    λ e. (sym (tested .is-listed .ensures) ∙ permuted .before .if1 .left, ap (λ (x : ℕ). isListed (a .matches .now) x) (sym (permuted .in-phase .ensures)) ∙ sym (c .is-listed2 .ensures) ∙ e)
 
 pub is-matched-spec : {M : Type 1} → statement M
 is-matched-spec = tie.close (tie.spec (λ c κs. search needs) (λ c κs. search needs) (λ c κs. search needs) returns returns-2)

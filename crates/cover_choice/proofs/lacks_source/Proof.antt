@@ -3,7 +3,7 @@ use Rattle.base.specs.{ap, subst, sym, _∙_, ℕ, _≤_, _/_, needs}
 use Rattle.model.specs.declared.Phase.{Phase}
 use Rattle.model.specs.{absent}
 use Rattle.base_words.specs.{phaseAt}
-use Rattle.base_words.proofs.{room-need}
+use Rattle.base_words.proofs.{capacity-need}
 use Rattle.cover_choice.proofs.lacks_source.Statement.{statement}
 use Rattle.cover_choice.proofs.lacks_source.Tie as tie
 
@@ -11,7 +11,7 @@ phase-requires : tie.Need-phase-requires
 phase-requires c κs =
     let a = c .before .before .args in
     let p = c .before .before .pre in (
-      room-need (a .work .now) (a .m) (a .outputs) (p .0 .room),
+      capacity-need (a .work .now) (a .m) (a .outputs) (p .0 .capacity),
       subst (λ (l : ℕ). l / 2 ≤ a .m) (sym (c .output .ensures)) (p .0 .within (a .k) (p .1)),
     )
 

@@ -5,7 +5,7 @@ use Rattle.model.specs.declared.Phase.{Phase}
 use Rattle.theory_graph.proofs.{opposite-var}
 use Rattle.base_words.specs.{putNeeded}
 use Rattle.cover_choice.specs.{putAll}
-use Rattle.cover_choice.proofs.Marks.{feeds-matched, feeds-inverted, feeds-input, feeds-nothing}
+use Rattle.cover_choice.proofs.NeededMarks.{feeds-matched, feeds-inverted, feeds-input, feeds-nothing}
 use Rattle.cover_choice.proofs.mark_feeds.Statement.{statement}
 use Rattle.cover_choice.proofs.mark_feeds.Tie as tie
 
@@ -16,7 +16,7 @@ mark-match-requires c κs =
     let p = c .before .before .before .before .phase in
     let e = ap (λ (x : Phase). x .source) (sym (p .ensures)) ∙ c .before .before .s .given .1 in
     let r = s .pre .0 .1 in
-    ((s .pre .0 .0, r .usable, r .matches (a .l) (s .pre .1) (c .before .before .s .given .0 .0) e, s .pre .0 .2), r .cuts, s .pre .1)
+    ((s .pre .0 .0, r .inBounds, r .matches (a .l) (s .pre .1) (c .before .before .s .given .0 .0) e, s .pre .0 .2), r .cuts, s .pre .1)
 
 enum-told : tie.Need-enum-told
 enum-told c = search needs
@@ -25,7 +25,7 @@ mark-needed-requires : tie.Need-mark-needed-requires
 unfolding varOf
 mark-needed-requires c κs =
     let s = c .before .before .before .before .before .before .before in
-    (s .pre .0 .1 .cuts .room, omega (arith, ap (λ (y : ℕ). y / 2) (c .opposite .ensures .0), opposite-var (s .args .l), s .pre .1))
+    (s .pre .0 .1 .cuts .capacity, omega (arith, ap (λ (y : ℕ). y / 2) (c .opposite .ensures .0), opposite-var (s .args .l), s .pre .1))
 
 returns : tie.Need-returns
 returns c cells r pins =
@@ -35,7 +35,7 @@ returns c cells r pins =
     let x = told .s .given .0 .0 in
     let e = ap (λ (p : Phase). p .source) (sym (told .before .before .phase .ensures)) ∙ told .s .given .1 in
     let i = r .matches (a .l) (s .pre .1) x e in
-    c .before .before .mark-match .ensures cells (r .usable) i pins
+    c .before .before .mark-match .ensures cells (r .inBounds) i pins
     ∙ ap (putAll (a .work .now) (a .m)) (sym (feeds-matched cells (a .work .now) (a .m) (a .l) x i e))
 
 returns-2 : tie.Need-returns-2

@@ -3,11 +3,11 @@ use Rattle.base.specs.{_≡_, refl, sym, ap, subst, _∙_, List, ℕ, suc, _+_,
 use Rattle.base.specs.{drop-length}
 use Rattle.model.specs.{bit, varOf, fedNets}
 use Rattle.theory_graph.proofs.{lit-var}
-use Rattle.base_words.specs.{Room, putNeeded}
+use Rattle.base_words.specs.{HasCapacity, putNeeded}
 use Rattle.base_truth.specs.{placesOf, pinNet}
 use Rattle.base_truth.proofs.{places-four, nets-length, nets-get}
 use Rattle.cover_choice.specs.{putAll}
-use Rattle.cover_choice.proofs.Marks.{mark-size}
+use Rattle.cover_choice.proofs.NeededMarks.{mark-size}
 use Rattle.cover_choice.proofs.mark_pins.Statement.{statement}
 use Rattle.cover_choice.proofs.mark_pins.Tie as tie
 
@@ -17,10 +17,10 @@ unfolding varOf
 net-var leaves order mask j m h = omega (arith, lit-var (bit mask j) (getD leaves (getD (placesOf order) j 0) 0))
 
 -- one pin more
-turn : (w : List ℕ) (m : ℕ) (leaves : List ℕ) (order mask pins j : ℕ) → order < 24 → pins ≤ 4 → j < pins
+step : (w : List ℕ) (m : ℕ) (leaves : List ℕ) (order mask pins j : ℕ) → order < 24 → pins ≤ 4 → j < pins
     → putAll w m (drop j (fedNets pins (placesOf order) mask leaves)) ≡ putAll (putNeeded w m (pinNet (placesOf order) mask leaves j)) m (drop (j + 1) (fedNets pins (placesOf order) mask leaves))
 unfolding putAll
-turn w m leaves order mask pins j o p h =
+step w m leaves order mask pins j o p h =
     let nets : List ℕ = fedNets pins (placesOf order) mask leaves in
     let four : pins ≤ length (placesOf order) = omega (arith, places-four order o) in
     let l : length nets ≡ pins = nets-length pins (placesOf order) mask leaves four in
@@ -54,7 +54,7 @@ mark-needed-requires c κs =
     let l = c .before .before .before in
     let s = c .before .before .before .before .before in
     let a = s .args in
-    let r : Room (l .loop .work) (a .m) = record { small = s .pre .0 .small; room = omega (arith, s .pre .0 .room, l .loop .inv .1) } in (
+    let r : HasCapacity (l .loop .work) (a .m) = record { small = s .pre .0 .small; capacity = omega (arith, s .pre .0 .capacity, l .loop .inv .1) } in (
       r,
       subst (λ (x : ℕ). x / 2 ≤ a .m) (sym (c .pin-net .ensures .0))
           (net-var (a .leaves) (a .order) (a .mask) (l .loop .j) (a .m) (s .pre .1 .within (l .loop .j) (c .before .before .loop-test .taken))),
@@ -70,13 +70,13 @@ loop-again c =
     let j : ℕ = l .loop .j in
     let x : ℕ = pinNet (placesOf (a .order)) (a .mask) (a .leaves) j in
     let h : j < a .pins = c .before .before .before .before .before .loop-test .taken in
-    let r : Room w (a .m) = record { small = s .pre .0 .small; room = omega (arith, s .pre .0 .room, l .loop .inv .1) } in
+    let r : HasCapacity w (a .m) = record { small = s .pre .0 .small; capacity = omega (arith, s .pre .0 .capacity, l .loop .inv .1) } in
     let v : x / 2 ≤ a .m = net-var (a .leaves) (a .order) (a .mask) j (a .m) (s .pre .1 .within j h) in
     let e : t .mark-needed .last .0 ≡ putNeeded w (a .m) x = t .mark-needed .ensures ∙ ap (putNeeded w (a .m)) (t .before .pin-net .ensures .0) in (
       omega arith,
       ap length e ∙ mark-size w (a .m) x r v ∙ l .loop .inv .1,
       ap (λ (y : List ℕ). putAll y (a .m) (drop (j + 1) (fedNets (a .pins) (placesOf (a .order)) (a .mask) (a .leaves)))) e
-          ∙ sym (turn w (a .m) (a .leaves) (a .order) (a .mask) (a .pins) j (s .pre .1 .known) (s .pre .1 .four) h)
+          ∙ sym (step w (a .m) (a .leaves) (a .order) (a .mask) (a .pins) j (s .pre .1 .known) (s .pre .1 .four) h)
           ∙ l .loop .inv .2,
     )
 

@@ -3,7 +3,7 @@ use Rattle.base.specs.{_≡_, sym, ap, subst, _∙_, List, ℕ, _+_, _*_, arith
 use Rattle.model.specs.{isInverted}
 use Rattle.model.specs.declared.Phase.{Phase}
 use Rattle.cover_choice.specs.{MatchesIn, fedOnce}
-use Rattle.cover_choice.proofs.Marks.{once-kept, needs-matches, turn-inverted, turn-direct}
+use Rattle.cover_choice.proofs.NeededMarks.{once-kept, needs-matches, step-inverted, step-uninverted}
 use Rattle.cover_choice.proofs.mark_variable.Statement.{statement}
 use Rattle.cover_choice.proofs.mark_variable.Tie as tie
 
@@ -43,7 +43,7 @@ returns c cells r pins =
     let i : MatchesIn cells w′ (a .m) = needs-matches (a .m) cells w w′ (once-kept (a .m) cells w (2 * a .v) r (omega (arith, s .pre .1))) r in
     c .before .before .mark-phase2 .ensures cells (subst (λ (x : List ℕ). MatchesIn cells x (a .m)) (sym e) i) pins
     ∙ ap (λ (x : List ℕ). fedOnce cells x (a .m) (2 * a .v + 1)) e
-    ∙ sym (turn-inverted cells w (a .m) (a .v) (ap (λ (p : Phase). isInverted (p .source)) (sym (test .before .before .positive .ensures)) ∙ sym (test .before .is-inverted .ensures) ∙ test .if1 .taken))
+    ∙ sym (step-inverted cells w (a .m) (a .v) (ap (λ (p : Phase). isInverted (p .source)) (sym (test .before .before .positive .ensures)) ∙ sym (test .before .is-inverted .ensures) ∙ test .if1 .taken))
 
 returns-2 : tie.Need-returns-2
 returns-2 c cells r pins =
@@ -57,7 +57,7 @@ returns-2 c cells r pins =
     let i : MatchesIn cells w′ (a .m) = needs-matches (a .m) cells w w′ (once-kept (a .m) cells w (2 * a .v + 1) r (omega (arith, s .pre .1))) r in
     c .before .before .mark-phase4 .ensures cells (subst (λ (x : List ℕ). MatchesIn cells x (a .m)) (sym e) i) pins
     ∙ ap (λ (x : List ℕ). fedOnce cells x (a .m) (2 * a .v)) e
-    ∙ sym (turn-direct cells w (a .m) (a .v) (ap (λ (p : Phase). isInverted (p .source)) (sym (test .before .before .positive .ensures)) ∙ sym (test .before .is-inverted .ensures) ∙ test .if1 .left))
+    ∙ sym (step-uninverted cells w (a .m) (a .v) (ap (λ (p : Phase). isInverted (p .source)) (sym (test .before .before .positive .ensures)) ∙ sym (test .before .is-inverted .ensures) ∙ test .if1 .left))
 
 pub mark-variable-spec : {M : Type 1} → statement M
 mark-variable-spec = tie.close (tie.spec

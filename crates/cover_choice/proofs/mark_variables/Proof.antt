@@ -2,15 +2,15 @@
 use Rattle.base.specs.{_≡_, refl, sym, ap, subst, _∙_, List, ℕ, suc, _-_, _≤_, _<_, arith, length}
 use Rattle.model.specs.declared.Cell.{Cell}
 use Rattle.base_words.specs.{slotAt}
-use Rattle.cover_choice.specs.{PinsOf, MatchesIn, SlotsIn, fedTurn, fedDown}
-use Rattle.cover_choice.proofs.Keeping.{NeedsKept}
-use Rattle.cover_choice.proofs.Marks.{turn-kept, needs-matches, needs-slots}
+use Rattle.cover_choice.specs.{PinsOf, MatchesIn, SlotsIn, fedStep, fedDown}
+use Rattle.cover_choice.proofs.KeptWords.{NeedsKept}
+use Rattle.cover_choice.proofs.NeededMarks.{step-kept, needs-matches, needs-slots}
 use Rattle.cover_choice.proofs.mark_variables.Statement.{statement}
 use Rattle.cover_choice.proofs.mark_variables.Tie as tie
 
-turn : (cells : List Cell) (w : List ℕ) (m i j : ℕ) → suc j ≡ i → fedDown cells w m i ≡ fedDown cells (fedTurn cells w m (slotAt w m j)) m j
+step : (cells : List Cell) (w : List ℕ) (m i j : ℕ) → suc j ≡ i → fedDown cells w m i ≡ fedDown cells (fedStep cells w m (slotAt w m j)) m j
 unfolding fedDown
-turn cells w m i j e = ap (fedDown cells w m) (sym e)
+step cells w m i j e = ap (fedDown cells w m) (sym e)
 
 done : (cells : List Cell) (w : List ℕ) (m i : ℕ) → i ≡ 0 → fedDown cells w m i ≡ w
 unfolding fedDown
@@ -30,7 +30,7 @@ loop-holds c = (omega arith, c .before .pre .1, refl, λ cells r p. (r, refl))
 slot-requires : tie.Need-slot-requires Inv-loop μ-loop
 slot-requires c κs =
     let l = c .before .before in
-    (l .loop .inv .1 .room, omega (arith, l .loop .inv .1 .few, c .before .loop-test .taken))
+    (l .loop .inv .1 .capacity, omega (arith, l .loop .inv .1 .few, c .before .loop-test .taken))
 
 mark-variable-requires : tie.Need-mark-variable-requires Inv-loop μ-loop
 mark-variable-requires c κs =
@@ -55,10 +55,10 @@ loop-again c =
     let b : i ≤ a .n = l .loop .inv .0 in
     let v : ℕ = slotAt w (a .m) (i - 1) in
     let v-in : v ≤ a .m = l .loop .inv .1 .within (i - 1) (omega arith) in
-    let known : (cells : List Cell) → MatchesIn cells w (a .m) → PinsOf cells (a .pins .now) → t .mark-variable .last .0 ≡ fedTurn cells w (a .m) v =
-    λ cells r p. t .mark-variable .ensures cells r p ∙ ap (fedTurn cells w (a .m)) (t .before .before .slot .ensures) in
+    let known : (cells : List Cell) → MatchesIn cells w (a .m) → PinsOf cells (a .pins .now) → t .mark-variable .last .0 ≡ fedStep cells w (a .m) v =
+    λ cells r p. t .mark-variable .ensures cells r p ∙ ap (fedStep cells w (a .m)) (t .before .before .slot .ensures) in
     let kept : (cells : List Cell) → MatchesIn cells w (a .m) → PinsOf cells (a .pins .now) → NeedsKept (a .m) w (t .mark-variable .last .0) =
-    λ cells r p. subst (NeedsKept (a .m) w) (sym (known cells r p)) (turn-kept (a .m) cells w v r v-in) in
+    λ cells r p. subst (NeedsKept (a .m) w) (sym (known cells r p)) (step-kept (a .m) cells w v r v-in) in
     let k : NeedsKept (a .m) w (t .mark-variable .last .0) = kept (s .pre .0 .0) (l .loop .inv .3 (s .pre .0 .0) (s .pre .0 .1) (s .pre .0 .2) .0) (s .pre .0 .2) in
     let e : suc (i - 1) ≡ i = omega arith in (
       omega arith,
@@ -67,7 +67,7 @@ loop-again c =
       (λ cells r₀ p.
           let r = l .loop .inv .3 cells r₀ p in (
             needs-matches (a .m) cells w _ k (r .0),
-            ap (λ (x : List ℕ). fedDown cells x (a .m) (i - 1)) (known cells (r .0) p) ∙ sym (turn cells w (a .m) i (i - 1) e) ∙ r .1,
+            ap (λ (x : List ℕ). fedDown cells x (a .m) (i - 1)) (known cells (r .0) p) ∙ sym (step cells w (a .m) i (i - 1) e) ∙ r .1,
           )),
     )
 

@@ -14,7 +14,7 @@ returns c =
     let a = s .args in
     second .match-listed .ensures
     ∙ ap (listMatched (cellsOf (a .lib)) 0) (first .build-pairs .ensures)
-    ∙ pairs-first (a .lib) (a .codes .now) (a .sheet .now) (s .pre .0 .joinable .whole)
+    ∙ pairs-first (a .lib) (a .ids .now) (a .matches .now) (s .pre .0 .joinable .whole)
 
 pub match-library-spec : {M : Type 1} → statement M
 match-library-spec = tie.close (tie.spec (λ c κs. search needs) (λ c κs. search needs) (λ c. search needs) returns)

@@ -10,8 +10,8 @@ returns : tie.Need-returns
 returns c =
     let tried = c .before .before .before in
     let a = tried .before .before .before .args in
-    λ cells sheet.
-    let e = tried .best-match .ensures cells sheet in
+    λ cells matches.
+    let e = tried .best-match .ensures cells matches in
     ap (phaseAs (a .k)) e
     ∙ under-first (a .former .cut) (a .former .best) cells (a .t .now) (a .k) (a .f) (omega (arith, c .if1 .taken, ap (λ (z : Best). z .arrival) e))
 
@@ -19,8 +19,8 @@ returns-2 : tie.Need-returns-2
 returns-2 c =
     let tried = c .before .before .before in
     let a = tried .before .before .before .args in
-    λ cells sheet.
-    let e = tried .best-match .ensures cells sheet in
+    λ cells matches.
+    let e = tried .best-match .ensures cells matches in
     under-rest (a .former .cut) (a .former .best) cells (a .t .now) (a .k) (a .f) (omega (arith, c .if1 .left, ap (λ (z : Best). z .arrival) e))
 
 pub match-phase-spec : {M : Type 1} → statement M

@@ -20,10 +20,10 @@ stored cells pins k x h e before j b = by (eqb j k) refl
     by false q = getD-set-other pins k j x 0 (eqb-false j k q) ∙ before j (omega (arith, b, eqb-false j k q))
 
 abbrev Inv-loop : tie.InvT-loop
-Inv-loop lib codes n pins₀ k₀ pins k = (length pins ≡ 256) × ((j : ℕ) → j < k → getD pins j 0 ≡ cellAt (cellsBy (cellsOf lib) codes) j .pins)
+Inv-loop lib ids n pins₀ k₀ pins k = (length pins ≡ 256) × ((j : ℕ) → j < k → getD pins j 0 ≡ cellAt (cellsBy (cellsOf lib) ids) j .pins)
 
 abbrev μ-loop : tie.MeasureT-loop
-μ-loop lib codes n pins₀ k₀ pins k = n - k
+μ-loop lib ids n pins₀ k₀ pins k = n - k
 
 add-n : tie.Need-add-n Inv-loop μ-loop
 add-n c = omega (arith, c .before .before .pre .few)
@@ -51,7 +51,7 @@ loop-again c =
     let l = c .before .before in
     let s = l .before .before .before in (
       length-set (l .loop .pins) _ _ ∙ l .loop .inv .0,
-      stored (cellsBy (cellsOf (s .args .lib)) (s .args .codes .now)) (l .loop .pins) (l .loop .k) _ (omega (arith, s .pre .few, c .before .loop-test .taken, l .loop .inv .0)) (c .pins-of .ensures) (l .loop .inv .1),
+      stored (cellsBy (cellsOf (s .args .lib)) (s .args .ids .now)) (l .loop .pins) (l .loop .k) _ (omega (arith, s .pre .few, c .before .loop-test .taken, l .loop .inv .0)) (c .pins-of .ensures) (l .loop .inv .1),
     )
 
 returns : tie.Need-returns Inv-loop μ-loop
@@ -59,7 +59,7 @@ returns c =
     let l = c .before in
     let s = l .before .before .before in
     let a = s .args in
-    record { listed = λ j h. l .loop .inv .1 j (omega (arith, h, by-length (cellsOf (a .lib)) (a .codes .now), s .pre .joinable .whole, c .loop-test .left)) }
+    record { listed = λ j h. l .loop .inv .1 j (omega (arith, h, by-length (cellsOf (a .lib)) (a .ids .now), s .pre .joinable .whole, c .loop-test .left)) }
 
 pub pin-counts-spec : {M : Type 1} → statement M
 pin-counts-spec = tie.close (tie.spec

@@ -1,5 +1,5 @@
 -- `cover_choice::size` meets its contract.
-use Rattle.cover_choice.proofs.Leaves.{size-few, size-four}
+use Rattle.cover_choice.proofs.LeafTimes.{size-few, size-four}
 use Rattle.cover_choice.proofs.size.Statement.{statement}
 use Rattle.cover_choice.proofs.size.Tie as tie
 

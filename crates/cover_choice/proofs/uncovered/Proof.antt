@@ -7,7 +7,7 @@ use Rattle.cover_choice.specs.{outputsFrom, missingFrom, missing}
 use Rattle.cover_choice.proofs.uncovered.Statement.{statement}
 use Rattle.cover_choice.proofs.uncovered.Tie as tie
 
--- a turn: output k has no source, or the answer is that of the outputs after it
+-- a step: output k has no source, or the answer is that of the outputs after it
 found : (w : List ℕ) (m k n : ℕ) → absent (phaseAt w m (outputAt w m k) .source) ≡ true → missingFrom w m k (suc n) ≡ Refused 17 k
 unfolding missingFrom outputsFrom from uncovered firstOf refusedAt
 found w m k n e = rw e

@@ -2,7 +2,7 @@
 use Rattle.base.specs.{_≡_, refl, sym, _∙_, subst, List, ℕ, _+_, _-_, _*_, _≤_, _<_, arith, needs, length}
 use Rattle.base_words.specs.{countAt}
 use Rattle.cut_functions.specs.{Early, Reached}
-use Rattle.cut_functions.proofs.Fills.{part, node-begin, node-same, node-reached, node-turn, node-end}
+use Rattle.cut_functions.proofs.FunctionFills.{part, node-begin, node-same, node-reached, node-step, node-end}
 use Rattle.cut_functions.proofs.fill_node.Statement.{statement}
 use Rattle.cut_functions.proofs.fill_node.Tie as tie
 
@@ -28,15 +28,15 @@ loop-holds c =
 
 fill-one-requires : tie.Need-fill-one-requires Inv-loop μ-loop
 fill-one-requires c κs =
-    let turn = c .before .before in
-    let l = turn .before in
+    let step = c .before .before in
+    let l = step .before in
     let s = start (l .before) in
     let a = s .args in
     let read = l .before in
     let w : List ℕ = a .work .now in
     let r = s .pre .0 in
     let inv = l .loop .inv in
-    let within : l .loop .k < countAt w (a .m) (a .v) = omega (arith, inv .1, turn .loop-test .taken) in
+    let within : l .loop .k < countAt w (a .m) (a .v) = omega (arith, inv .1, step .loop-test .taken) in
     let few = r .sound (a .v) (r .inside) .few in
     let same = node-same w (a .m) (a .v) r (l .loop .k) (omega arith) (l .loop .work) (inv .3) in (
       subst (λ (q : List ℕ). Reached q (a .m) (a .v)) (sym (inv .3)) (node-reached w (a .m) (a .v) r (l .loop .k) (omega arith)),
@@ -58,16 +58,16 @@ add-next c =
 loop-again : tie.Need-loop-again Inv-loop μ-loop
 loop-again c =
     let done = c .before .before in
-    let turn = done .before .before .before in
-    let l = turn .before in
+    let step = done .before .before .before in
+    let l = step .before in
     let s = start (l .before) in
     let a = s .args in
     let inv = l .loop .inv in
-    let within : l .loop .k < countAt (a .work .now) (a .m) (a .v) = omega (arith, inv .1, turn .loop-test .taken) in (
-      omega (arith, turn .loop-test .taken),
+    let within : l .loop .k < countAt (a .work .now) (a .m) (a .v) = omega (arith, inv .1, step .loop-test .taken) in (
+      omega (arith, step .loop-test .taken),
       inv .1,
       done .fill-one .kept .0 ∙ inv .2,
-      node-turn (a .work .now) (a .m) (a .v) (s .pre .0) (l .loop .k) within (l .loop .work) (inv .3) (done .fill-one .last .0) (done .fill-one .ensures .0),
+      node-step (a .work .now) (a .m) (a .v) (s .pre .0) (l .loop .k) within (l .loop .work) (inv .3) (done .fill-one .last .0) (done .fill-one .ensures .0),
       done .fill-one .ensures .1,
       omega (arith, inv .5),
     )

@@ -1,15 +1,15 @@
 -- `cut_functions::fill_one` meets its contract: the cut is loaded, its leaves noted, and the function found and stored.
 use Rattle.base.specs.{arith, needs}
 use Rattle.base_words.specs.{leavesOf}
-use Rattle.cut_functions.proofs.Leaves.{cut-narrow, cut-leaves, cut-small, begun}
-use Rattle.cut_functions.proofs.Fills.{one-filled}
+use Rattle.cut_functions.proofs.LeafNotes.{cut-narrow, cut-leaves, cut-small, begun}
+use Rattle.cut_functions.proofs.FunctionFills.{one-filled}
 use Rattle.cut_functions.proofs.fill_one.Statement.{statement}
 use Rattle.cut_functions.proofs.fill_one.Tie as tie
 
 load-cut-requires : tie.Need-load-cut-requires
 load-cut-requires c κs =
     let s = c .before .before in
-    (s .pre .0 .placed .room, s .pre .0 .inside, omega (arith, s .pre .0 .sound (s .args .v) (s .pre .0 .inside) .few, s .pre .3))
+    (s .pre .0 .ordered .capacity, s .pre .0 .inside, omega (arith, s .pre .0 .sound (s .args .v) (s .pre .0 .inside) .few, s .pre .3))
 
 note-leaves-requires : tie.Need-note-leaves-requires
 note-leaves-requires c κs =
@@ -39,7 +39,7 @@ set-function-requires : tie.Need-set-function-requires
 set-function-requires c κs =
     let put = c .before .before .before .before in
     let s = put .before .before .before .before .before .before in
-    (s .pre .0 .placed .room, s .pre .0 .inside, omega (arith, s .pre .0 .sound (s .args .v) (s .pre .0 .inside) .few, s .pre .3))
+    (s .pre .0 .ordered .capacity, s .pre .0 .inside, omega (arith, s .pre .0 .sound (s .args .v) (s .pre .0 .inside) .few, s .pre .3))
 
 returns : tie.Need-returns
 returns c =

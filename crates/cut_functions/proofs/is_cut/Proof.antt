@@ -3,7 +3,7 @@ use Rattle.base.specs.{refl, sym, ap, _∙_, arith, length, take-all, needs}
 use Rattle.model.specs.declared.Cut.{Cut}
 use Rattle.base_words.specs.{leavesOf}
 use Rattle.base_words.proofs.{four-leaves}
-use Rattle.cut_functions.proofs.Walks.{never}
+use Rattle.cut_functions.proofs.ConeWalks.{never}
 use Rattle.cut_functions.proofs.is_cut.Statement.{statement}
 use Rattle.cut_functions.proofs.is_cut.Tie as tie
 

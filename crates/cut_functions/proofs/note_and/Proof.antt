@@ -6,7 +6,7 @@ use Rattle.cut_functions.proofs.note_and.Tie as tie
 returns : tie.Need-returns
 returns c =
     let a = c .before .before .args in
-    (c .before .and-word .ensures, λ i. set (a .notes .now) (a .v) (a .base + c .wide .ensures i))
+    (c .before .and-word .ensures, λ i. set (a .notes .now) (a .v) (a .base + c .index-of .ensures i))
 
 pub note-and-spec : {M : Type 1} → statement M
 note-and-spec = tie.close (tie.spec

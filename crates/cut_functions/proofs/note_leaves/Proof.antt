@@ -1,7 +1,7 @@
--- `cut_functions::note_leaves` meets its contract. The invariant: the leaves from the i-th on are noted. The measure is the turns that are left.
+-- `cut_functions::note_leaves` meets its contract. The invariant: the leaves from the i-th on are noted. The measure is the steps that are left.
 use Rattle.base.specs.{_≡_, sym, _∙_, _-_, _≤_, _<_, arith, needs, length, take, drop, getD, length-take-le, getD-take}
 use Rattle.cut_functions.specs.{leafNotes}
-use Rattle.cut_functions.proofs.Leaves.{leaf-begin, leaf-turn}
+use Rattle.cut_functions.proofs.LeafNotes.{leaf-begin, leaf-step}
 use Rattle.cut_functions.proofs.note_leaves.Statement.{statement}
 use Rattle.cut_functions.proofs.note_leaves.Tie as tie
 
@@ -21,10 +21,10 @@ loop-holds c =
     let n : length (take (c .args .n) (c .args .t3)) ≡ c .args .n = counted c in
     (omega arith, leaf-begin (take (c .args .n) (c .args .t3)) 4 (c .args .base) (c .args .notes .now) (omega arith))
 
-inside : (c : tie.After-wide Inv-loop μ-loop) → c .wide .result < 4096
+inside : (c : tie.After-index-of Inv-loop μ-loop) → c .index-of .result < 4096
 inside c =
     let l = c .before .before .before in
-    omega (arith, c .wide .ensures, l .before .pre .2 (l .loop .i - 1) (c .before .if1 .taken))
+    omega (arith, c .index-of .ensures, l .before .pre .2 (l .loop .i - 1) (c .before .if1 .taken))
 
 loop-again : tie.Need-loop-again Inv-loop μ-loop
 loop-again c =
@@ -36,9 +36,9 @@ loop-again c =
     let n : length (take (a .n) (a .t3)) ≡ a .n = counted (l .before) in
     let e : getD (take (a .n) (a .t3)) j 0 ≡ getD (a .t3) j 0 = getD-take (a .n) (a .t3) j 0 (u .before .if1 .taken) in (
       omega arith,
-      leaf-turn (take (a .n) (a .t3)) (l .loop .i) j (a .base) (a .notes .now) (l .loop .notes) (u .wide .result) (c .wide2 .result)
-          (omega (arith, in-loop .loop-test .taken)) (omega (arith, u .before .if1 .taken)) (l .loop .inv .1) (u .wide .ensures ∙ sym e)
-          (c .wide2 .ensures ∙ c .before .pattern .ensures),
+      leaf-step (take (a .n) (a .t3)) (l .loop .i) j (a .base) (a .notes .now) (l .loop .notes) (u .index-of .result) (c .index-of2 .result)
+          (omega (arith, in-loop .loop-test .taken)) (omega (arith, u .before .if1 .taken)) (l .loop .inv .1) (u .index-of .ensures ∙ sym e)
+          (c .index-of2 .ensures ∙ c .before .pattern .ensures),
     )
 
 -- a leaf that the cut has not

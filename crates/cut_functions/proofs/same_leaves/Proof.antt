@@ -1,7 +1,7 @@
 -- `cut_functions::same_leaves` meets its contract: equal one by one.
 use Rattle.base.specs.{_≡_, refl, length, eqb-true, needs}
-use Rattle.cut_functions.proofs.Walks.{never}
-use Rattle.cut_functions.proofs.Leaves.{four-same}
+use Rattle.cut_functions.proofs.ConeWalks.{never}
+use Rattle.cut_functions.proofs.LeafNotes.{four-same}
 use Rattle.cut_functions.proofs.same_leaves.Statement.{statement}
 use Rattle.cut_functions.proofs.same_leaves.Tie as tie
 

@@ -1,7 +1,7 @@
 -- `cut_lists::list_node` meets its contract: a list of 19 keys says that there are too many cuts, and a shorter one has them all.
 use Rattle.base.specs.{_≡_, _∙_, List, ℕ, _-_, arith, length, drop, length-drop, needs}
-use Rattle.cut_lists.specs.{keyRoom}
-use Rattle.cut_lists.proofs.Nodes.{too-many, few-enough, keys-small}
+use Rattle.cut_lists.specs.{keyCapacity}
+use Rattle.cut_lists.proofs.NodeCuts.{too-many, few-enough, keys-small}
 use Rattle.cut_lists.proofs.list_node.Statement.{statement}
 use Rattle.cut_lists.proofs.list_node.Tie as tie
 
@@ -9,12 +9,12 @@ use Rattle.cut_lists.proofs.list_node.Tie as tie
 made : tie.After-node-keys → List ℕ
 made k = k .node-keys .last .1 .1 .1 .0
 
-room : (k : tie.After-node-keys) → length (made k) ≡ keyRoom
+capacity : (k : tie.After-node-keys) → length (made k) ≡ keyCapacity
 unfolding made
-room k = k .node-keys .kept .1 .1 .1 .0
+capacity k = k .node-keys .kept .1 .1 .1 .0
 
-counted : (k : tie.After-node-keys) → length (drop (k .node-keys .result) (made k)) ≡ keyRoom - k .node-keys .result
-counted k = omega (arith, length-drop (k .node-keys .result) (made k), room k)
+counted : (k : tie.After-node-keys) → length (drop (k .node-keys .result) (made k)) ≡ keyCapacity - k .node-keys .result
+counted k = omega (arith, length-drop (k .node-keys .result) (made k), capacity k)
 
 returns : tie.Need-returns
 unfolding made
@@ -29,10 +29,10 @@ store-keys-requires c κs =
     let k = c .before .before .before .before in
     let s = k .before .before .before .before in
     let n : ℕ = k .node-keys .result in (
-      s .pre .0 .room,
+      s .pre .0 .capacity,
       s .pre .1,
       omega (arith, c .before .before .if1 .left),
-      record { room = room k; fits = k .node-keys .ensures .1 },
+      record { capacity = capacity k; fits = k .node-keys .ensures .1 },
       λ i h. keys-small (s .args .work .now) (s .args .m) (s .args .v) (s .pre .0) (s .pre .1) (drop n (made k)) (k .node-keys .ensures .0) i (omega (arith, counted k)),
     )
 

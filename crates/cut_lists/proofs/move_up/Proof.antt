@@ -1,14 +1,14 @@
 -- `cut_lists::move_up` meets its contract. The invariant: the keys before the i-th are moved. The measure is the number of keys that are left.
 use Rattle.base.specs.{_≡_, refl, sym, ap, _∙_, List, [], _∷_, _++_, ℕ, suc, _+_, _-_, _≤_, _<_, add-one, arith, needs, length, take, drop}
 use Rattle.base.specs.{getD, set, length-set, drop-set-lt}
-use Rattle.cut_lists.specs.{keyRoom}
-use Rattle.cut_lists.proofs.Inserting.{none-between, one-more, put-more, heads}
+use Rattle.cut_lists.specs.{keyCapacity}
+use Rattle.cut_lists.proofs.KeyInsertion.{none-between, one-more, put-more, heads}
 use Rattle.cut_lists.proofs.move_up.Statement.{statement}
 use Rattle.cut_lists.proofs.move_up.Tie as tie
 
 abbrev Inv-loop : tie.InvT-loop
 Inv-loop keys₀ from to i₀ keys i =
-    (from ≤ i) × (i ≤ to) × (length keys ≡ keyRoom) × (drop (from - 1) (take (i - 1) keys) ≡ drop from (take i keys₀)) × (drop i keys ≡ drop i keys₀)
+    (from ≤ i) × (i ≤ to) × (length keys ≡ keyCapacity) × (drop (from - 1) (take (i - 1) keys) ≡ drop from (take i keys₀)) × (drop i keys ≡ drop i keys₀)
 
 abbrev μ-loop : tie.MeasureT-loop
 μ-loop keys₀ from to i₀ keys i = to - i

@@ -2,7 +2,7 @@
 use Rattle.base.specs.{_≡_, sym, ap, _∙_, List, [], _∷_, ℕ, _/_, arith, drop-of-length-le, ne-eqb, needs}
 use Rattle.model.specs.{varOf}
 use Rattle.base_words.specs.{constantKind, inputKind, andKind, kindAt, leftAt, rightAt, nodeAt}
-use Rattle.cut_lists.specs.{nodeKeys, keyFrom, key, added, crossKeys}
+use Rattle.cut_lists.specs.{nodeKeys, keyFrom, key, added, mergedKeys}
 use Rattle.cut_lists.proofs.node_keys.Statement.{statement}
 use Rattle.cut_lists.proofs.node_keys.Tie as tie
 
@@ -15,7 +15,7 @@ module _ (look : ℕ → List (List ℕ)) (w : List ℕ) (m v : ℕ) where
   unfolding nodeAt nodeKeys
   input-at e = rw e
 
-  and-at : kindAt w m v ≡ andKind → nodeKeys look v (nodeAt w m v) ≡ added (key (v ∷ [])) (crossKeys (look (leftAt w m v / 2)) (look (rightAt w m v / 2)))
+  and-at : kindAt w m v ≡ andKind → nodeKeys look v (nodeAt w m v) ≡ added (key (v ∷ [])) (mergedKeys (look (leftAt w m v / 2)) (look (rightAt w m v / 2)))
   unfolding nodeAt nodeKeys varOf
   and-at e = rw e
 
@@ -27,7 +27,7 @@ returns : tie.Need-returns
 returns c = (c .before .before .single .ensures .0 ∙ sym (constant-at _ _ _ _ (sym (c .before .before .before .before .before .kind .ensures) ∙ c .before .before .before .before .match .keys1)), c .before .before .single .ensures .1)
 
 returns-2 : tie.Need-returns-2
-returns-2 c = (c .before .before .single2 .ensures .0 ∙ ap (λ (x : ℕ). x ∷ []) (c .before .before .before .alone .ensures) ∙ sym (input-at _ _ _ _ (sym (c .before .before .before .before .before .before .kind .ensures) ∙ c .before .before .before .before .before .match .keys2)), c .before .before .single2 .ensures .1)
+returns-2 c = (c .before .before .single2 .ensures .0 ∙ ap (λ (x : ℕ). x ∷ []) (c .before .before .before .trivial-key .ensures) ∙ sym (input-at _ _ _ _ (sym (c .before .before .before .before .before .before .kind .ensures) ∙ c .before .before .before .before .before .match .keys2)), c .before .before .single2 .ensures .1)
 
 returns-3 : tie.Need-returns-3
 returns-3 c = (c .before .before .and-keys .ensures .0 ∙ sym (and-at _ _ _ _ (sym (c .before .before .before .before .before .kind .ensures) ∙ c .before .before .before .before .match .keys3)), c .before .before .and-keys .ensures .1)

@@ -4,8 +4,8 @@ use Rattle.base.specs.{length-set, getD-set-same, getD-set-other, length-take-l
 use Rattle.model.specs.declared.Cut.{Cut}
 use Rattle.base_words.specs.{countAt, leavesOf, leavesAt, cutOf, Good}
 use Rattle.base_words.proofs.{four-leaves}
-use Rattle.cut_lists.specs.{pack, shut, columnMask}
-use Rattle.cut_lists.proofs.Rows.{cut-good}
+use Rattle.cut_lists.specs.{pack, conflictMask, columnMask}
+use Rattle.cut_lists.proofs.MergeRows.{cut-good}
 use Rattle.cut_lists.proofs.pack_cuts.Statement.{statement}
 use Rattle.cut_lists.proofs.pack_cuts.Tie as tie
 
@@ -32,7 +32,7 @@ loop-holds c =
     let s = c .before .before .before .before in
     (c .count .ensures, s .pre .3, s .pre .4, λ j h. absurd (omega arith), λ j h. absurd (omega arith))
 
--- the number of the cut of a turn, and that it stands in the arrays
+-- the number of the cut of a step, and that it stands in the arrays
 low : (t : tie.In-loop Inv-loop μ-loop) →
     let s = t .before .before .before .before .before .before in
     (t .before .loop .i < countAt (s .args .work .now) (s .args .m) (s .args .v)) × (t .before .loop .i < 18)
@@ -67,9 +67,9 @@ loop-again c =
       length-set (l .loop .ys) _ _ ∙ l .loop .inv .1,
       length-set (l .loop .masks) _ _ ∙ l .loop .inv .2,
       stored (λ j. pack (ls j)) (l .loop .ys) i (q .packed .result) (omega (arith, low t, l .loop .inv .1)) p (l .loop .inv .3),
-      stored (λ j. columnMask (length (ls j)) (pack (ls j))) (l .loop .masks) i (c .shut .result * 4294967296 + g .result)
+      stored (λ j. columnMask (length (ls j)) (pack (ls j))) (l .loop .masks) i (c .conflict-mask .result * 4294967296 + g .result)
           (omega (arith, low t, l .loop .inv .2))
-          ((λ z. c .shut .ensures .0 z * 4294967296 + g .result) ∙ (λ z. shut (n z) (g .ensures .0 z) * 4294967296 + g .ensures .0 z)
+          ((λ z. c .conflict-mask .ensures .0 z * 4294967296 + g .result) ∙ (λ z. conflictMask (n z) (g .ensures .0 z) * 4294967296 + g .ensures .0 z)
           ∙ ap (columnMask (length (leavesOf cut))) p) (l .loop .inv .4),
     )
 

@@ -1,6 +1,6 @@
 -- `cut_lists::packed` meets its contract.
 use Rattle.base.specs.{_≡_, ℕ, _<_, arith, length, getD, needs}
-use Rattle.cut_lists.proofs.Packing.{leaf-small, pack-digits}
+use Rattle.cut_lists.proofs.CutPacking.{leaf-small, pack-digits}
 use Rattle.cut_lists.proofs.packed.Statement.{statement}
 use Rattle.cut_lists.proofs.packed.Tie as tie
 

@@ -1,6 +1,6 @@
 -- `cut_lists::single` meets its contract.
 use Rattle.base.specs.{_∙_, List, _∷_, _++_, ℕ, arith, drop-of-length-le, needs}
-use Rattle.cut_lists.proofs.Inserting.{none-between, put-at}
+use Rattle.cut_lists.proofs.KeyInsertion.{none-between, put-at}
 use Rattle.cut_lists.proofs.single.Statement.{statement}
 use Rattle.cut_lists.proofs.single.Tie as tie
 

@@ -2,8 +2,8 @@
 use Rattle.base.specs.{_≡_, refl, sym, ap, _∙_, List, [], _∷_, map, ℕ, _-_, _≤_, arith, needs, length, take, drop, length-drop, getD-drop}
 use Rattle.base.specs.{take-all}
 use Rattle.base_words.specs.{putAt, countAddr, putCut, putCuts}
-use Rattle.cut_lists.specs.{keyRoom, keyWords, putKeys}
-use Rattle.cut_lists.proofs.Storing.{keys-more}
+use Rattle.cut_lists.specs.{keyCapacity, keyWords, putKeys}
+use Rattle.cut_lists.proofs.CutStores.{keys-more}
 use Rattle.cut_lists.proofs.store_keys.Statement.{statement}
 use Rattle.cut_lists.proofs.store_keys.Tie as tie
 
@@ -37,7 +37,7 @@ loop-again c =
       put .store-cut .kept .0 ∙ l .loop .inv .1,
       put .store-cut .ensures
           ∙ (λ j. putCut (l .loop .inv .2 j) (s .args .m) (s .args .v) i (words j))
-          ∙ keys-more counted (s .args .m) (s .args .v) i (drop f keys) (omega (arith, length-drop f keys, s .pre .3 .room)),
+          ∙ keys-more counted (s .args .m) (s .args .v) i (drop f keys) (omega (arith, length-drop f keys, s .pre .3 .capacity)),
     )
 
 returns : tie.Need-returns Inv-loop μ-loop
@@ -47,7 +47,7 @@ returns c =
     let s = l .before .before .before .before .before .before .before in
     let a = s .args in
     let ks : List ℕ = drop (a .from) (a .keys .now) in
-    let n : keyRoom - a .from ≡ length ks = omega (arith, length-drop (a .from) (a .keys .now), s .pre .3 .room) in
+    let n : keyCapacity - a .from ≡ length ks = omega (arith, length-drop (a .from) (a .keys .now), s .pre .3 .capacity) in
     let all : take (l .loop .i) ks ≡ ks = take-all (l .loop .i) ks (omega arith) in
     let count = l .before .before .before .set-count .ensures in
     l .loop .inv .2

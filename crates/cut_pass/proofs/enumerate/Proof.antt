@@ -1,19 +1,19 @@
 -- `cut_pass::enumerate` meets its contract: the lists, and where they are all there the functions.
 use Rattle.base.specs.{sym, ap, _∙_, subst, List, ℕ, arith, needs}
 use Rattle.cut_pass.specs.{Ready, enumerated}
-use Rattle.cut_pass.proofs.Passes.{ready-filling, after-accepted, after-refused}
+use Rattle.cut_pass.proofs.CutPasses.{ready-filling, after-accepted, after-refused}
 use Rattle.cut_pass.proofs.enumerate.Statement.{statement}
-use Rattle.cut_lists.specs.Listing as lists
-use Rattle.cut_functions.specs.Filling as filling
+use Rattle.cut_lists.specs.CutLists as lists
+use Rattle.cut_functions.specs.FunctionWords as filling
 use Rattle.cut_pass.proofs.enumerate.Tie as tie
 
-placed-requires : tie.Need-placed-requires
-placed-requires c κs = omega (arith, c .before .pre .lists .room .small, c .before .pre .lists .placed)
+ordered-count-requires : tie.Need-ordered-count-requires
+ordered-count-requires c κs = omega (arith, c .before .pre .lists .capacity .small, c .before .pre .lists .ordered)
 
 lists-requires : tie.Need-lists-requires
 lists-requires c κs =
     let s = c .before .before .before in
-    subst (λ (n : ℕ). lists.Ready (s .args .work .now) (s .args .h .size) n) (sym (c .before .placed .ensures)) (s .pre .lists)
+    subst (λ (n : ℕ). lists.Ready (s .args .work .now) (s .args .h .size) n) (sym (c .before .ordered-count .ensures)) (s .pre .lists)
 
 enum-told : tie.Need-enum-told
 enum-told c = search needs
@@ -23,7 +23,7 @@ functions-requires c κs =
     let done = c .before .before .before .before .before in
     let s = done .before .before .before .before in
     let a = s .args in
-    let p = done .before .before .placed in
+    let p = done .before .before .ordered-count in
     let n : ℕ = p .result in
     subst (λ (q : List ℕ). filling.Ready q (a .h .size) n) (sym (done .lists .ensures .1))
     (ready-filling (a .work .now) (a .h .size) n (subst (λ (i : ℕ). Ready (a .work .now) (a .h .size) i) (sym (p .ensures)) (s .pre)))
@@ -35,7 +35,7 @@ returns c =
     let done = told .before .before .before .before in
     let s = done .before .before .before .before in
     let a = s .args in
-    let p = done .before .before .placed in
+    let p = done .before .before .ordered-count in
     let n : ℕ = p .result in
     let e = sym (told .enum-told .given .1) ∙ done .lists .ensures .0 in (
       e ∙ ap (λ (i : ℕ). lists.listing (a .work .now) (a .h .size) i .answer) (p .ensures),
@@ -51,7 +51,7 @@ returns-2 c =
     let done = told .before .before .before .before in
     let s = done .before .before .before .before in
     let a = s .args in
-    let p = done .before .before .placed in
+    let p = done .before .before .ordered-count in
     let n : ℕ = p .result in
     let e = sym (told .verdict .given .1) ∙ done .lists .ensures .0 in (
       e ∙ ap (λ (i : ℕ). lists.listing (a .work .now) (a .h .size) i .answer) (p .ensures),
@@ -62,5 +62,5 @@ returns-2 c =
 
 pub enumerate-spec : {M : Type 1} → statement M
 enumerate-spec = tie.close (tie.spec
-    placed-requires lists-requires enum-told functions-requires (λ c. search needs) (λ c. search needs) returns (λ c. search needs)
+    ordered-count-requires lists-requires enum-told functions-requires (λ c. search needs) (λ c. search needs) returns (λ c. search needs)
     returns-2)

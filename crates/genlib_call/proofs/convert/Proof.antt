@@ -1,14 +1,21 @@
 -- `genlib_call::convert` meets its contract: 1, 22 to 24, 18, or the text.
-use Rattle.base.specs.{_≡_, sym, _∙_, arith, length, needs}
-use Rattle.model.specs.{readGenlib}
+use Rattle.base.specs.{_≡_, sym, _∙_, arith, ℕ, List, length, needs}
+use Rattle.model.specs.{readGenlib, genlibText, writtenAnswer, writtenAfter}
+use Rattle.model.specs.declared.Written.{Written}
 use Rattle.model.specs.declared.Written.the-variants.{Length}
-use Rattle.model.proofs.{written-ruled}
+use Rattle.promises.specs.{Conversion}
+use Rattle.theory_calls.proofs.{text-written}
 use Rattle.theory_genlib.proofs.{demand-genlib}
-use Rattle.theory_foundry.proofs.{demand-genlib-refusals}
+use Rattle.theory_genlib_refusals.proofs.{demand-genlib-refusals}
 use Rattle.genlib_call.specs.{measured, textFor}
-use Rattle.genlib_call.proofs.Passing.{too-long, refused, over, fine, text-long, refuses, writes}
+use Rattle.genlib_call.proofs.GatePasses.{too-long, refused, over, fine, text-long, refuses, writes}
 use Rattle.genlib_call.proofs.convert.Statement.{statement}
 use Rattle.genlib_call.proofs.convert.Tie as tie
+
+converted : (genlib text : List ℕ) (answer : Written) (left : List ℕ) → answer ≡ writtenAnswer (genlibText genlib (length text)) → left ≡ writtenAfter (genlibText genlib (length text)) text
+    → Conversion genlib text answer left
+converted genlib text answer left a b =
+    record { memory = text-written (genlibText genlib (length text)) text answer left a b; cells = demand-genlib genlib (length text); refusals = demand-genlib-refusals genlib (length text) }
 
 -- the length that was measured
 abbrev start : tie.After-known-told → tie.Start
@@ -21,14 +28,14 @@ returns : tie.Need-returns
 returns c =
     let a = c .before .before .before .args in
     let r = refuses _ 1 0 (a .text .now) (too-long (a .genlib .now) (length (a .text .now)) (c .if1 .taken)) in
-    (r .0, (r .1, (demand-genlib _ _, (demand-genlib-refusals _ _, written-ruled _ _ (r .0)))))
+    converted (a .genlib .now) (a .text .now) _ _ (r .0) (r .1)
 
 returns-2 : tie.Need-returns-2
 returns-2 c =
     let k = c .before in
     let a = start k .args in
     let r = refuses _ 18 _ (a .text .now) (over (a .genlib .now) (length (a .text .now)) (k .before .before .before .before .if1 .left) _ (long k) (c .if2 .taken)) in
-    (r .0, (r .1, (demand-genlib _ _, (demand-genlib-refusals _ _, written-ruled _ _ (r .0)))))
+    converted (a .genlib .now) (a .text .now) _ _ (r .0) (r .1)
 
 write-requires : tie.Need-write-requires
 write-requires c κs =
@@ -46,7 +53,7 @@ returns-3 c =
     let a = start k .args in
     let short = k .before .before .before .before .if1 .left in
     let r = writes _ (textFor (a .genlib .now)) (a .text .now) (p .write .last .1 .0) (p .write .result) (fine (a .genlib .now) (length (a .text .now)) short _ (long k) (e .if2 .left)) (p .write .ensures) in
-    (r .0, (r .1, (demand-genlib _ _, (demand-genlib-refusals _ _, written-ruled _ _ (r .0)))))
+    converted (a .genlib .now) (a .text .now) _ _ (r .0) (r .1)
 
 returns-4 : tie.Need-returns-4
 returns-4 c =
@@ -54,7 +61,7 @@ returns-4 c =
     let a = m .before .before .before .before .args in
     let n = c .before .number .given in
     let r = refuses _ (n .0 .0) (n .0 .1 .0) (a .text .now) (refused (a .genlib .now) (length (a .text .now)) (m .before .if1 .left) _ _ (sym (m .measure .ensures) ∙ n .1)) in
-    (r .0, (r .1, (demand-genlib _ _, (demand-genlib-refusals _ _, written-ruled _ _ (r .0)))))
+    converted (a .genlib .now) (a .text .now) _ _ (r .0) (r .1)
 
 pub convert-spec : {M : Type 1} → statement M
 convert-spec = tie.close (tie.spec

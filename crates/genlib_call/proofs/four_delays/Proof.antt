@@ -4,7 +4,7 @@ use Rattle.model.specs.{pinDelay}
 use Rattle.genlib_expression.specs.{namesAt}
 use Rattle.genlib_groups.specs.{linesBehind}
 use Rattle.genlib_groups.proofs.{value-some, value-none}
-use Rattle.genlib_call.proofs.Judging.{four-is, none-0, none-1, none-2, none-3}
+use Rattle.genlib_call.proofs.GateValidation.{four-is, none-0, none-1, none-2, none-3}
 use Rattle.genlib_call.proofs.four_delays.Statement.{statement}
 use Rattle.genlib_call.proofs.four_delays.Tie as tie
 

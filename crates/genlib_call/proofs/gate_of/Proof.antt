@@ -6,7 +6,7 @@ use Rattle.genlib_expression.proofs.{length-names}
 use Rattle.genlib_groups.specs.{linesBehind}
 use Rattle.genlib_groups.proofs.{value-some, value-none}
 use Rattle.genlib_call.specs.{delaysIn}
-use Rattle.genlib_call.proofs.Judging.{gate-found, no-area, no-delays, table-is, part-part, same-gate}
+use Rattle.genlib_call.proofs.GateValidation.{gate-found, no-area, no-delays, table-is, part-part, same-gate}
 use Rattle.genlib_call.proofs.gate_of.Statement.{statement}
 use Rattle.genlib_call.proofs.gate_of.Tie as tie
 

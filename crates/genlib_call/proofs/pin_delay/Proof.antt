@@ -3,7 +3,7 @@ use Rattle.base.specs.{sym, ap, _∙_, arith, needs}
 use Rattle.genlib_expression.specs.{nameAt, namesAt}
 use Rattle.genlib_expression.proofs.{length-names, name-of}
 use Rattle.genlib_groups.specs.{valueIn, linesBehind}
-use Rattle.genlib_call.proofs.Judging.{pin-there, pin-absent}
+use Rattle.genlib_call.proofs.GateValidation.{pin-there, pin-absent}
 use Rattle.genlib_call.proofs.pin_delay.Statement.{statement}
 use Rattle.genlib_call.proofs.pin_delay.Tie as tie
 

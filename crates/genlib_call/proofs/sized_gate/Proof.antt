@@ -4,7 +4,7 @@ use Rattle.model.specs.{tokens, pinsOf, shallow}
 use Rattle.genlib_expression.specs.{namesAt}
 use Rattle.genlib_expression.proofs.{length-names}
 use Rattle.genlib_groups.specs.{linesBehind}
-use Rattle.genlib_call.proofs.Judging.{sized-many, sized-deep, sized-fits, as-read}
+use Rattle.genlib_call.proofs.GateValidation.{sized-many, sized-deep, sized-fits, as-read}
 use Rattle.genlib_call.proofs.sized_gate.Statement.{statement}
 use Rattle.genlib_call.proofs.sized_gate.Tie as tie
 

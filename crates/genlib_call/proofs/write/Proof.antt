@@ -2,10 +2,10 @@
 -- those of the groups from here on are left to write. The measure is what is left of the text.
 use Rattle.base.specs.{refl, sym, ap, _∙_, List, [], _++_, append-nil, ℕ, _+_, _-_, _≤_, arith, length, needs}
 use Rattle.model.specs.{groups}
-use Rattle.base_text.proofs.{Partly, begin, step, room, kept, end, finish}
+use Rattle.base_text.proofs.{Partly, begin, step, capacity, kept, end, finish}
 use Rattle.genlib_groups.specs.{linesOf, groupAt}
 use Rattle.genlib_call.specs.{lineOf, linesFor, textFor}
-use Rattle.genlib_call.proofs.Passing.{namesLine, text-parts, groupsBehind, lines-more, lines-here, lines-end}
+use Rattle.genlib_call.proofs.GatePasses.{namesLine, text-parts, groupsBehind, lines-more, lines-here, lines-end}
 use Rattle.genlib_call.proofs.write.Statement.{statement}
 use Rattle.genlib_call.proofs.write.Tie as tie
 
@@ -38,10 +38,10 @@ names : (c : Named) → Partly (start c .args .out .now) (c .put-bytes .last .0)
 names c = let s = start c in step (fits s) (none s) (c .put-bytes .last .0) (c .put-bytes .result) namesLine (lines s) refl (c .put-bytes .ensures)
 
 others : (c : Named) → c .put-bytes .result + length (lines (start c)) ≤ length (c .put-bytes .last .0)
-others c = let s = start c in room (fits s) (names c) (lines s) [] (sym (append-nil (lines s)))
+others c = let s = start c in capacity (fits s) (names c) (lines s) [] (sym (append-nil (lines s)))
 
 put-bytes-requires : tie.Need-put-bytes-requires Inv-loop μ-loop
-put-bytes-requires c κs = let s = c .before .before .before .before in room (fits s) (none s) namesLine (lines s) refl
+put-bytes-requires c κs = let s = c .before .before .before .before in capacity (fits s) (none s) namesLine (lines s) refl
 
 loop-holds : tie.Need-loop-holds Inv-loop μ-loop
 loop-holds c = (omega arith, begin _ _ refl)
@@ -53,7 +53,7 @@ write-gate-requires c κs =
     let p = t .before .before .before .before in
     let s = start p in
     let h = t .loop-test .taken in
-    (h, s .pre .0, room (others p) (l .inv .1) (lineOf (groupAt (s .args .s .now) (l .at))) (linesFor (groupsBehind (s .args .s .now) (l .at))) (lines-here (s .args .s .now) (l .at) h))
+    (h, s .pre .0, capacity (others p) (l .inv .1) (lineOf (groupAt (s .args .s .now) (l .at))) (linesFor (groupsBehind (s .args .s .now) (l .at))) (lines-here (s .args .s .now) (l .at) h))
 
 group-end-requires : tie.Need-group-end-requires Inv-loop μ-loop
 group-end-requires c κs = c .before .before .before .before .loop-test .taken

@@ -5,8 +5,8 @@ use Rattle.base_text.specs.{Wrote}
 use Rattle.base_text.proofs.{idle}
 use Rattle.genlib_groups.specs.{groupAt}
 use Rattle.genlib_celltext.specs.{gateIn}
-use Rattle.genlib_call.specs.{GateIs, judgedRead, lineOf}
-use Rattle.genlib_call.proofs.Passing.{line-held, line-none}
+use Rattle.genlib_call.specs.{GateIs, validatedRead, lineOf}
+use Rattle.genlib_call.proofs.GatePasses.{line-held, line-none}
 use Rattle.genlib_call.proofs.write_gate.Statement.{statement}
 use Rattle.genlib_call.proofs.write_gate.Tie as tie
 
@@ -15,12 +15,12 @@ start c = c .before .before .before .before .before .before
 
 -- the line of the gate that was found
 line : (c : tie.After-known-told) → lineOf (groupAt (start c .args .s .now) (start c .args .at)) ≡ gateText (gateIn (start c .args .s .now) (c .before .g .given .0 .0))
-line c = let a = start c .args in line-held (groupAt (a .s .now) (a .at)) _ (sym (c .before .before .before .judge .ensures .1) ∙ ap (judgedRead (a .s .now) (a .at)) (c .before .g .given .1))
+line c = let a = start c .args in line-held (groupAt (a .s .now) (a .at)) _ (sym (c .before .before .before .validate .ensures .1) ∙ ap (validatedRead (a .s .now) (a .at)) (c .before .g .given .1))
 
 put-gate-requires : tie.Need-put-gate-requires
 put-gate-requires c κs =
     let k = c .before in
-    (subst (GateIs (start k .args .s .now)) (k .before .g .given .1) (k .before .before .before .judge .ensures .0), omega (arith, start k .pre .2, ap length (line k)))
+    (subst (GateIs (start k .args .s .now)) (k .before .g .given .1) (k .before .before .before .validate .ensures .0), omega (arith, start k .pre .2, ap length (line k)))
 
 enum-told : tie.Need-enum-told
 enum-told c = search needs
@@ -36,7 +36,7 @@ returns-2 : tie.Need-returns-2
 returns-2 c =
     let j = c .before .before in
     let a = j .before .before .before .args in
-    idle (a .out .now) (a .to) (line-none (groupAt (a .s .now) (a .at)) _ _ (sym (j .judge .ensures .1) ∙ ap (judgedRead (a .s .now) (a .at)) (c .enum-told .given .1)))
+    idle (a .out .now) (a .to) (line-none (groupAt (a .s .now) (a .at)) _ _ (sym (j .validate .ensures .1) ∙ ap (validatedRead (a .s .now) (a .at)) (c .enum-told .given .1)))
 
 pub write-gate-spec : {M : Type 1} → statement M
 write-gate-spec = tie.close (tie.spec

@@ -1,6 +1,6 @@
 -- `genlib_celltext::delays_len` meets its contract.
 use Rattle.base.specs.{arith, needs}
-use Rattle.genlib_celltext.proofs.Counting.{four-length}
+use Rattle.genlib_celltext.proofs.CellTextLength.{four-length}
 use Rattle.genlib_celltext.proofs.delays_len.Statement.{statement}
 use Rattle.genlib_celltext.proofs.delays_len.Tie as tie
 

@@ -1,6 +1,6 @@
 -- `genlib_celltext::field_len` meets its contract: a space and at most five digits.
 use Rattle.base.specs.{arith, needs}
-use Rattle.genlib_celltext.proofs.Counting.{field-length, five-digits}
+use Rattle.genlib_celltext.proofs.CellTextLength.{field-length, five-digits}
 use Rattle.genlib_celltext.proofs.field_len.Statement.{statement}
 use Rattle.genlib_celltext.proofs.field_len.Tie as tie
 

@@ -1,6 +1,6 @@
 -- `genlib_celltext::gate_len` meets its contract.
 use Rattle.base.specs.{arith, needs}
-use Rattle.genlib_celltext.proofs.Counting.{gate-length}
+use Rattle.genlib_celltext.proofs.CellTextLength.{gate-length}
 use Rattle.genlib_celltext.proofs.gate_len.Statement.{statement}
 use Rattle.genlib_celltext.proofs.gate_len.Tie as tie
 

@@ -1,9 +1,9 @@
 -- `genlib_celltext::put_delays` meets its contract: four fields and the line's end.
 use Rattle.base.specs.{refl, List, _∷_, [], _++_, ℕ, arith, needs}
 use Rattle.model.specs.{each, numberText}
-use Rattle.base_text.proofs.{Partly, begin, step, room, finish}
+use Rattle.base_text.proofs.{Partly, begin, step, capacity, finish}
 use Rattle.genlib_celltext.specs.{delaysOf}
-use Rattle.genlib_celltext.proofs.Counting.{four-is}
+use Rattle.genlib_celltext.proofs.CellTextLength.{four-is}
 use Rattle.genlib_celltext.proofs.put_delays.Statement.{statement}
 use Rattle.genlib_celltext.proofs.put_delays.Tie as tie
 
@@ -56,19 +56,19 @@ four c =
     step (s .pre) (three (c .before .before .before .before)) (c .put-field4 .last .0) (c .put-field4 .result) (numberText (s .args .g .d3)) (10 ∷ []) refl (c .put-field4 .ensures)
 
 put-field-requires : tie.Need-put-field-requires
-put-field-requires c κs = let s = c .before .before in room (s .pre) (none s) (numberText (s .args .g .d0)) (left1 s) refl
+put-field-requires c κs = let s = c .before .before in capacity (s .pre) (none s) (numberText (s .args .g .d0)) (left1 s) refl
 
 put-field-requires-2 : tie.Need-put-field-requires-2
-put-field-requires-2 c κs = let p = c .before .before .before in let s = start1 p in room (s .pre) (one p) (numberText (s .args .g .d1)) (left2 s) refl
+put-field-requires-2 c κs = let p = c .before .before .before in let s = start1 p in capacity (s .pre) (one p) (numberText (s .args .g .d1)) (left2 s) refl
 
 put-field-requires-3 : tie.Need-put-field-requires-3
-put-field-requires-3 c κs = let p = c .before .before .before in let s = start2 p in room (s .pre) (two p) (numberText (s .args .g .d2)) (left3 s) refl
+put-field-requires-3 c κs = let p = c .before .before .before in let s = start2 p in capacity (s .pre) (two p) (numberText (s .args .g .d2)) (left3 s) refl
 
 put-field-requires-4 : tie.Need-put-field-requires-4
-put-field-requires-4 c κs = let p = c .before .before .before in let s = start3 p in room (s .pre) (three p) (numberText (s .args .g .d3)) (10 ∷ []) refl
+put-field-requires-4 c κs = let p = c .before .before .before in let s = start3 p in capacity (s .pre) (three p) (numberText (s .args .g .d3)) (10 ∷ []) refl
 
 put-byte-requires : tie.Need-put-byte-requires
-put-byte-requires c κs = let p = c .before .before .before in omega (arith, room (start4 p .pre) (four p) (10 ∷ []) [] refl)
+put-byte-requires c κs = let p = c .before .before .before in omega (arith, capacity (start4 p .pre) (four p) (10 ∷ []) [] refl)
 
 returns : tie.Need-returns
 returns c =

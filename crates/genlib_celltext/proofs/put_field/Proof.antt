@@ -1,8 +1,8 @@
 -- `genlib_celltext::put_field` meets its contract: a space, and the number behind it.
 use Rattle.base.specs.{refl, sym, _∷_, [], append-nil, arith, needs}
 use Rattle.model.specs.{decimal, numberText}
-use Rattle.base_text.proofs.{Partly, begin, step, room, finish, as-wrote}
-use Rattle.genlib_celltext.proofs.Counting.{field-is, field-length}
+use Rattle.base_text.proofs.{Partly, begin, step, capacity, finish, as-wrote}
+use Rattle.genlib_celltext.proofs.CellTextLength.{field-is, field-length}
 use Rattle.genlib_celltext.proofs.put_field.Statement.{statement}
 use Rattle.genlib_celltext.proofs.put_field.Tie as tie
 
@@ -22,7 +22,7 @@ put-number-requires : tie.Need-put-number-requires
 put-number-requires c κs =
     let p = c .before .before .before in
     let n = at-start p .args .n in
-    room (at-start p .pre) (one p) (decimal n) [] (sym (append-nil (decimal n)))
+    capacity (at-start p .pre) (one p) (decimal n) [] (sym (append-nil (decimal n)))
 
 returns : tie.Need-returns
 returns c =

@@ -1,9 +1,9 @@
 -- `genlib_celltext::put_gate` meets its contract: the name, pins, table, area and delays.
 use Rattle.base.specs.{refl, sym, List, _∷_, [], _++_, append-nil, ℕ, arith, needs}
 use Rattle.model.specs.{each, numberText, hexText, gateText}
-use Rattle.base_text.proofs.{Partly, begin, step, room, finish}
+use Rattle.base_text.proofs.{Partly, begin, step, capacity, finish}
 use Rattle.genlib_celltext.specs.{delaysOf, nameIn, gateIn}
-use Rattle.genlib_celltext.proofs.Counting.{gate-is, behindName, hex-length}
+use Rattle.genlib_celltext.proofs.CellTextLength.{gate-is, behindName, hex-length}
 use Rattle.genlib_celltext.proofs.put_gate.Statement.{statement}
 use Rattle.genlib_celltext.proofs.put_gate.Tie as tie
 
@@ -59,19 +59,19 @@ area c =
     step (s .pre .1) (table (c .before .before .before .before)) (c .put-field2 .last .0) (c .put-field2 .result) (numberText (s .args .g .area)) (delays s) refl (c .put-field2 .ensures)
 
 put-bytes-requires : tie.Need-put-bytes-requires
-put-bytes-requires c κs = let s = c .before .before .before .before in room (s .pre .1) (none s) (nameIn (s .args .s .now) (s .args .g)) (behindName (s .args .g)) refl
+put-bytes-requires c κs = let s = c .before .before .before .before in capacity (s .pre .1) (none s) (nameIn (s .args .s .now) (s .args .g)) (behindName (s .args .g)) refl
 
 put-field-requires : tie.Need-put-field-requires
-put-field-requires c κs = let p = c .before .before .before in let s = start1 p in room (s .pre .1) (name p) (numberText (s .args .g .pins)) (behindPins s) refl
+put-field-requires c κs = let p = c .before .before .before in let s = start1 p in capacity (s .pre .1) (name p) (numberText (s .args .g .pins)) (behindPins s) refl
 
 put-hex-requires : tie.Need-put-hex-requires
-put-hex-requires c κs = let p = c .before .before .before in let s = start2 p in omega (arith, hex-length (s .args .g .table), room (s .pre .1) (pins p) (hex s) (behindTable s) refl)
+put-hex-requires c κs = let p = c .before .before .before in let s = start2 p in omega (arith, hex-length (s .args .g .table), capacity (s .pre .1) (pins p) (hex s) (behindTable s) refl)
 
 put-field-requires-2 : tie.Need-put-field-requires-2
-put-field-requires-2 c κs = let p = c .before .before .before in let s = start3 p in room (s .pre .1) (table p) (numberText (s .args .g .area)) (delays s) refl
+put-field-requires-2 c κs = let p = c .before .before .before in let s = start3 p in capacity (s .pre .1) (table p) (numberText (s .args .g .area)) (delays s) refl
 
 put-delays-requires : tie.Need-put-delays-requires
-put-delays-requires c κs = let p = c .before .before .before in let s = start4 p in room (s .pre .1) (area p) (delays s) [] (sym (append-nil (delays s)))
+put-delays-requires c κs = let p = c .before .before .before in let s = start4 p in capacity (s .pre .1) (area p) (delays s) [] (sym (append-nil (delays s)))
 
 returns : tie.Need-returns
 returns c =

@@ -10,9 +10,9 @@ use Rattle.model.specs.{bit, value, Taken, nameValue, factorOf, productOf, sumO
 use Rattle.model.specs.GenlibFormula.{within}
 use Rattle.genlib_expression.specs.declared.Pins.{Pins}
 use Rattle.genlib_expression.specs.{namesAt, restAt}
-use Rattle.genlib_expression.proofs.Tokens.{behind-yes, behind-no}
-use Rattle.genlib_expression.proofs.Values.{Chained, chain-bad, chain-end, chain-on, factor-is, atom-name, atom-bad, atom-closed}
-use Rattle.genlib_expression.proofs.Values.{within-none, within-sum, known, ends, later, no-row, every-row}
+use Rattle.genlib_expression.proofs.TokenSpans.{behind-yes, behind-no}
+use Rattle.genlib_expression.proofs.ExpressionValues.{Chained, chain-bad, chain-end, chain-on, factor-is, atom-name, atom-bad, atom-closed}
+use Rattle.genlib_expression.proofs.ExpressionValues.{within-none, within-sum, known, ends, later, no-row, every-row}
 use Rattle.genlib_expression.proofs.+factor+product+sum.{statement}
 use Rattle.genlib_expression.proofs.+factor+product+sum.Tie.{close}
 use Rattle.genlib_expression.proofs.factor.Reads as factor
@@ -27,7 +27,7 @@ use Rattle.genlib_expression.proofs.+factor+product+sum.Lts-sum as sum-
 use Rattle.genlib_expression.proofs.behind.Reads as behind-reads
 use Rattle.genlib_expression.proofs.close.Reads as close-reads
 use Rattle.genlib_expression.proofs.name.Reads as name-reads
-use Rattle.genlib_expression.proofs.turn.Reads as turn-reads
+use Rattle.genlib_expression.proofs.negated_by_signs.Reads as step-reads
 
 abbrev μ-factor : Measures 1 factor-kinds.ps ℕ
 μ-factor κs a = 3 * a .1 .1 .1 .0
@@ -58,7 +58,7 @@ sum-below t = and 1 sum-kinds.ps (falls 1 sum-kinds.ps _<_ μ-sum t) sum.Pre
 
 -- what the calls ask and promise
 abbrev factor-claims : ℕ → factor-lts.Claims
-factor-claims t = (turn-reads.Asked, turn-reads.Learnt, behind-reads.Asked, behind-reads.Learnt, name-reads.Asked, name-reads.Learnt, sum-below t, sum.Post, close-reads.Asked, close-reads.Learnt)
+factor-claims t = (step-reads.Asked, step-reads.Learnt, behind-reads.Asked, behind-reads.Learnt, name-reads.Asked, name-reads.Learnt, sum-below t, sum.Post, close-reads.Asked, close-reads.Learnt)
 
 abbrev product-claims : ℕ → product-lts.Claims
 product-claims t = (factor-below t, factor.Post, behind-reads.Asked, behind-reads.Learnt)
@@ -66,11 +66,11 @@ product-claims t = (factor-below t, factor.Post, behind-reads.Asked, behind-read
 abbrev sum-claims : ℕ → sum-lts.Claims
 sum-claims t = (product-below t, product.Post, behind-reads.Asked, behind-reads.Learnt)
 
-factor-turn-requires : (t : ℕ) → factor-lts.Need-turn-requires (factor-claims t) (factor-at t) factor.Post
-factor-turn-requires t c κs = c .before .pre .1 .0
+factor-step-requires : (t : ℕ) → factor-lts.Need-negated-by-signs-requires (factor-claims t) (factor-at t) factor.Post
+factor-step-requires t c κs = c .before .pre .1 .0
 
 factor-name-requires : (t : ℕ) → factor-lts.Need-name-requires (factor-claims t) (factor-at t) factor.Post
-factor-name-requires t c κs = (c .before .before .turn .ensures .1, c .before .before .before .before .pre .1 .1)
+factor-name-requires t c κs = (c .before .before .negated-by-signs .ensures .1, c .before .before .before .before .pre .1 .1)
 
 factor-returns : (t : ℕ) → factor-lts.Need-returns (factor-claims t) (factor-at t) factor.Post
 factor-returns t c =
@@ -78,7 +78,7 @@ factor-returns t c =
     let w = s .args .w .now in
     let value : ℕ → List ℕ → Bool = nameValue (namesAt w (s .args .p)) in
     let depth = s .args .depth in
-    let q = c .before .before .before .turn .ensures in
+    let q = c .before .before .before .negated-by-signs .ensures in
     let no = behind-no w _ 40 _ (c .before .before .behind .ensures) (c .before .if1 .taken) in (
       later _ _ _ (c .name .result) (q .0) (c .name .ensures .0),
       λ row g k h. c .name .ensures .1 row g ∙ sym (factor-is (value row) (within (value row) k depth) _ _ _ (q .2) ∙ atom-name (value row) (within (value row) k depth) _ _ no),
@@ -90,7 +90,7 @@ factor-returns-2 t c =
     let w = s .args .w .now in
     let value : ℕ → List ℕ → Bool = nameValue (namesAt w (s .args .p)) in
     let depth = s .args .depth in
-    let q = c .before .before .before .turn .ensures in
+    let q = c .before .before .before .negated-by-signs .ensures in
     let y = behind-yes w _ 40 _ (c .before .before .behind .ensures) (c .before .if1 .left) in (
       tt,
       λ row g k h. sym (factor-is (value row) (within (value row) k depth) _ _ _ (q .2)
@@ -113,7 +113,7 @@ factor-returns-3 t c =
     let w = s .args .w .now in
     let value : ℕ → List ℕ → Bool = nameValue (namesAt w (s .args .p)) in
     let depth = s .args .depth in
-    let q = b .before .turn .ensures in
+    let q = b .before .negated-by-signs .ensures in
     let y = behind-yes w _ 40 _ (b .behind .ensures) (m .before .before .if1 .left) in
     let g = c .before .before .v .given in
     let e = ends _ _ _ _ _ (g .1) (m .sum .ensures .0) in (
@@ -131,7 +131,7 @@ factor-returns-4 t c =
     let w = s .args .w .now in
     let value : ℕ → List ℕ → Bool = nameValue (namesAt w (s .args .p)) in
     let depth = s .args .depth in
-    let q = b .before .turn .ensures in
+    let q = b .before .negated-by-signs .ensures in
     let y = behind-yes w _ 40 _ (b .behind .ensures) (m .before .before .if1 .left) in (
       tt,
       λ row i k h. sym (factor-is (value row) (within (value row) k depth) _ _ _ (q .2)
@@ -279,7 +279,7 @@ sum-returns t c =
 pub +factor+product+sum-spec : {M : Type 1} → statement M
 +factor+product+sum-spec =
     close μ-factor μ-product μ-sum
-    (λ t. factor-lts.spec (factor-claims t) (factor-at t) factor.Post (factor-turn-requires t) (λ c κs. search needs)
+    (λ t. factor-lts.spec (factor-claims t) (factor-at t) factor.Post (factor-step-requires t) (λ c κs. search needs)
     (factor-name-requires t) (factor-returns t) (factor-returns-2 t) (λ c. search needs) (factor-sum-requires t) (λ c. search needs)
     (factor-close-requires t) (λ c. search needs) (factor-returns-3 t) (factor-returns-4 t))
     (λ t. product-lts.spec (product-claims t) (product-at t) product.Post product-Inv-loop product-μ-loop (product-loop-holds t)

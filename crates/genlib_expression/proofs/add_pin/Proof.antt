@@ -4,7 +4,7 @@ use Rattle.model.specs.{isPin, addPins}
 use Rattle.genlib_expression.specs.declared.Pins.{Pins}
 use Rattle.genlib_expression.specs.declared.Token.{Token}
 use Rattle.genlib_expression.specs.{part, partsAt, namesAt, withPin, addPin, Listed}
-use Rattle.genlib_expression.proofs.Pinning.{pin-word, add-one-pin, add-no-pin, add-none}
+use Rattle.genlib_expression.proofs.PinNumbering.{pin-word, add-one-pin, add-no-pin, add-none}
 use Rattle.genlib_expression.proofs.add_pin.Statement.{statement}
 use Rattle.genlib_expression.proofs.add_pin.Tie as tie
 

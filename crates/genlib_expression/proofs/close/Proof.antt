@@ -1,19 +1,19 @@
 -- `genlib_expression::close` meets its contract, by the bracket that stands there or not.
 use Rattle.base.specs.{needs, sym, _∙_, arith}
-use Rattle.genlib_expression.proofs.Tokens.{behind-yes, behind-no}
-use Rattle.genlib_expression.proofs.Values.{close-yes, close-no, quoted-is, in-phase-row}
+use Rattle.genlib_expression.proofs.TokenSpans.{behind-yes, behind-no}
+use Rattle.genlib_expression.proofs.ExpressionValues.{close-yes, close-no, quoted-is, in-phase-row}
 use Rattle.genlib_expression.proofs.close.Statement.{statement}
 use Rattle.genlib_expression.proofs.close.Tie as tie
 
 returns : tie.Need-returns
 returns c = (tt, λ row h. sym (close-no _ _ (behind-no _ _ _ _ (c .before .behind .ensures) (c .if1 .taken))))
 
-turn-requires : tie.Need-turn-requires
-turn-requires c κs = behind-yes _ _ _ _ (c .before .behind .ensures) (c .if1 .left) .3
+negated-by-signs-requires : tie.Need-negated-by-signs-requires
+negated-by-signs-requires c κs = behind-yes _ _ _ _ (c .before .behind .ensures) (c .if1 .left) .3
 
 returns-2 : tie.Need-returns-2
 returns-2 c =
-    let q = c .before .turn in
+    let q = c .before .negated-by-signs in
     let b = c .before .before .before in
     let y = behind-yes _ _ _ _ (b .behind .ensures) (c .before .before .if1 .left) in (
       (omega (arith, q .ensures .0, y .2), q .ensures .1),
@@ -21,4 +21,4 @@ returns-2 c =
     )
 
 pub close-spec : {M : Type 1} → statement M
-close-spec = tie.close (tie.spec (λ c κs. search needs) returns turn-requires (λ c κs. search needs) returns-2)
+close-spec = tie.close (tie.spec (λ c κs. search needs) returns negated-by-signs-requires (λ c κs. search needs) returns-2)

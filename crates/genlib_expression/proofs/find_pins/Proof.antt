@@ -2,8 +2,8 @@
 use Rattle.base.specs.{_≡_, refl, sym, ap, _∙_, arith, ℕ, _-_, _≤_, length, List, needs}
 use Rattle.model.specs.{below, addPins, pinsOf}
 use Rattle.genlib_expression.specs.{restAt, namesAt, partsAt, pinsFrom, noPins}
-use Rattle.genlib_expression.proofs.Walk.{step, word-part, nothing-left}
-use Rattle.genlib_expression.proofs.Pinning.{add-turn, add-grows, PinsOn, pins-end, pins-fifth, pins-on}
+use Rattle.genlib_expression.proofs.ExpressionWalk.{step, word-part, nothing-left}
+use Rattle.genlib_expression.proofs.PinNumbering.{add-negated-by-signs, add-grows, PinsOn, pins-end, pins-fifth, pins-on}
 use Rattle.genlib_expression.proofs.find_pins.Statement.{statement}
 use Rattle.genlib_expression.proofs.find_pins.Tie as tie
 
@@ -29,7 +29,7 @@ returns c =
     let w = c .before .before .before .before .before .before .before .args .w .now in
     let t = c .before .before .before .next-token in
     let k = step w (l .at) (l .inv .0) (t .result) (t .ensures) in
-    let e = l .inv .3 ∙ add-turn w (t .result) (namesAt w (l .p)) (l .at) k in
+    let e = l .inv .3 ∙ add-negated-by-signs w (t .result) (namesAt w (l .p)) (l .at) k in
     let a = c .before .before .add-pin .ensures in
     (a .0, record { few = λ h. absurd (omega (arith, c .if1 .taken)); many = λ h. omega (arith, ap length e, a .1 .many h, add-grows (addPins (namesAt w (l .p)) (partsAt w (t .result))) (restAt w (t .result .to))) }, pins-fifth w (l .p) (l .at) (c .before .before .before .before .loop-test .taken) (t .result) (t .ensures) _ (a .2) _ (c .if1 .taken) (l .inv .4))
 
@@ -43,7 +43,7 @@ loop-again c =
     let t = c .before .before .before .next-token in
     let k = step w (l .at) (l .inv .0) (t .result) (t .ensures) in
     let a = c .before .before .add-pin .ensures in
-    (k .within, a .0, c .if1 .left, l .inv .3 ∙ add-turn w (t .result) (namesAt w (l .p)) (l .at) k ∙ ap (λ (x : List (List ℕ)). addPins x (restAt w (t .result .to))) (sym (a .1 .few (c .if1 .left))), pins-on w (l .p) (l .at) (c .before .before .before .before .loop-test .taken) (t .result) (t .ensures) _ (a .2) _ (c .if1 .left) (k .later (c .before .before .before .before .loop-test .taken)) (l .inv .4))
+    (k .within, a .0, c .if1 .left, l .inv .3 ∙ add-negated-by-signs w (t .result) (namesAt w (l .p)) (l .at) k ∙ ap (λ (x : List (List ℕ)). addPins x (restAt w (t .result .to))) (sym (a .1 .few (c .if1 .left))), pins-on w (l .p) (l .at) (c .before .before .before .before .loop-test .taken) (t .result) (t .ensures) _ (a .2) _ (c .if1 .left) (k .later (c .before .before .before .before .loop-test .taken)) (l .inv .4))
 
 returns-2 : tie.Need-returns-2 Inv-loop μ-loop
 unfolding addPins

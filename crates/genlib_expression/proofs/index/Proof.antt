@@ -2,7 +2,7 @@
 use Rattle.base.specs.{needs, _≡_, refl, sym, _∙_, map, arith, zero-add, _+_, _-_, _≤_}
 use Rattle.model.specs.{from, below, indexOf}
 use Rattle.genlib_expression.specs.{nameAt, namesAt}
-use Rattle.genlib_expression.proofs.Values.{index-hit, index-miss, index-none}
+use Rattle.genlib_expression.proofs.ExpressionValues.{index-hit, index-miss, index-none}
 use Rattle.genlib_expression.proofs.index.Statement.{statement}
 use Rattle.genlib_expression.proofs.index.Tie as tie
 

@@ -2,15 +2,15 @@
 use Rattle.base.specs.{_≡_, refl, sym, ap, _∙_, arith, _-_, _≤_, false, ⊎-elim, length, needs}
 use Rattle.model.specs.{scan, isDone, formed}
 use Rattle.model.specs.declared.Scan.{Scan}
-use Rattle.model.specs.declared.Scan.the-variants.{Due, After, Done, Broken}
+use Rattle.model.specs.declared.Scan.the-variants.{Expected, After, Done, Broken}
 use Rattle.genlib_expression.specs.{restAt, depthOf}
-use Rattle.genlib_expression.proofs.Walk.{step, nothing-left}
-use Rattle.genlib_expression.proofs.Scanning.{scan-turn, scan-depth}
+use Rattle.genlib_expression.proofs.ExpressionWalk.{step, nothing-left}
+use Rattle.genlib_expression.proofs.ExpressionScan.{scan-step, scan-depth}
 use Rattle.genlib_expression.proofs.is_formed.Statement.{statement}
 use Rattle.genlib_expression.proofs.is_formed.Tie as tie
 
 abbrev Inv-loop : tie.InvT-loop
-Inv-loop w from s₀ at₀ s at = (at ≤ length w) × (depthOf s ≤ at) × (scan (Due 0) (restAt w from) ≡ scan s (restAt w at))
+Inv-loop w from s₀ at₀ s at = (at ≤ length w) × (depthOf s ≤ at) × (scan (Expected 0) (restAt w from) ≡ scan s (restAt w at))
 
 abbrev μ-loop : tie.MeasureT-loop
 μ-loop w from s₀ at₀ s at = length w - at
@@ -31,7 +31,7 @@ loop-again c =
     let k = step _ _ (l .inv .0) _ (c .before .next-token .ensures) in (
       k .within,
       rw (c .scan-at .ensures) (scan-depth w (l .at) (c .before .next-token .result) (l .s) k (c .before .before .loop-test .taken) (l .inv .1)),
-      l .inv .2 ∙ scan-turn w (l .at) (c .before .next-token .result) (l .s) k ∙ sym (ap (λ (x : Scan). scan x (restAt w (c .before .next-token .result .to))) (c .scan-at .ensures)),
+      l .inv .2 ∙ scan-step w (l .at) (c .before .next-token .result) (l .s) k ∙ sym (ap (λ (x : Scan). scan x (restAt w (c .before .next-token .result .to))) (c .scan-at .ensures)),
     )
 
 returns : tie.Need-returns Inv-loop μ-loop
@@ -46,7 +46,7 @@ unfolding formed scan isDone
 returns-2 c = go (c .before .before .loop .s) refl ∙ sym (ap isDone (c .before .before .loop .inv .2 ∙ ap (scan (c .before .before .loop .s)) (nothing-left _ _ (c .before .loop-test .left))))
   where
     go : (s : Scan) → c .before .before .loop .s ≡ s → false ≡ isDone (c .before .before .loop .s)
-    go (Due d) e = sym (ap isDone e)
+    go (Expected d) e = sym (ap isDone e)
     go (After d) e = sym (ap isDone e)
     go Broken e = sym (ap isDone e)
     go Done e = absurd (⊎-elim (λ y. omega (arith, rw e at y)) (⊎-elim (λ y. omega (arith, rw e at y)) (λ y. omega (arith, rw e at y))) (c .match .keys2))

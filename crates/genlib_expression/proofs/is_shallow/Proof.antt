@@ -2,8 +2,8 @@
 use Rattle.base.specs.{_≡_, refl, sym, ap, _∙_, arith, length, ℕ, _+_, _-_, _≤_, le-leb, needs}
 use Rattle.model.specs.{shallow}
 use Rattle.genlib_expression.specs.{restAt}
-use Rattle.genlib_expression.proofs.Walk.{nothing-left}
-use Rattle.genlib_expression.proofs.Scanning.{shallow-byte, shallow-over}
+use Rattle.genlib_expression.proofs.ExpressionWalk.{nothing-left}
+use Rattle.genlib_expression.proofs.ExpressionScan.{shallow-byte, shallow-over}
 use Rattle.genlib_expression.proofs.is_shallow.Statement.{statement}
 use Rattle.genlib_expression.proofs.is_shallow.Tie as tie
 

@@ -4,7 +4,7 @@ use Rattle.model.specs.{flip, isWord, nameValue, quoted}
 use Rattle.model.specs.GenlibFormula.{named}
 use Rattle.genlib_expression.specs.declared.Token.{Token}
 use Rattle.genlib_expression.specs.{tokenAt, restAt, namesAt, part}
-use Rattle.genlib_expression.proofs.Values.{token-from, token-to, here, name-yes, name-no, quoted-is, in-phase-row}
+use Rattle.genlib_expression.proofs.ExpressionValues.{token-from, token-to, here, name-yes, name-no, quoted-is, in-phase-row}
 use Rattle.genlib_expression.proofs.name.Statement.{statement}
 use Rattle.genlib_expression.proofs.name.Tie as tie
 
@@ -27,12 +27,12 @@ module _ (w : List ℕ) (at : ℕ) (h : at ≤ length w) (t : Token) (e : t ≡ 
     no-name : isWord (part w (t .from) (t .to)) ≡ false → named value odd (restAt w at) ≡ none
     no-name k = name-no w at h value odd (ap isWord (sym bytes) ∙ k)
 
-turn-requires : tie.Need-turn-requires
-turn-requires c κs = let t = c .before .before .before .before .before in bounds _ _ (t .before .before .pre .0) _ (t .next-token .ensures) .2
+negated-by-signs-requires : tie.Need-negated-by-signs-requires
+negated-by-signs-requires c κs = let t = c .before .before .before .before .before in bounds _ _ (t .before .before .pre .0) _ (t .next-token .ensures) .2
 
 returns : tie.Need-returns
 returns c =
-    let q = c .before .turn in
+    let q = c .before .negated-by-signs in
     let b = c .before .before .before .before in
     let s = b .before .before .before .before .before in
     let w = s .args .w .now in
@@ -60,4 +60,4 @@ name-spec =
     (λ c. let t = c .before .before .before in bounds _ _ (t .before .before .pre .0) _ (t .next-token .ensures) .1)
     (λ c. let t = c .before .before .before in bounds _ _ (t .before .before .pre .0) _ (t .next-token .ensures) .1)
     (λ c. let t = c .before .before .before in bounds _ _ (t .before .before .pre .0) _ (t .next-token .ensures) .2)
-    (λ c κs. search needs) turn-requires (λ c κs. search needs) returns returns-2)
+    (λ c κs. search needs) negated-by-signs-requires (λ c κs. search needs) returns returns-2)

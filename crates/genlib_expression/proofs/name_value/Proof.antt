@@ -2,7 +2,7 @@
 use Rattle.base.specs.{needs, _≡_, sym, ap, _∙_, false, ℕ, _/_, _%_, _<_, arith, eqb}
 use Rattle.model.specs.{bit, text, value, nameValue, const0, const1}
 use Rattle.base_truth.proofs.{value-pattern, value-shift}
-use Rattle.genlib_expression.proofs.Values.{no-row, every-row}
+use Rattle.genlib_expression.proofs.ExpressionValues.{no-row, every-row}
 use Rattle.genlib_expression.proofs.name_value.Statement.{statement}
 use Rattle.genlib_expression.proofs.name_value.Tie as tie
 

@@ -1,7 +1,7 @@
 -- `genlib_expression::nth` meets its contract, by counting. The invariant: the token at hand is token i; the measure is what is left to count.
 use Rattle.base.specs.{subst, ℕ, _-_, _≤_, arith, needs}
 use Rattle.genlib_expression.specs.{Nth}
-use Rattle.genlib_expression.proofs.Walk.{nth-first, nth-next}
+use Rattle.genlib_expression.proofs.ExpressionWalk.{nth-first, nth-next}
 use Rattle.genlib_expression.proofs.nth.Statement.{statement}
 use Rattle.genlib_expression.proofs.nth.Tie as tie
 

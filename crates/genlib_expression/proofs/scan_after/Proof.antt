@@ -1,16 +1,16 @@
 -- `genlib_expression::scan_after` meets its contract, by its ways.
 use Rattle.base.specs.{ℕ, _≤_, _<_, arith, _≡_, refl, Bool, true, false, eqb, eqb-true, eqb-false, eq-eqb, ne-eqb, lt-ltb, le-ltb, needs}
-use Rattle.model.specs.declared.Scan.the-variants.{Due, Broken}
+use Rattle.model.specs.declared.Scan.the-variants.{Expected, Broken}
 use Rattle.genlib_expression.specs.{afterStep, closeStep, endStep}
 use Rattle.genlib_expression.proofs.scan_after.Statement.{statement}
 use Rattle.genlib_expression.proofs.scan_after.Tie as tie
 
 -- the signs between parts, and a byte that is no sign
-join : (depth b : ℕ) → (b ≡ 41 → ⊥) → 41 ≤ b → b < 44 → Due depth ≡ afterStep depth b
+join : (depth b : ℕ) → (b ≡ 41 → ⊥) → 41 ≤ b → b < 44 → Expected depth ≡ afterStep depth b
 unfolding afterStep
 join depth b n h k = go (eqb b 42) refl
   where
-    go : (t : Bool) → eqb b 42 ≡ t → Due depth ≡ afterStep depth b
+    go : (t : Bool) → eqb b 42 ≡ t → Expected depth ≡ afterStep depth b
     go true e = rw (eqb-true b 42 e)
     go false e = let o = eqb-false b 42 e in let z : b ≡ 43 = omega (arith, n, o) in rw z
 

@@ -3,15 +3,15 @@ use Rattle.base.specs.{refl, sym, ap, _∙_, arith, getD, needs}
 use Rattle.model.specs.declared.Scan.{Scan}
 use Rattle.model.specs.{isWord}
 use Rattle.genlib_expression.specs.{depthOf, scanStep, part}
-use Rattle.genlib_expression.proofs.Scanning.{scan-one, scan-none}
+use Rattle.genlib_expression.proofs.ExpressionScan.{scan-one, scan-none}
 use Rattle.genlib_expression.proofs.scan_at.Statement.{statement}
 use Rattle.genlib_expression.proofs.scan_at.Tie as tie
 
 returns : tie.Need-returns
 returns c = let a = c .before .before .args in sym (scan-none (a .w .now) (a .t) (a .s) (omega arith))
 
-scan-due-requires : tie.Need-scan-due-requires
-scan-due-requires c κs = omega (arith, ap depthOf (c .before .before .before .before .s .given .1))
+scan-expected-requires : tie.Need-scan-expected-requires
+scan-expected-requires c κs = omega (arith, ap depthOf (c .before .before .before .before .s .given .1))
 
 returns-2 : tie.Need-returns-2
 unfolding scanStep
@@ -20,7 +20,7 @@ returns-2 c =
     let e = c .before .before .before .before .before .before .before in
     let a = e .before .before .args in
     let b = getD (a .w .now) (a .t .from) 0 in
-    c .scan-due .ensures
+    c .scan-expected .ensures
     ∙ sym (ap (λ (x : Scan). scanStep x b (c .before .is-word .result)) (g .1))
     ∙ scan-one (a .w .now) (a .t) (a .s) (omega (arith, e .if1 .left)) (e .before .before .pre .1) b (c .before .is-word .result) refl (c .before .is-word .ensures)
 
@@ -60,5 +60,5 @@ returns-5 c =
 pub scan-at-spec : {M : Type 1} → statement M
 scan-at-spec = tie.close (tie.spec
     returns (λ c. search needs) (λ c. search needs) (λ c. search needs) (λ c. search needs) (λ c. search needs) (λ c κs. search needs)
-    scan-due-requires (λ c. search needs) (λ c. search needs) (λ c κs. search needs) (λ c. search needs) (λ c. search needs) returns-2
+    scan-expected-requires (λ c. search needs) (λ c. search needs) (λ c κs. search needs) (λ c. search needs) (λ c. search needs) returns-2
     returns-3 returns-4 returns-5)

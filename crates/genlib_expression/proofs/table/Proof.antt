@@ -6,7 +6,7 @@ use Rattle.model.specs.GenlibFormula.{valueOf}
 use Rattle.model.proofs.{rows-most, rows-less, row-bit, row-none}
 use Rattle.base_truth.proofs.{tables-same, value-and}
 use Rattle.base_text.proofs.{and-true, and-false}
-use Rattle.genlib_expression.proofs.Values.{known, no-row}
+use Rattle.genlib_expression.proofs.ExpressionValues.{known, no-row}
 use Rattle.genlib_expression.proofs.table.Statement.{statement}
 use Rattle.genlib_expression.proofs.table.Tie as tie
 

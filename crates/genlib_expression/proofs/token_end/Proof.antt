@@ -4,7 +4,7 @@ use Rattle.model.specs.{isWordByte}
 use Rattle.base_text.specs.{spanEnd}
 use Rattle.base_text.proofs.{class-end, class-stop, class-out}
 use Rattle.genlib_expression.specs.{endAt}
-use Rattle.genlib_expression.proofs.Tokens.{end-word, end-sign, end-out}
+use Rattle.genlib_expression.proofs.TokenSpans.{end-word, end-sign, end-out}
 use Rattle.genlib_expression.proofs.token_end.Statement.{statement}
 use Rattle.genlib_expression.proofs.token_end.Tie as tie
 

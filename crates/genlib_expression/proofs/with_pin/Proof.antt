@@ -4,7 +4,7 @@ use Rattle.base.specs.{needs}
 use Rattle.model.specs.{indexOf}
 use Rattle.genlib_expression.specs.declared.Pins.{Pins}
 use Rattle.genlib_expression.specs.{namesAt, pushed, withPin}
-use Rattle.genlib_expression.proofs.Pinning.{length-names, with-known, with-new, names-pushed}
+use Rattle.genlib_expression.proofs.PinNumbering.{length-names, with-known, with-new, names-pushed}
 use Rattle.genlib_expression.proofs.with_pin.Statement.{statement}
 use Rattle.genlib_expression.proofs.with_pin.Tie as tie
 

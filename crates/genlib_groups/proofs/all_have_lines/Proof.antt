@@ -3,7 +3,7 @@ use Rattle.base.specs.{_≡_, sym, ap, _∙_, map, arith, _-_, _≤_, not-true,
 use Rattle.model.specs.{all, from, below}
 use Rattle.genlib_expression.specs.{restAt, nameAt, namesAt}
 use Rattle.genlib_groups.specs.{pinHas, linesBehind}
-use Rattle.genlib_groups.proofs.Grouping.{pins-all, pins-step, pins-end, has-free}
+use Rattle.genlib_groups.proofs.GroupReading.{pins-all, pins-step, pins-end, has-free}
 use Rattle.genlib_groups.proofs.all_have_lines.Statement.{statement}
 use Rattle.genlib_groups.proofs.all_have_lines.Tie as tie
 

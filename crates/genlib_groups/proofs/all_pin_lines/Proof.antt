@@ -2,8 +2,8 @@
 use Rattle.base.specs.{_≡_, refl, sym, ap, _∙_, arith, _-_, _≤_, length, ⊎-elim, not-true, not-false, needs}
 use Rattle.model.specs.{all, grouped, lineIs, isPinLine}
 use Rattle.genlib_groups.specs.{linesOf}
-use Rattle.genlib_groups.proofs.LineLaws.{bounded, starts-gate, not-ended, is-ended}
-use Rattle.genlib_groups.proofs.Grouping.{gate-here, line-here, none-here}
+use Rattle.genlib_groups.proofs.GenlibLineLaws.{bounded, starts-gate, not-ended, is-ended}
+use Rattle.genlib_groups.proofs.GroupReading.{gate-here, line-here, none-here}
 use Rattle.genlib_groups.proofs.all_pin_lines.Statement.{statement}
 use Rattle.genlib_groups.proofs.all_pin_lines.Tie as tie
 

@@ -1,6 +1,6 @@
 -- `genlib_groups::decimal` meets its contract, by its two ways.
 use Rattle.base.specs.{sym, needs}
-use Rattle.genlib_groups.proofs.Figures.{default-in, default-out}
+use Rattle.genlib_groups.proofs.GenlibFigures.{default-in, default-out}
 use Rattle.genlib_groups.proofs.decimal.Statement.{statement}
 use Rattle.genlib_groups.proofs.decimal.Tie as tie
 

@@ -2,8 +2,8 @@
 use Rattle.base.specs.{sym, ap, _∙_, List, ℕ, needs}
 use Rattle.model.specs.{delayOf}
 use Rattle.genlib_groups.specs.{valueIn, linesBehind, delayFor}
-use Rattle.genlib_groups.proofs.LineLaws.{bounded, tokens-at}
-use Rattle.genlib_groups.proofs.Grouping.{delay-found, delay-missing}
+use Rattle.genlib_groups.proofs.GenlibLineLaws.{bounded, tokens-at}
+use Rattle.genlib_groups.proofs.GroupReading.{delay-found, delay-missing}
 use Rattle.genlib_groups.proofs.delay_named.Statement.{statement}
 use Rattle.genlib_groups.proofs.delay_named.Tie as tie
 

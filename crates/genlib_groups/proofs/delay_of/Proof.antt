@@ -2,7 +2,7 @@
 use Rattle.base.specs.{_≡_, sym, ap, _∙_, none, some, [], getD, needs}
 use Rattle.model.specs.{delayOf, andThen, tokens, thousandths}
 use Rattle.base_text.specs.declared.Value.the-variants.{Is}
-use Rattle.genlib_groups.proofs.Grouping.{value-some, value-none}
+use Rattle.genlib_groups.proofs.GroupReading.{value-some, value-none}
 use Rattle.genlib_groups.proofs.delay_of.Statement.{statement}
 use Rattle.genlib_groups.proofs.delay_of.Tie as tie
 

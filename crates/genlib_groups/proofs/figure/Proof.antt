@@ -3,8 +3,8 @@ use Rattle.base.specs.{needs, _≡_, refl, sym, ap, _∙_, arith, ℕ, _+_, _-_
 use Rattle.base.specs.{take, getD}
 use Rattle.model.specs.{asDigits, isDigit, inThousandths}
 use Rattle.base_text.specs.{spanEnd}
-use Rattle.genlib_groups.proofs.Figures.{whole-is, three, decimal-byte, figure-broken, figure-long, figure-fits, figure-large}
-use Rattle.genlib_groups.proofs.Figures.{cap-digit}
+use Rattle.genlib_groups.proofs.GenlibFigures.{whole-is, three, decimal-byte, figure-broken, figure-long, figure-fits, figure-large}
+use Rattle.genlib_groups.proofs.GenlibFigures.{cap-digit}
 use Rattle.genlib_groups.proofs.figure.Statement.{statement}
 use Rattle.genlib_groups.proofs.figure.Tie as tie
 

@@ -3,8 +3,8 @@ use Rattle.base.specs.{_≡_, refl, sym, ap, _∙_, arith, le-refl, _-_, _≤_,
 use Rattle.model.specs.Genlib.{fits}
 use Rattle.model.specs.{pinLine}
 use Rattle.genlib_groups.specs.{linesBehind}
-use Rattle.genlib_groups.proofs.LineLaws.{bounded, starts-gate, tokens-at}
-use Rattle.genlib_groups.proofs.Grouping.{gate-here, line-here, none-here, lines-end, lines-more}
+use Rattle.genlib_groups.proofs.GenlibLineLaws.{bounded, starts-gate, tokens-at}
+use Rattle.genlib_groups.proofs.GroupReading.{gate-here, line-here, none-here, lines-end, lines-more}
 use Rattle.genlib_groups.proofs.find_line.Statement.{statement}
 use Rattle.genlib_groups.proofs.find_line.Tie as tie
 

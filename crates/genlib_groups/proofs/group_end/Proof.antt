@@ -4,7 +4,7 @@ use Rattle.model.specs.{Line, Group, grouped, groups}
 use Rattle.base_text.specs.{lineAt}
 use Rattle.base_text.proofs.{lines-at, lines-none}
 use Rattle.genlib_groups.specs.{linesOf, groupAt, startOf, behindGroup}
-use Rattle.genlib_groups.proofs.LineLaws.{bounded}
+use Rattle.genlib_groups.proofs.GenlibLineLaws.{bounded}
 use Rattle.genlib_groups.proofs.group_end.Statement.{statement}
 use Rattle.genlib_groups.proofs.group_end.Tie as tie
 

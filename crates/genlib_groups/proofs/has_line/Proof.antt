@@ -1,7 +1,7 @@
 -- `genlib_groups::has_line` meets its contract, by whether the token is a pin.
 use Rattle.base.specs.{sym, _∙_, not-true, not-false, needs}
 use Rattle.genlib_groups.specs.{pinHas, linesBehind}
-use Rattle.genlib_groups.proofs.Grouping.{has-found}
+use Rattle.genlib_groups.proofs.GroupReading.{has-found}
 use Rattle.genlib_groups.proofs.has_line.Statement.{statement}
 use Rattle.genlib_groups.proofs.has_line.Tie as tie
 

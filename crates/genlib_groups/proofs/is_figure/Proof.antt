@@ -1,6 +1,6 @@
 -- `genlib_groups::is_figure` meets its contract, by where its digits end.
 use Rattle.base.specs.{sym, ap, _∙_, arith, ℕ, eqb, length, ⊎-elim, lt-ltb, le-ltb, leb-true, leb-false, ne-eqb, needs}
-use Rattle.genlib_groups.proofs.Figures.{figure-none, figure-whole, figure-other, figure-point, digits-past, digits-from}
+use Rattle.genlib_groups.proofs.GenlibFigures.{figure-none, figure-whole, figure-other, figure-point, digits-past, digits-from}
 use Rattle.genlib_groups.proofs.is_figure.Statement.{statement}
 use Rattle.genlib_groups.proofs.is_figure.Tie as tie
 

@@ -1,7 +1,7 @@
 -- `genlib_groups::names_gate` meets its contract, by the line’s first word.
 use Rattle.base.specs.{ap, _∙_, List, ℕ, needs}
 use Rattle.model.specs.{same, text}
-use Rattle.genlib_groups.proofs.LineLaws.{gate-part, gate-bounds}
+use Rattle.genlib_groups.proofs.GenlibLineLaws.{gate-part, gate-bounds}
 use Rattle.genlib_groups.specs.{gateWord}
 use Rattle.genlib_groups.proofs.names_gate.Statement.{statement}
 use Rattle.genlib_groups.proofs.names_gate.Tie as tie

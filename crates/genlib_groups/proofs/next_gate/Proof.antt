@@ -2,8 +2,8 @@
 use Rattle.base.specs.{_≡_, refl, sym, _∙_, arith, le-refl, _-_, _≤_, length, needs}
 use Rattle.model.specs.{grouped}
 use Rattle.genlib_groups.specs.{linesOf}
-use Rattle.genlib_groups.proofs.LineLaws.{bounded, starts-gate}
-use Rattle.genlib_groups.proofs.Grouping.{gate-here, line-here, none-here}
+use Rattle.genlib_groups.proofs.GenlibLineLaws.{bounded, starts-gate}
+use Rattle.genlib_groups.proofs.GroupReading.{gate-here, line-here, none-here}
 use Rattle.genlib_groups.proofs.next_gate.Statement.{statement}
 use Rattle.genlib_groups.proofs.next_gate.Tie as tie
 

@@ -2,9 +2,9 @@
 use Rattle.base.specs.{_≡_, refl, sym, ap, _∙_, arith, _-_, _≤_, not-true, not-false, length, needs}
 use Rattle.model.specs.{all}
 use Rattle.genlib_expression.specs.{restAt}
-use Rattle.genlib_expression.proofs.{step, nothing-left, all-turn}
+use Rattle.genlib_expression.proofs.{step, nothing-left, all-step}
 use Rattle.genlib_groups.specs.{pinHas, linesBehind}
-use Rattle.genlib_groups.proofs.Grouping.{has-none}
+use Rattle.genlib_groups.proofs.GroupReading.{has-none}
 use Rattle.genlib_groups.proofs.tokens_have_lines.Statement.{statement}
 use Rattle.genlib_groups.proofs.tokens_have_lines.Tie as tie
 
@@ -30,13 +30,13 @@ has-line-requires : tie.Need-has-line-requires Inv-loop μ-loop
 has-line-requires c κs = c .before .before .before .loop .inv .0
 
 returns : tie.Need-returns Inv-loop μ-loop
-returns c = let l = c .before .before .before .before .before .loop in let k = step _ _ (l .inv .1) _ (c .before .before .before .next-token .ensures) in let f = pinHas (linesBehind (c .before .before .before .before .before .before .before .before .args .s .now) (c .before .before .before .before .before .before .before .before .args .from)) in sym (l .inv .2 ∙ all-turn f (has-none _) _ _ _ k ∙ rw (sym (c .before .has-line .ensures) ∙ not-true _ (c .if1 .taken)))
+returns c = let l = c .before .before .before .before .before .loop in let k = step _ _ (l .inv .1) _ (c .before .before .before .next-token .ensures) in let f = pinHas (linesBehind (c .before .before .before .before .before .before .before .before .args .s .now) (c .before .before .before .before .before .before .before .before .args .from)) in sym (l .inv .2 ∙ all-step f (has-none _) _ _ _ k ∙ rw (sym (c .before .has-line .ensures) ∙ not-true _ (c .if1 .taken)))
 
 loop-less : tie.Need-loop-less Inv-loop μ-loop
 loop-less c = let l = c .before .before .before .before .before .loop in let k = step _ _ (l .inv .1) _ (c .before .before .before .next-token .ensures) in omega (arith, k .later (c .before .before .before .before .loop-test .taken))
 
 loop-again : tie.Need-loop-again Inv-loop μ-loop
-loop-again c = let l = c .before .before .before .before .before .loop in let k = step _ _ (l .inv .1) _ (c .before .before .before .next-token .ensures) in let f = pinHas (linesBehind (c .before .before .before .before .before .before .before .before .args .s .now) (c .before .before .before .before .before .before .before .before .args .from)) in (l .inv .0, k .within, l .inv .2 ∙ all-turn f (has-none _) _ _ _ k ∙ rw (sym (c .before .has-line .ensures) ∙ not-false _ (c .if1 .left)))
+loop-again c = let l = c .before .before .before .before .before .loop in let k = step _ _ (l .inv .1) _ (c .before .before .before .next-token .ensures) in let f = pinHas (linesBehind (c .before .before .before .before .before .before .before .before .args .s .now) (c .before .before .before .before .before .before .before .before .args .from)) in (l .inv .0, k .within, l .inv .2 ∙ all-step f (has-none _) _ _ _ k ∙ rw (sym (c .before .has-line .ensures) ∙ not-false _ (c .if1 .left)))
 
 returns-2 : tie.Need-returns-2 Inv-loop μ-loop
 unfolding all

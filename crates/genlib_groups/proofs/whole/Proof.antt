@@ -1,7 +1,7 @@
 -- `genlib_groups::whole` meets its contract. The invariant: the number so far is that of the digits passed; the measure is what is left of them.
 use Rattle.base.specs.{needs, _≡_, refl, sym, ap, _∙_, arith, ℕ, _-_, _≤_, min, true, List, take, getD, length-take-le, getD-take}
 use Rattle.model.specs.{asDigits, isDigit}
-use Rattle.genlib_groups.proofs.Figures.{cap-digit, take-more, digit-bounds, all-at}
+use Rattle.genlib_groups.proofs.GenlibFigures.{cap-digit, take-more, digit-bounds, all-at}
 use Rattle.genlib_groups.proofs.whole.Statement.{statement}
 use Rattle.genlib_groups.proofs.whole.Tie as tie
 

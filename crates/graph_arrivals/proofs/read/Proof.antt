@@ -1,17 +1,17 @@
 -- `graph_arrivals::read` meets its contract: no text, or the first line and then the lines from where the next begins.
 use Rattle.base.specs.{needs, _≡_, sym, ap, _∙_, List, arith}
-use Rattle.model.specs.{text, Read, verdictOf, rulingOf, verdictRuling, Late}
+use Rattle.model.specs.{text, Read, verdictOf, refusalOf, verdictRefusal, InputArrival}
 use Rattle.model.specs.declared.Verdict.{Verdict}
-use Rattle.model.proofs.{verdict-ruled}
+use Rattle.model.proofs.{verdict-refusal}
 use Rattle.base_text.proofs.{first-fits}
 use Rattle.graph_arrivals.specs.{headLine, putAll}
-use Rattle.graph_arrivals.proofs.First.{none-listed, head-not, head-read, head-listed}
+use Rattle.graph_arrivals.proofs.NoArrivals.{none-listed, head-not, head-read, head-listed}
 use Rattle.graph_arrivals.proofs.read.Statement.{statement}
 use Rattle.graph_arrivals.proofs.read.Tie as tie
 
 -- a verdict's number and place beside it
-told : (v : Verdict) (q : Read (List Late)) {W : Type 0} → (v ≡ verdictOf q) × W → (v ≡ verdictOf q) × ((verdictRuling v ≡ rulingOf q) × W)
-told v q e = (e .0, (verdict-ruled v q (e .0), e .1))
+told : (v : Verdict) (q : Read (List InputArrival)) {W : Type 0} → (v ≡ verdictOf q) × W → (v ≡ verdictOf q) × ((verdictRefusal v ≡ refusalOf q) × W)
+told v q e = (e .0, (verdict-refusal v q (e .0), e .1))
 
 returns : tie.Need-returns
 returns c =

@@ -1,6 +1,6 @@
 -- `graph_binary::less_by` meets its contract: each return knows the difference that was found, and the tests that led there.
 use Rattle.base.specs.{sym, _∙_, ⊎-elim, true≢false, eqb-true, needs}
-use Rattle.graph_binary.proofs.Gates.{less-broken, less-zero, less-over, less-is}
+use Rattle.graph_binary.proofs.BinaryGates.{less-broken, less-zero, less-over, less-is}
 use Rattle.graph_binary.proofs.less_by.Statement.{statement}
 use Rattle.graph_binary.proofs.less_by.Tie as tie
 use Rattle.base_text.proofs.Cursor.difference.Reads as difference-reads

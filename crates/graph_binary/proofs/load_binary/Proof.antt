@@ -1,14 +1,14 @@
 -- `graph_binary::load_binary` meets its contract, by the laws of its three passes.
 use Rattle.base.specs.{needs}
-use Rattle.graph_placing.proofs.{fit-length, fit-room}
-use Rattle.graph_binary.proofs.Loads.{header-fit, load-done, load-stop}
+use Rattle.graph_order.proofs.{fit-length, fit-capacity}
+use Rattle.graph_binary.proofs.BinaryLoads.{header-fit, load-done, load-stop}
 use Rattle.graph_binary.proofs.load_binary.Statement.{statement}
 use Rattle.graph_binary.proofs.load_binary.Tie as tie
 
 open-words-requires : tie.Need-open-words-requires
 open-words-requires c κs =
     let start = c .before .before .before in
-    fit-room _ _ (header-fit (start .args .s .now) (start .args .h) (start .args .work .now) (start .pre .0) (start .pre .2))
+    fit-capacity _ _ (header-fit (start .args .s .now) (start .args .h) (start .args .work .now) (start .pre .0) (start .pre .2))
 
 store-inputs-requires : tie.Need-store-inputs-requires
 store-inputs-requires c κs =

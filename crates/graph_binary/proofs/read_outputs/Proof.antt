@@ -1,33 +1,33 @@
 -- `graph_binary::read_outputs` meets its contract. The invariant: what the output lines from here on give is what all give; the measure is those that are left.
 use Rattle.base.specs.{sym, _∙_, _+_, _-_, arith, needs}
-use Rattle.graph_placing.proofs.{fit-length}
-use Rattle.graph_binary.specs.{outputTurn, outputLeft}
-use Rattle.graph_binary.proofs.Passes.{Rest, rest-first, rest-on, rest-stop, rest-end}
+use Rattle.graph_order.proofs.{fit-length}
+use Rattle.graph_binary.specs.{outputStep, outputLeft}
+use Rattle.graph_binary.proofs.BinaryPasses.{Rest, rest-first, rest-on, rest-stop, rest-end}
 use Rattle.graph_binary.proofs.read_outputs.Statement.{statement}
 use Rattle.graph_binary.proofs.read_outputs.Tie as tie
 
 abbrev Inv-loop : tie.InvT-loop
-Inv-loop s work₀ h end at₀ k₀ work at k = Rest (outputTurn s h) (outputLeft s h) (h .outputs) (h .inputs) (h .next) work₀ k at work
+Inv-loop s work₀ h end at₀ k₀ work at k = Rest (outputStep s h) (outputLeft s h) (h .outputs) (h .inputs) (h .next) work₀ k at work
 
 abbrev μ-loop : tie.MeasureT-loop
 μ-loop s work₀ h end at₀ k₀ work at k = h .inputs + h .outputs - k
 
-output-turn-requires : tie.Need-output-turn-requires Inv-loop μ-loop
-output-turn-requires c κs =
+output-step-requires : tie.Need-output-step-requires Inv-loop μ-loop
+output-step-requires c κs =
     let at-loop = c .before .before in let start = at-loop .before .before .before .before in
     (fit-length (start .args .h) (start .args .work .now) _ (start .pre) (at-loop .loop .inv .long), omega arith)
 
 returns : tie.Need-returns Inv-loop μ-loop
 returns c =
-    let at-turn = c .before .before .before .before .before in let at-loop-test = at-turn .before .before in
+    let at-step = c .before .before .before .before .before in let at-loop-test = at-step .before .before in
     let at-loop = at-loop-test .before in
-    rest-stop _ _ _ _ _ _ _ _ _ (at-loop .loop .inv) (at-loop-test .loop-test .taken) _ _ _ (sym (at-turn .output-turn .ensures .0) ∙ c .before .n .given .1) (at-turn .output-turn .ensures .1)
+    rest-stop _ _ _ _ _ _ _ _ _ (at-loop .loop .inv) (at-loop-test .loop-test .taken) _ _ _ (sym (at-step .output-step .ensures .0) ∙ c .before .n .given .1) (at-step .output-step .ensures .1)
 
 loop-again : tie.Need-loop-again Inv-loop μ-loop
 loop-again c =
-    let at-turn = c .before .before .before .before .before in let at-loop-test = at-turn .before .before in
+    let at-step = c .before .before .before .before .before in let at-loop-test = at-step .before .before in
     let at-loop = at-loop-test .before in
-    rest-on _ _ _ _ _ _ _ _ _ (at-loop .loop .inv) (at-loop-test .loop-test .taken) _ _ (sym (at-turn .output-turn .ensures .0) ∙ c .before .next .given .1) (at-turn .output-turn .ensures .1) (search needs)
+    rest-on _ _ _ _ _ _ _ _ _ (at-loop .loop .inv) (at-loop-test .loop-test .taken) _ _ (sym (at-step .output-step .ensures .0) ∙ c .before .next .given .1) (at-step .output-step .ensures .1) (search needs)
 
 returns-2 : tie.Need-returns-2 Inv-loop μ-loop
 returns-2 c =
@@ -35,5 +35,5 @@ returns-2 c =
 
 pub read-outputs-spec : {M : Type 1} → statement M
 read-outputs-spec = tie.close (tie.spec
-    Inv-loop μ-loop (λ c. search needs) (λ c. rest-first _ _ _ _ _ _) output-turn-requires (λ c. search needs) (λ c. search needs)
+    Inv-loop μ-loop (λ c. search needs) (λ c. rest-first _ _ _ _ _ _) output-step-requires (λ c. search needs) (λ c. search needs)
     (λ c. search needs) returns (λ c. search needs) (λ c. search needs) loop-again (λ c. search needs) returns-2)

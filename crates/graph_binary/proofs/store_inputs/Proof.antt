@@ -1,14 +1,14 @@
 -- `graph_binary::store_inputs` meets its contract. The invariant: what the inputs from here on leave is what all leave; the measure is the inputs that are left.
 use Rattle.base.specs.{refl, sym, ap, _∙_, subst, _-_, arith, needs}
-use Rattle.graph_placing.proofs.{fit-length}
+use Rattle.graph_order.proofs.{fit-length}
 use Rattle.graph_loading.specs.{LiteralsFit, storedLine}
-use Rattle.graph_binary.specs.{inputTurn, inputLeft}
-use Rattle.graph_binary.proofs.Passes.{Rest, rest-first, rest-on, rest-end}
+use Rattle.graph_binary.specs.{inputStep, inputLeft}
+use Rattle.graph_binary.proofs.BinaryPasses.{Rest, rest-first, rest-on, rest-end}
 use Rattle.graph_binary.proofs.store_inputs.Statement.{statement}
 use Rattle.graph_binary.proofs.store_inputs.Tie as tie
 
 abbrev Inv-loop : tie.InvT-loop
-Inv-loop work₀ h k₀ work k = Rest inputTurn (inputLeft h) (h .inputs) 0 (h .next) work₀ k (h .next) work
+Inv-loop work₀ h k₀ work k = Rest inputStep (inputLeft h) (h .inputs) 0 (h .next) work₀ k (h .next) work
 
 abbrev μ-loop : tie.MeasureT-loop
 μ-loop work₀ h k₀ work k = h .inputs - k

@@ -1,6 +1,6 @@
 -- `graph_loading::fits` meets its contract.
 use Rattle.base.specs.{sym, _∙_, arith, lt-leb, needs}
-use Rattle.graph_loading.proofs.Tests.{fit-first, fit-left, fit-right}
+use Rattle.graph_loading.proofs.LineTestLaws.{fit-first, fit-left, fit-right}
 use Rattle.graph_loading.proofs.fits.Statement.{statement}
 use Rattle.graph_loading.proofs.fits.Tie as tie
 

@@ -1,6 +1,6 @@
--- `graph_loading::store_line` meets its contract: each return knows which line is due.
+-- `graph_loading::store_line` meets its contract: each return knows which line is expected.
 use Rattle.base.specs.{ap, _∙_, List, ℕ, _+_, _/_, lt-ltb, le-ltb, needs}
-use Rattle.graph_placing.specs.{putPlaced}
+use Rattle.graph_order.specs.{putOrdered}
 use Rattle.graph_loading.specs.{storedInput, storedLine}
 use Rattle.graph_loading.proofs.store_line.Statement.{statement}
 use Rattle.graph_loading.proofs.store_line.Tie as tie
@@ -8,10 +8,10 @@ use Rattle.graph_loading.proofs.store_line.Tie as tie
 returns : tie.Need-returns
 unfolding storedLine storedInput
 returns c =
-    let at-place-at = c .before .before in let at-store-node = at-place-at .before .before .before .before .before in
+    let at-order-at = c .before .before in let at-store-node = at-order-at .before .before .before .before .before in
     let at-if1 = at-store-node .before .before .before in let a = at-if1 .before .before .before .args in
     rw (lt-ltb _ _ (at-if1 .if1 .taken))
-    (at-place-at .place-at .ensures ∙ ap (λ (x : List ℕ). putPlaced x (a .h .size) (a .k + 1) (a .l .first / 2)) (at-store-node .store-node .ensures))
+    (at-order-at .order-at .ensures ∙ ap (λ (x : List ℕ). putOrdered x (a .h .size) (a .k + 1) (a .l .first / 2)) (at-store-node .store-node .ensures))
 
 returns-2 : tie.Need-returns-2
 unfolding storedLine

@@ -1,7 +1,7 @@
 -- `graph_reader::check_lines` meets its contract. The invariant: what the lines from here on give is what all lines give; the measure is the lines that are left.
 use Rattle.base.specs.{needs, sym, _∙_, _-_}
-use Rattle.graph_loading.specs.{dueCount}
-use Rattle.graph_reader.proofs.Judging.{Left, left-first, left-on, left-stop, left-end}
+use Rattle.graph_loading.specs.{expectedCount}
+use Rattle.graph_reader.proofs.LineValidation.{Left, left-first, left-on, left-stop, left-end}
 use Rattle.graph_reader.proofs.check_lines.Statement.{statement}
 use Rattle.graph_reader.proofs.check_lines.Tie as tie
 
@@ -9,7 +9,7 @@ abbrev Inv-loop : tie.InvT-loop
 Inv-loop s work h count at₀ k₀ at k = Left s h work k at
 
 abbrev μ-loop : tie.MeasureT-loop
-μ-loop s work h count at₀ k₀ at k = dueCount h - k
+μ-loop s work h count at₀ k₀ at k = expectedCount h - k
 
 returns : tie.Need-returns Inv-loop μ-loop
 returns c =

@@ -1,8 +1,8 @@
 -- `graph_reader::header` meets its contract: each return knows the form of the first line, and the tests that led there.
 use Rattle.base.specs.{sym, ap, _∙_, eq-eqb, ne-eqb, not-true, not-false, needs}
 use Rattle.model.specs.{headerAnswer}
-use Rattle.graph_reader.proofs.Head.{header-broken, header-latches, header-limits, header-sequence, header-good, limits-sum}
-use Rattle.graph_reader.proofs.Head.{header-told}
+use Rattle.graph_reader.proofs.HeaderReading.{header-broken, header-latches, header-limits, header-sequence, header-good, limits-sum}
+use Rattle.graph_reader.proofs.HeaderReading.{header-told}
 use Rattle.graph_reader.proofs.header.Statement.{statement}
 use Rattle.graph_reader.proofs.header.Tie as tie
 

@@ -1,7 +1,7 @@
 -- `graph_reader::header_ends` meets its contract: the first line's end is of one byte.
 use Rattle.base.specs.{sym, ap, _∙_, needs}
 use Rattle.graph_reader.specs.{headerEnds}
-use Rattle.graph_reader.proofs.Head.{first-from, first-ten, either-end}
+use Rattle.graph_reader.proofs.HeaderReading.{first-from, first-ten, either-end}
 use Rattle.graph_reader.proofs.header_ends.Statement.{statement}
 use Rattle.graph_reader.proofs.header_ends.Tie as tie
 

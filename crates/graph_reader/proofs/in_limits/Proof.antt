@@ -1,6 +1,6 @@
 -- `graph_reader::in_limits` meets its contract: the tests of 9, one by one.
 use Rattle.base.specs.{sym, _∙_, arith, lt-leb}
-use Rattle.graph_reader.proofs.Head.{limits-size, limits-outputs, limits-inputs, limits-ands}
+use Rattle.graph_reader.proofs.HeaderReading.{limits-size, limits-outputs, limits-inputs, limits-ands}
 use Rattle.graph_reader.proofs.in_limits.Statement.{statement}
 use Rattle.graph_reader.proofs.in_limits.Tie as tie
 

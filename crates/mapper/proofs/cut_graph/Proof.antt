@@ -2,15 +2,15 @@
 use Rattle.base.specs.{_∙_, needs}
 use Rattle.cover_choice.proofs.{choose-asked}
 use Rattle.mapper.specs.{allOf}
-use Rattle.mapper.proofs.Turns.{told-as, timed-asks, cuts-cut, cuts-go, cuts-stop, chosen-outputs, chosen-asks, cover-mapped, cover-timeable}
-use Rattle.mapper.proofs.Turns.{cover-goes, cover-stops}
+use Rattle.mapper.proofs.StageLaws.{answered-as, timed-asks, cuts-cut, cuts-go, cuts-stop, chosen-outputs, chosen-asks, cover-mapped, cover-timeable}
+use Rattle.mapper.proofs.StageLaws.{cover-goes, cover-stops}
 use Rattle.mapper.proofs.cut_graph.Statement.{statement}
 use Rattle.mapper.proofs.cut_graph.Tie as tie
 
 enumerate-requires : tie.Need-enumerate-requires
 enumerate-requires c κs =
     let s = c .before .before .before .before .before in
-    timed-asks (s .args .ranged) (s .args .work .now) (s .args .lib) (s .args .codes .now) (s .args .h) (s .pre .0 .0) (s .pre .0 .1)
+    timed-asks (s .args .ranged) (s .args .work .now) (s .args .lib) (s .args .ids .now) (s .args .h) (s .pre .0 .0) (s .pre .0 .1)
 
 choose-requires : tie.Need-choose-requires
 choose-requires c κs =
@@ -19,8 +19,8 @@ choose-requires c κs =
     let s = r .before .before .before .before .before .before in
     let a = s .args in
     let cut = cuts-cut (a .ranged) _ _ _ _ _ (s .pre .0 .1) _ (r .enumerate .ensures .0) (e .enum-told .given .1) _ (r .enumerate .ensures .1) in
-    let k = choose-asked (r .enumerate .last .0) (allOf (a .lib) (a .codes .now)) (a .h) (s .pre .0 .0) (cut .given .header) (cut .held) (a .sheet .now) (s .pre .1) (cut .unchosen) in
-    (cut .given .library .read .usable, k .0, k .1)
+    let k = choose-asked (r .enumerate .last .0) (allOf (a .lib) (a .ids .now)) (a .h) (s .pre .0 .0) (cut .given .header) (cut .represented) (a .matches .now) (s .pre .1) (cut .unchosen) in
+    (cut .given .library .read .inBounds, k .0, k .1)
 
 uncovered-requires : tie.Need-uncovered-requires
 uncovered-requires c κs =
@@ -30,7 +30,7 @@ uncovered-requires c κs =
     let s = r .before .before .before .before .before .before in
     let a = s .args in
     let cut = cuts-cut (a .ranged) _ _ _ _ _ (s .pre .0 .1) _ (r .enumerate .ensures .0) (e .enum-told .given .1) _ (r .enumerate .ensures .1) in
-    chosen-outputs (a .ranged) (r .enumerate .last .0) (a .lib) (a .codes .now) (a .h) (s .pre .0 .0) cut (y .choose .last .0) (y .choose .ensures)
+    chosen-outputs (a .ranged) (r .enumerate .last .0) (a .lib) (a .ids .now) (a .h) (s .pre .0 .0) cut (y .choose .last .0) (y .choose .ensures)
 
 mark-requires : tie.Need-mark-requires
 mark-requires c κs =
@@ -69,7 +69,7 @@ returns c =
     let a = z .before .before .enum-told2 .given .1 in
     λ g t.
     let cut = cuts-cut ranged _ _ _ _ g t _ (r .enumerate .ensures .0) (e .enum-told .given .1) _ (r .enumerate .ensures .1) in
-    told-as (cuts-go ranged _ _ _ _ g t _ (r .enumerate .ensures .0) (e .enum-told .given .1) _ ∙ cover-goes ranged _ _ _ _ g cut _ y _ (u .uncovered .ensures) a _)
+    answered-as (cuts-go ranged _ _ _ _ g t _ (r .enumerate .ensures .0) (e .enum-told .given .1) _ ∙ cover-goes ranged _ _ _ _ g cut _ y _ (u .uncovered .ensures) a _)
     (p .print .ensures g (cover-mapped ranged _ _ _ _ g cut _ y _ (u .uncovered .ensures) a _ (z .mark .ensures)) (cover-timeable ranged _ _ _ _ g cut _ y _ (u .uncovered .ensures) _ (z .mark .ensures)))
 
 returns-2 : tie.Need-returns-2
@@ -81,7 +81,7 @@ returns-2 c =
     let ranged = r .before .before .before .before .before .before .args .ranged in
     λ g t.
     let cut = cuts-cut ranged _ _ _ _ g t _ (r .enumerate .ensures .0) (e .enum-told .given .1) _ (r .enumerate .ensures .1) in
-    told-as (cuts-go ranged _ _ _ _ g t _ (r .enumerate .ensures .0) (e .enum-told .given .1) _)
+    answered-as (cuts-go ranged _ _ _ _ g t _ (r .enumerate .ensures .0) (e .enum-told .given .1) _)
     (cover-stops ranged _ _ _ _ g cut _ (y .choose .ensures) _ (u .uncovered .ensures) _ _ (c .before .number .given .1) _)
 
 returns-3 : tie.Need-returns-3

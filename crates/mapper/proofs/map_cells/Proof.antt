@@ -1,8 +1,8 @@
 -- `mapper::map_cells` meets its contract: with pairs, or with the listed cells alone.
 use Rattle.base.specs.{false, [], needs}
 use Rattle.cells_pairs.proofs.{with-none}
-use Rattle.mapper.proofs.Ends.{left-as, cells-go}
-use Rattle.mapper.proofs.Libraries.{joinable-of, all-few, plain-ok, blank-listed}
+use Rattle.mapper.proofs.CallEnds.{left-as, cells-go}
+use Rattle.mapper.proofs.LibraryBounds.{joinable-of, all-few, plain-ok, blank-listed}
 use Rattle.mapper.proofs.map_cells.Statement.{statement}
 use Rattle.mapper.proofs.map_cells.Tie as tie
 
@@ -13,7 +13,7 @@ map-header-requires : tie.Need-map-header-requires
 map-header-requires c κs =
     let n = c .before .before .before in
     let s = n .before .before .before .before .before .before .before in
-    (plain-ok (s .args .lib) (s .pre), blank-listed (s .args .lib) (s .pre) (n .no-sheet .ensures))
+    (plain-ok (s .args .lib) (s .pre), blank-listed (s .args .lib) (s .pre) (n .empty-match-table .ensures))
 
 returns-2 : tie.Need-returns-2
 returns-2 c =

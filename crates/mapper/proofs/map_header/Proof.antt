@@ -1,14 +1,14 @@
--- `mapper::map_header` meets its contract: 7 to 10 and 19 leave both memories as they were; behind them the sheet is that of the cells to map with, and the words
+-- `mapper::map_header` meets its contract: 7 to 10 and 19 leave both memories as they were; behind them the match table is that of the cells to map with, and the words
 -- are cleared whatever the passes left.
 use Rattle.base.specs.{arith, ℕ, _+_, _≡_, _∙_, ap, sym, subst, length, replicate, needs}
 use Rattle.model.specs.{cellsOf}
 use Rattle.theory_text.proofs.{header-fits}
 use Rattle.graph_reader.proofs.{header-read}
 use Rattle.cells_pairs.proofs.{by-length}
-use Rattle.cells_matching.specs.{SheetOf, Blank}
-use Rattle.cells_matching.proofs.{sheet-by}
+use Rattle.cells_matching.specs.{MatchTable, Blank}
+use Rattle.cells_matching.proofs.{matches-by}
 use Rattle.mapper.specs.{allOf}
-use Rattle.mapper.proofs.Ends.{header-stops, header-short, header-done}
+use Rattle.mapper.proofs.CallEnds.{header-stops, header-short, header-done}
 use Rattle.mapper.proofs.map_header.Statement.{statement}
 use Rattle.mapper.proofs.map_header.Tie as tie
 
@@ -31,7 +31,7 @@ match-library-requires c κs =
     let h = c .before .before .before .before .before .before in
     let s = h .before .before .before .before .before .before .before in
     let a = s .args in
-    (s .pre .0 .coded, omega (arith, s .pre .1 .long, by-length (cellsOf (a .lib)) (a .codes .now), s .pre .0 .read .usable .whole))
+    (s .pre .0 .coded, omega (arith, s .pre .1 .long, by-length (cellsOf (a .lib)) (a .ids .now), s .pre .0 .read .inBounds .whole))
 
 load-graph-requires : tie.Need-load-graph-requires
 load-graph-requires c κs =
@@ -41,9 +41,9 @@ load-graph-requires c κs =
     let at-header = h .before .before in
     let s = at-header .before .before .before .before .before .before .before in
     let a = s .args in
-    let blank : Blank (a .lib .n + length (a .codes .now)) (a .sheet .now) = record { long = omega (arith, s .pre .1 .long, by-length (cellsOf (a .lib)) (a .codes .now), s .pre .0 .read .usable .whole); empty = s .pre .1 .empty } in
-    let sheet = subst (SheetOf (allOf (a .lib) (a .codes .now))) (sym (m .match-library .ensures)) (sheet-by (a .lib) (a .codes .now) (a .sheet .now) (s .pre .0 .read .usable) (s .pre .0 .coded) blank) in
-    (s .pre .0, header-read _ _ (sym (at-header .header .ensures .0) ∙ h .h .given .1), omega (arith, n .need-words .ensures, m .before .before .if1 .left), sheet)
+    let blank : Blank (a .lib .n + length (a .ids .now)) (a .matches .now) = record { long = omega (arith, s .pre .1 .long, by-length (cellsOf (a .lib)) (a .ids .now), s .pre .0 .read .inBounds .whole); empty = s .pre .1 .empty } in
+    let matches = subst (MatchTable (allOf (a .lib) (a .ids .now))) (sym (m .match-library .ensures)) (matches-by (a .lib) (a .ids .now) (a .matches .now) (s .pre .0 .read .inBounds) (s .pre .0 .coded) blank) in
+    (s .pre .0, header-read _ _ (sym (at-header .header .ensures .0) ∙ h .h .given .1), omega (arith, n .need-words .ensures, m .before .before .if1 .left), matches)
 
 returns-2 : tie.Need-returns-2
 returns-2 c =

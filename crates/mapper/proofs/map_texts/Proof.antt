@@ -2,8 +2,8 @@
 use Rattle.base.specs.{arith, sym, _∙_, ap, Bool, length, needs, ⊎-elim, ltb-true, ltb-false}
 use Rattle.model.specs.{callOf}
 use Rattle.mapper.specs.{libraryFor}
-use Rattle.mapper.proofs.Ends.{left-as}
-use Rattle.mapper.proofs.Whole.{memory-of, mapping-of, long-text, library-stops, library-heard}
+use Rattle.mapper.proofs.CallEnds.{left-as}
+use Rattle.mapper.proofs.MapLaws.{memory-of, mapping-of, long-text, library-stops, library-heard}
 use Rattle.mapper.proofs.map_texts.Statement.{statement}
 use Rattle.mapper.proofs.map_texts.Tie as tie
 
@@ -26,8 +26,8 @@ returns-2 c =
     let s = l .before .before .before .before .before .before .before .before .before .args in
     let call = callOf (s .paired) (s .cells .now) (s .graph .now) (s .arrivals .now) (s .work .now) (s .text .now) in
     let r = library-heard (s .paired) (s .cells .now) (s .graph .now) (s .arrivals .now) (s .work .now) (s .text .now) (omega arith) (omega (arith, ltb-false)) (omega (arith, ltb-false)) (l .read .result) (l .read .ensures .0) (t .enum-told .given .1) in
-    let told = ap (λ (b : Bool). libraryFor (s .paired) b (l .read .result .library) (s .graph .now) (s .arrivals .now) (length (s .work .now)) (length (s .text .now))) (sym (q .before .before .before .is-ranged .ensures)) in
-    let m = memory-of call (s .work .now) (s .text .now) (h .result) (h .last .1 .1 .1 .1 .1 .0) (h .last .1 .1 .1 .1 .1 .1 .0) (left-as (r .goes ∙ told) (h .ensures)) in
+    let answered = ap (λ (b : Bool). libraryFor (s .paired) b (l .read .result .library) (s .graph .now) (s .arrivals .now) (length (s .work .now)) (length (s .text .now))) (sym (q .before .before .before .is-ranged .ensures)) in
+    let m = memory-of call (s .work .now) (s .text .now) (h .result) (h .last .1 .1 .1 .1 .1 .0) (h .last .1 .1 .1 .1 .1 .1 .0) (left-as (r .goes ∙ answered) (h .ensures)) in
     mapping-of m
 
 returns-3 : tie.Need-returns-3

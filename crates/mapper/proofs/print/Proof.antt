@@ -1,10 +1,10 @@
 -- `mapper::print` meets its contract: the netlist is measured, with its timing lines where delays are ranges, and written where it fits.
 use Rattle.base.specs.{ℕ, _+_, arith, ap, sym, subst, Bool, true, length, needs}
 use Rattle.model.specs.declared.Answer.the-variants.{Mapped, Refused}
-use Rattle.mapper.specs.{Told, printedFor}
-use Rattle.mapper.proofs.Turns.{told-as}
-use Rattle.mapper.proofs.Printing.{print-short, print-room, print-done, timed-short, timed-done}
-use Rattle.mapper.proofs.Lowering.{lowered-mapped, lowered-lows, lines-asked, lines-said}
+use Rattle.mapper.specs.{Answered, printedFor}
+use Rattle.mapper.proofs.StageLaws.{answered-as}
+use Rattle.mapper.proofs.NetlistStage.{print-short, print-capacity, print-done, timed-short, timed-done}
+use Rattle.mapper.proofs.MinArrivalStage.{lowered-mapped, lowered-mins, lines-asked, lines-said}
 use Rattle.mapper.proofs.print.Statement.{statement}
 use Rattle.mapper.proofs.print.Tie as tie
 
@@ -24,7 +24,7 @@ lines-len-requires c κs =
     let s = m .before .before .before .before .before in
     let a = s .args in
     let p = s .pre in
-    lines-asked _ (a .lib) (a .codes .now) (a .h) (p .0) (lowered-mapped (a .work .now) (a .lib) (a .codes .now) (a .h) (p .0) (p .1) (p .2) _ (r .retime .ensures))
+    lines-asked _ (a .lib) (a .ids .now) (a .h) (p .0) (lowered-mapped (a .work .now) (a .lib) (a .ids .now) (a .h) (p .0) (p .1) (p .2) _ (r .retime .ensures))
 
 returns : tie.Need-returns
 returns c =
@@ -34,11 +34,11 @@ returns c =
     let a = m .before .before .before .before .before .args in
     let long = l .lines-len .ensures .0 in
     λ g p t.
-    let q = lowered-mapped (a .work .now) (a .lib) (a .codes .now) (a .h) g p t _ (r .retime .ensures) in
-    let low = lowered-lows (a .work .now) (a .lib) (a .codes .now) (a .h) g p t _ (r .retime .ensures) in
-    told-as (ap (λ (ranged : Bool). printedFor ranged (a .lib) (a .codes .now) g (length (a .text .now))) (r .before .before .if1 .taken))
-    (subst (λ (n : ℕ). Told (printedFor true (a .lib) (a .codes .now) g (length (a .text .now))) (a .text .now) (Refused 18 (m .measure .result .length + n)) (a .text .now)) (sym long)
-    (timed-short (a .lib) (a .codes .now) g (a .text .now) (m .measure .result) (m .measure .ensures .0 g p) _ (lines-said _ (a .lib) (a .codes .now) (a .h) g q low) (omega (arith, long))))
+    let q = lowered-mapped (a .work .now) (a .lib) (a .ids .now) (a .h) g p t _ (r .retime .ensures) in
+    let low = lowered-mins (a .work .now) (a .lib) (a .ids .now) (a .h) g p t _ (r .retime .ensures) in
+    answered-as (ap (λ (ranged : Bool). printedFor ranged (a .lib) (a .ids .now) g (length (a .text .now))) (r .before .before .if1 .taken))
+    (subst (λ (n : ℕ). Answered (printedFor true (a .lib) (a .ids .now) g (length (a .text .now))) (a .text .now) (Refused 18 (m .measure .result .length + n)) (a .text .now)) (sym long)
+    (timed-short (a .lib) (a .ids .now) g (a .text .now) (m .measure .result) (m .measure .ensures .0 g p) _ (lines-said _ (a .lib) (a .ids .now) (a .h) g q low) (omega (arith, long))))
 
 write-requires : tie.Need-write-requires
 write-requires c κs =
@@ -47,7 +47,7 @@ write-requires c κs =
     let s = m .before .before .before .before .before in
     let a = s .args in
     let p = s .pre in
-    (p .0, lowered-mapped (a .work .now) (a .lib) (a .codes .now) (a .h) (p .0) (p .1) (p .2) _ (r .retime .ensures), print-room _ _ (p .0) (a .text .now) (m .measure .result) (m .measure .ensures .0 (p .0) (p .1)) (omega arith))
+    (p .0, lowered-mapped (a .work .now) (a .lib) (a .ids .now) (a .h) (p .0) (p .1) (p .2) _ (r .retime .ensures), print-capacity _ _ (p .0) (a .text .now) (m .measure .result) (m .measure .ensures .0 (p .0) (p .1)) (omega arith))
 
 put-lines-requires : tie.Need-put-lines-requires
 put-lines-requires c κs =
@@ -58,7 +58,7 @@ put-lines-requires c κs =
     let s = m .before .before .before .before .before in
     let a = s .args in
     let p = s .pre in
-    let q = lines-asked _ (a .lib) (a .codes .now) (a .h) (p .0) (lowered-mapped (a .work .now) (a .lib) (a .codes .now) (a .h) (p .0) (p .1) (p .2) _ (r .retime .ensures)) in
+    let q = lines-asked _ (a .lib) (a .ids .now) (a .h) (p .0) (lowered-mapped (a .work .now) (a .lib) (a .ids .now) (a .h) (p .0) (p .1) (p .2) _ (r .retime .ensures)) in
     (q .0, q .1, omega (arith, l .lines-len .ensures .0, w .before .before .before .if2 .left, w .write .kept .1 .1 .1 .1 .1 .0))
 
 returns-2 : tie.Need-returns-2
@@ -71,18 +71,18 @@ returns-2 c =
     let a = m .before .before .before .before .before .args in
     let long = l .lines-len .ensures .0 in
     λ g p t.
-    let q = lowered-mapped (a .work .now) (a .lib) (a .codes .now) (a .h) g p t _ (r .retime .ensures) in
-    let low = lowered-lows (a .work .now) (a .lib) (a .codes .now) (a .h) g p t _ (r .retime .ensures) in
-    told-as (ap (λ (ranged : Bool). printedFor ranged (a .lib) (a .codes .now) g (length (a .text .now))) (r .before .before .if1 .taken))
-    (subst (λ (n : ℕ). Told (printedFor true (a .lib) (a .codes .now) g (length (a .text .now))) (a .text .now) (Mapped (m .measure .result .length + n) (m .measure .result .figures)) (at-put .put-lines .last .1 .1 .1 .0)) (sym long)
-    (timed-done (a .lib) (a .codes .now) g (a .text .now) (m .measure .result) (m .measure .ensures .0 g p) _ (lines-said _ (a .lib) (a .codes .now) (a .h) g q low) (omega (arith, long, at-write .before .before .before .if2 .left)) _ _ (at-write .write .ensures g q .1) (at-put .put-lines .ensures .leaves)))
+    let q = lowered-mapped (a .work .now) (a .lib) (a .ids .now) (a .h) g p t _ (r .retime .ensures) in
+    let low = lowered-mins (a .work .now) (a .lib) (a .ids .now) (a .h) g p t _ (r .retime .ensures) in
+    answered-as (ap (λ (ranged : Bool). printedFor ranged (a .lib) (a .ids .now) g (length (a .text .now))) (r .before .before .if1 .taken))
+    (subst (λ (n : ℕ). Answered (printedFor true (a .lib) (a .ids .now) g (length (a .text .now))) (a .text .now) (Mapped (m .measure .result .length + n) (m .measure .result .figures)) (at-put .put-lines .last .1 .1 .1 .0)) (sym long)
+    (timed-done (a .lib) (a .ids .now) g (a .text .now) (m .measure .result) (m .measure .ensures .0 g p) _ (lines-said _ (a .lib) (a .ids .now) (a .h) g q low) (omega (arith, long, at-write .before .before .before .if2 .left)) _ _ (at-write .write .ensures g q .1) (at-put .put-lines .ensures .leaves)))
 
 returns-3 : tie.Need-returns-3
 returns-3 c =
     let m = c .before .before .before in
     let a = m .before .before .before .before .before .args in
     λ g p t.
-    told-as (ap (λ (ranged : Bool). printedFor ranged (a .lib) (a .codes .now) g (length (a .text .now))) (c .before .if1 .left))
+    answered-as (ap (λ (ranged : Bool). printedFor ranged (a .lib) (a .ids .now) g (length (a .text .now))) (c .before .if1 .left))
     (print-short _ _ g _ _ (m .measure .ensures .0 g p) (omega arith))
 
 write-requires-2 : tie.Need-write-requires-2
@@ -90,7 +90,7 @@ write-requires-2 c κs =
     let m = c .before .before .before .before .before in
     let s = m .before .before .before .before .before in
     let p = s .pre in
-    (p .0, p .1, print-room _ _ (p .0) (s .args .text .now) _ (m .measure .ensures .0 (p .0) (p .1)) (omega arith))
+    (p .0, p .1, print-capacity _ _ (p .0) (s .args .text .now) _ (m .measure .ensures .0 (p .0) (p .1)) (omega arith))
 
 returns-4 : tie.Need-returns-4
 returns-4 c =
@@ -98,7 +98,7 @@ returns-4 c =
     let m = w .before .before .before .before .before .before in
     let a = m .before .before .before .before .before .args in
     λ g p t.
-    told-as (ap (λ (ranged : Bool). printedFor ranged (a .lib) (a .codes .now) g (length (a .text .now))) (w .before .before .before .before .if1 .left))
+    answered-as (ap (λ (ranged : Bool). printedFor ranged (a .lib) (a .ids .now) g (length (a .text .now))) (w .before .before .before .before .if1 .left))
     (print-done _ _ g _ _ (m .measure .ensures .0 g p) (omega arith) _ (w .write2 .ensures g p .1))
 
 pub print-spec : {M : Type 1} → statement M

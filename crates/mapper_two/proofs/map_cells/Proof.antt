@@ -4,7 +4,7 @@ use Rattle.model.specs.{channelOf}
 use Rattle.cells_pairs.proofs.{with-none}
 use Rattle.mapper.proofs.{joinable-of, all-few, plain-ok, blank-listed}
 use Rattle.mapper_two.specs.{TwoLeft}
-use Rattle.mapper_two.proofs.Leaving.{two-done}
+use Rattle.mapper_two.proofs.ChannelMemory.{two-done}
 use Rattle.mapper_two.proofs.map_cells.Statement.{statement}
 use Rattle.mapper_two.proofs.map_cells.Tie as tie
 
@@ -22,7 +22,7 @@ map-headers-requires c κs =
     let n = c .before .before .before .before in
     let e = n .before .before in
     let s = e .before .before .before .before .before .before .before .before in
-    (plain-ok (s .args .lib) (s .pre), blank-listed (s .args .lib) (s .pre) (n .no-sheet .ensures))
+    (plain-ok (s .args .lib) (s .pre), blank-listed (s .args .lib) (s .pre) (n .empty-match-table .ensures))
 
 returns-2 : tie.Need-returns-2
 returns-2 c =

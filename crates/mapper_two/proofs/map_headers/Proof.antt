@@ -2,7 +2,7 @@
 use Rattle.base.specs.{arith, sym, _∙_, ⊎-elim, ltb-true, ltb-false, needs}
 use Rattle.graph_reader.proofs.{header-read}
 use Rattle.mapper.proofs.{header-fault}
-use Rattle.mapper_two.proofs.Leaving.{pair-as, pair-early, first-goes, first-stops, second-long, second-goes, second-stops}
+use Rattle.mapper_two.proofs.ChannelMemory.{pair-as, pair-early, first-goes, first-stops, second-long, second-goes, second-stops}
 use Rattle.mapper_two.proofs.map_headers.Statement.{statement}
 use Rattle.mapper_two.proofs.map_headers.Tie as tie
 
@@ -18,8 +18,8 @@ map-pair-requires c κs =
     let at-header = h .before .before in
     let k = at-header .before .before .before .before in
     let at-first = k .before .before in
-    let lent = at-first .before .before .before .before in
-    let start = lent .before .before .before .before .before .before in
+    let withMemory = at-first .before .before .before .before in
+    let start = withMemory .before .before .before .before .before .before in
     (start .pre .0, header-read _ _ (sym (at-first .header .ensures .0) ∙ k .h1 .given .1), header-read _ _ (sym (at-header .header2 .ensures .0) ∙ h .h2 .given .1), start .pre .1)
 
 returns-2 : tie.Need-returns-2

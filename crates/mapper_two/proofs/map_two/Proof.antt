@@ -2,7 +2,7 @@
 use Rattle.base.specs.{arith, subst, Bool, ⊎-elim, ltb-true, ltb-false, needs}
 use Rattle.model.specs.{channelOf}
 use Rattle.mapper_two.specs.{TwoLeft}
-use Rattle.mapper_two.proofs.Whole.{mapping-of, long-text, library-stops, library-heard}
+use Rattle.mapper_two.proofs.TwoChannelLaws.{mapping-of, long-text, library-stops, library-heard}
 use Rattle.mapper_two.proofs.map_two.Statement.{statement}
 use Rattle.mapper_two.proofs.map_two.Tie as tie
 

@@ -13,7 +13,7 @@ two-gates-requires c κs =
 returns : tie.Need-returns
 returns c =
     let a = c .before .before .before .before .args in
-    c .two-gates .ensures ∙ (λ i. twoDriver (c .before .before .cell-at .ensures i) (a .code / 32 % 4) (c .before .cell-at2 .ensures i) (a .nets) (a .l))
+    c .two-gates .ensures ∙ (λ i. twoDriver (c .before .before .cell-at .ensures i) (a .id / 32 % 4) (c .before .cell-at2 .ensures i) (a .nets) (a .l))
 
 pub pair-gates-spec : {M : Type 1} → statement M
 pair-gates-spec = tie.close (tie.spec (λ c κs. search needs) (λ c κs. search needs) two-gates-requires returns)

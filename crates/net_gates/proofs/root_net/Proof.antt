@@ -1,6 +1,6 @@
 -- `net_gates::root_net` meets its contract.
 use Rattle.base.specs.{sym, _∙_, ℕ, getD, needs}
-use Rattle.net_gates.proofs.Feeding.{root-before, root-behind, root-fed}
+use Rattle.net_gates.proofs.GateFeeds.{root-before, root-behind, root-fed}
 use Rattle.net_gates.proofs.root_net.Statement.{statement}
 use Rattle.net_gates.proofs.root_net.Tie as tie
 

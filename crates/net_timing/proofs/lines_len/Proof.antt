@@ -1,8 +1,8 @@
 -- `net_timing::lines_len` meets its contract. The invariant: what is counted and what is left make the whole, at most 43 bytes for each output. The measure is the number of outputs left.
 use Rattle.base.specs.{_≡_, sym, ap, subst, ℕ, _+_, _-_, _*_, _/_, _≤_, arith, length, length-append}
-use Rattle.base_words.proofs.{room-need}
+use Rattle.base_words.proofs.{capacity-need}
 use Rattle.net_timing.specs.{linesFrom}
-use Rattle.net_timing.proofs.Counting.{line-length, lines-next, lines-none}
+use Rattle.net_timing.proofs.TimingLength.{line-length, lines-next, lines-none}
 use Rattle.net_timing.proofs.lines_len.Statement.{statement}
 use Rattle.net_timing.proofs.lines_len.Tie as tie
 
@@ -20,16 +20,16 @@ loop-holds c =
     omega (arith, ap (λ (k : ℕ). length (linesFrom (a .work .now) (a .m) 0 k)) e)
 
 output-requires : tie.Need-output-requires Inv-loop μ-loop
-output-requires c κs = (c .before .before .before .pre .0 .room, omega arith)
+output-requires c κs = (c .before .before .before .pre .0 .capacity, omega arith)
 
-low-requires : tie.Need-low-requires Inv-loop μ-loop
-low-requires c κs =
+min-arrival-requires : tie.Need-min-arrival-requires Inv-loop μ-loop
+min-arrival-requires c κs =
     let l = c .before .before in
     let s = l .before .before in
-    (room-need _ _ _ (s .pre .0 .room), subst (λ (x : ℕ). x / 2 ≤ s .args .m) (sym (c .output .ensures)) (s .pre .0 .within (l .loop .i) (omega arith)))
+    (capacity-need _ _ _ (s .pre .0 .capacity), subst (λ (x : ℕ). x / 2 ≤ s .args .m) (sym (c .output .ensures)) (s .pre .0 .within (l .loop .i) (omega arith)))
 
 phase-requires : tie.Need-phase-requires Inv-loop μ-loop
-phase-requires c κs = low-requires (c .before) κs
+phase-requires c κs = min-arrival-requires (c .before) κs
 
 loop-again : tie.Need-loop-again Inv-loop μ-loop
 loop-again c =
@@ -38,7 +38,7 @@ loop-again c =
     let l = out .before .before in
     let a = l .before .before .args in
     let next = lines-next (a .work .now) (a .m) (a .outputs) (l .loop .i) (omega arith) in
-    let here = rw (← out .output .ensures, ← high .before .low .ensures, ← high .phase .ensures) at next in
+    let here = rw (← out .output .ensures, ← high .before .min-arrival .ensures, ← high .phase .ensures) at next in
     omega (arith, simp (length-append, line-length) at (ap length here))
 
 returns : tie.Need-returns Inv-loop μ-loop
@@ -49,5 +49,5 @@ returns c =
 
 pub lines-len-spec : {M : Type 1} → statement M
 lines-len-spec = tie.close (tie.spec
-    Inv-loop μ-loop loop-holds output-requires low-requires phase-requires (λ c. omega arith) (λ c κs. tt) (λ c. omega arith)
+    Inv-loop μ-loop loop-holds output-requires min-arrival-requires phase-requires (λ c. omega arith) (λ c κs. tt) (λ c. omega arith)
     (λ c. omega arith) (λ c. omega arith) loop-again returns)

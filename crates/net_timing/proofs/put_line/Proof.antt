@@ -13,12 +13,12 @@ returns c =
     let p = c .before .before in
     let high = p .before .before .before .before in
     let space = high .before .before .before .before in
-    let low = space .before .before .before .before in
-    let first = low .before .before .before .before in
+    let minArrival = space .before .before .before .before in
+    let first = minArrival .before .before .before .before in
     let name = first .before .before .before .before in
     let keyword = name .before .before .before .before in
     let h : p .put-byte3 .result ≤ length (p .put-byte3 .last .0) = omega arith in
-    then h (keyword .put-bytes .ensures) (then h (name .put-out .ensures) (then h (first .put-byte .ensures) (then h (as-wrote (low .put-number .ensures))
+    then h (keyword .put-bytes .ensures) (then h (name .put-out .ensures) (then h (first .put-byte .ensures) (then h (as-wrote (minArrival .put-number .ensures))
     (then h (space .put-byte2 .ensures) (then h (as-wrote (high .put-number2 .ensures)) (p .put-byte3 .ensures))))))
 
 pub put-line-spec : {M : Type 1} → statement M

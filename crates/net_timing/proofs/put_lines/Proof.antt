@@ -1,10 +1,10 @@
 -- `net_timing::put_lines` meets its contract. The invariant: the lines of the first i outputs are written. The measure is the number of outputs left.
 use Rattle.base.specs.{_≡_, sym, ap, subst, ℕ, _-_, _/_, _≤_, arith, length, length-append}
-use Rattle.base_words.proofs.{room-need}
+use Rattle.base_words.proofs.{capacity-need}
 use Rattle.base_text.proofs.{Partly, begin, step, kept, end}
 use Rattle.net_writer.proofs.{left}
 use Rattle.net_timing.specs.{linesFrom}
-use Rattle.net_timing.proofs.Counting.{line-length, lines-next, lines-none}
+use Rattle.net_timing.proofs.TimingLength.{line-length, lines-next, lines-none}
 use Rattle.net_timing.proofs.put_lines.Statement.{statement}
 use Rattle.net_timing.proofs.put_lines.Tie as tie
 
@@ -21,16 +21,16 @@ loop-holds c =
     (omega arith, begin (a .out .now) (a .at) (ap (linesFrom (a .work .now) (a .m) 0) e))
 
 output-requires : tie.Need-output-requires Inv-loop μ-loop
-output-requires c κs = (c .before .before .before .before .pre .0 .room, omega arith)
+output-requires c κs = (c .before .before .before .before .pre .0 .capacity, omega arith)
 
-low-requires : tie.Need-low-requires Inv-loop μ-loop
-low-requires c κs =
+min-arrival-requires : tie.Need-min-arrival-requires Inv-loop μ-loop
+min-arrival-requires c κs =
     let l = c .before .before in
     let s = l .before .before .before in
-    (room-need _ _ _ (s .pre .0 .room), subst (λ (x : ℕ). x / 2 ≤ s .args .m) (sym (c .output .ensures)) (s .pre .0 .within (l .loop .i) (omega arith)))
+    (capacity-need _ _ _ (s .pre .0 .capacity), subst (λ (x : ℕ). x / 2 ≤ s .args .m) (sym (c .output .ensures)) (s .pre .0 .within (l .loop .i) (omega arith)))
 
 phase-requires : tie.Need-phase-requires Inv-loop μ-loop
-phase-requires c κs = low-requires (c .before) κs
+phase-requires c κs = min-arrival-requires (c .before) κs
 
 put-line-requires : tie.Need-put-line-requires Inv-loop μ-loop
 put-line-requires c κs =
@@ -39,7 +39,7 @@ put-line-requires c κs =
     let l = out .before .before in
     let s = l .before .before .before in
     let next = lines-next (s .args .work .now) (s .args .m) (s .args .outputs) (l .loop .i) (omega arith) in
-    let here = rw (← out .output .ensures, ← high .before .low .ensures, ← high .phase .ensures) at next in
+    let here = rw (← out .output .ensures, ← high .before .min-arrival .ensures, ← high .phase .ensures) at next in
     omega (arith, left (s .pre .2) (l .loop .inv .1), simp (length-append, line-length) at (ap length here))
 
 loop-again : tie.Need-loop-again Inv-loop μ-loop
@@ -49,7 +49,7 @@ loop-again c =
     let l = out .before .before in
     let s = l .before .before .before in
     let next = lines-next (s .args .work .now) (s .args .m) (s .args .outputs) (l .loop .i) (omega arith) in
-    let here = rw (← out .output .ensures, ← high .before .low .ensures, ← high .phase .ensures) at next in
+    let here = rw (← out .output .ensures, ← high .before .min-arrival .ensures, ← high .phase .ensures) at next in
     (omega arith, step (s .pre .2) (l .loop .inv .1) _ _ _ _ here (c .before .before .put-line .ensures))
 
 same-length : tie.Need-same-length Inv-loop μ-loop
@@ -63,5 +63,5 @@ returns c =
 
 pub put-lines-spec : {M : Type 1} → statement M
 put-lines-spec = tie.close (tie.spec
-    Inv-loop μ-loop loop-holds output-requires low-requires phase-requires (λ c. omega arith) put-line-requires (λ c. omega arith)
+    Inv-loop μ-loop loop-holds output-requires min-arrival-requires phase-requires (λ c. omega arith) put-line-requires (λ c. omega arith)
     (λ c. omega arith) loop-again same-length returns)

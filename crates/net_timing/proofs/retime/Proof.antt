@@ -12,8 +12,8 @@ retime-variables-requires c κs =
     let t = c .before .before .before .before in
     let s = t .before .before .before .before in
     let a = s .args in (
-      (cellsBy (cellsOf (a .lib)) (a .codes .now), s .pre .1, t .before .pin-counts .ensures, t .low-table .ensures),
-      subst (SlotsIn (a .work .now) (a .h .size)) (sym (c .placed .ensures)) (s .pre .2),
+      (cellsBy (cellsOf (a .lib)) (a .ids .now), s .pre .1, t .before .pin-counts .ensures, t .min-delay-table .ensures),
+      subst (SlotsIn (a .work .now) (a .h .size)) (sym (c .ordered-count .ensures)) (s .pre .2),
     )
 
 returns : tie.Need-returns
@@ -23,8 +23,8 @@ returns c =
     let t = p .before .before .before .before in
     let s = t .before .before .before .before in
     let a = s .args in
-    v .retime-variables .ensures (cellsBy (cellsOf (a .lib)) (a .codes .now)) (s .pre .1) (t .before .pin-counts .ensures) (t .low-table .ensures)
-    ∙ ap (retimedUp (cellsBy (cellsOf (a .lib)) (a .codes .now)) (a .work .now) (a .h .size)) (p .placed .ensures)
+    v .retime-variables .ensures (cellsBy (cellsOf (a .lib)) (a .ids .now)) (s .pre .1) (t .before .pin-counts .ensures) (t .min-delay-table .ensures)
+    ∙ ap (retimedUp (cellsBy (cellsOf (a .lib)) (a .ids .now)) (a .work .now) (a .h .size)) (p .ordered-count .ensures)
 
 pub retime-spec : {M : Type 1} → statement M
 retime-spec = tie.close (tie.spec

@@ -3,26 +3,26 @@ use Rattle.base.specs.{_≡_, refl, sym, ap, subst, _∙_, List, ℕ, suc, _+_,
 use Rattle.model.specs.declared.Cell.{Cell}
 use Rattle.base_words.specs.{slotAt}
 use Rattle.cover_choice.specs.{PinsOf, SlotsIn}
-use Rattle.net_timing.specs.{retimedTurn, retimedUp, Retimable, LowsOf}
-use Rattle.net_timing.proofs.Lowest.{LowsKept, turn-kept, lows-slots, lows-retimable}
+use Rattle.net_timing.specs.{retimedStep, retimedUp, Retimable, MinsOf}
+use Rattle.net_timing.proofs.MinDelayLaws.{MinsKept, step-kept, mins-slots, mins-retimable}
 use Rattle.net_timing.proofs.retime_variables.Statement.{statement}
 use Rattle.net_timing.proofs.retime_variables.Tie as tie
 
-turn : (cells : List Cell) (w : List ℕ) (m i : ℕ) → retimedTurn cells (retimedUp cells w m i) m (slotAt (retimedUp cells w m i) m i) ≡ retimedUp cells w m (i + 1)
+step : (cells : List Cell) (w : List ℕ) (m i : ℕ) → retimedStep cells (retimedUp cells w m i) m (slotAt (retimedUp cells w m i) m i) ≡ retimedUp cells w m (i + 1)
 unfolding retimedUp
-turn cells w m i = let e : suc i ≡ i + 1 = omega arith in ap (retimedUp cells w m) e
+step cells w m i = let e : suc i ≡ i + 1 = omega arith in ap (retimedUp cells w m) e
 
 begin : (cells : List Cell) (w : List ℕ) (m : ℕ) → w ≡ retimedUp cells w m 0
 unfolding retimedUp
 begin cells w m = refl
 
 abbrev Inv-loop : tie.InvT-loop
-Inv-loop work₀ pins lows m n i₀ work i =
+Inv-loop work₀ pins mins m n i₀ work i =
     (i ≤ n) × SlotsIn work m n × (length work ≡ length work₀)
-    × ((cells : List Cell) → Retimable cells work₀ m → PinsOf cells pins → LowsOf cells lows → Retimable cells work m × (work ≡ retimedUp cells work₀ m i))
+    × ((cells : List Cell) → Retimable cells work₀ m → PinsOf cells pins → MinsOf cells mins → Retimable cells work m × (work ≡ retimedUp cells work₀ m i))
 
 abbrev μ-loop : tie.MeasureT-loop
-μ-loop work₀ pins lows m n i₀ work i = n - i
+μ-loop work₀ pins mins m n i₀ work i = n - i
 
 loop-holds : tie.Need-loop-holds Inv-loop μ-loop
 loop-holds c = (omega arith, c .before .pre .1, refl, λ cells r p q. (r, begin cells (c .before .args .work .now) (c .before .args .m)))
@@ -46,21 +46,21 @@ loop-again c =
     let w : List ℕ = l .loop .work in
     let i : ℕ = l .loop .i in
     let b : v .slot .result ≤ a .m = subst (λ (x : ℕ). x ≤ a .m) (sym (v .slot .ensures)) (l .loop .inv .1 .within i (v .before .before .loop-test .taken)) in
-    let known : (cells : List Cell) → Retimable cells w (a .m) → PinsOf cells (a .pins .now) → LowsOf cells (a .lows .now) → t .retime-variable .last .0 ≡ retimedTurn cells w (a .m) (v .slot .result) =
+    let known : (cells : List Cell) → Retimable cells w (a .m) → PinsOf cells (a .pins .now) → MinsOf cells (a .mins .now) → t .retime-variable .last .0 ≡ retimedStep cells w (a .m) (v .slot .result) =
     λ cells r p q. t .retime-variable .ensures cells r p q in
     let first = l .loop .inv .3 (s .pre .0 .0) (s .pre .0 .1) (s .pre .0 .2) (s .pre .0 .3) .0 in
-    let k : LowsKept (a .m) w (t .retime-variable .last .0) =
-    subst (LowsKept (a .m) w) (sym (known (s .pre .0 .0) first (s .pre .0 .2) (s .pre .0 .3))) (turn-kept (s .pre .0 .0) w (a .m) (v .slot .result) (l .loop .inv .1 .room) b) in (
+    let k : MinsKept (a .m) w (t .retime-variable .last .0) =
+    subst (MinsKept (a .m) w) (sym (known (s .pre .0 .0) first (s .pre .0 .2) (s .pre .0 .3))) (step-kept (s .pre .0 .0) w (a .m) (v .slot .result) (l .loop .inv .1 .capacity) b) in (
       omega (arith, v .before .before .loop-test .taken),
-      lows-slots (a .m) w _ k (a .n) (l .loop .inv .1),
+      mins-slots (a .m) w _ k (a .n) (l .loop .inv .1),
       k .size ∙ l .loop .inv .2,
       (λ cells r₀ p q.
           let r = l .loop .inv .3 cells r₀ p q in (
-            lows-retimable (a .m) w _ k cells (r .0),
+            mins-retimable (a .m) w _ k cells (r .0),
             known cells (r .0) p q
-                ∙ ap (retimedTurn cells w (a .m)) (v .slot .ensures)
-                ∙ ap (λ (x : List ℕ). retimedTurn cells x (a .m) (slotAt x (a .m) i)) (r .1)
-                ∙ turn cells (a .work .now) (a .m) i,
+                ∙ ap (retimedStep cells w (a .m)) (v .slot .ensures)
+                ∙ ap (λ (x : List ℕ). retimedStep cells x (a .m) (slotAt x (a .m) i)) (r .1)
+                ∙ step cells (a .work .now) (a .m) i,
           )),
     )
 

@@ -1,6 +1,6 @@
 -- `net_writer::count_driver` meets its contract: two gates more, one or none.
 use Rattle.base.specs.{arith, needs}
-use Rattle.net_writer.proofs.Counting.{gates-two, gates-one, gates-absent, tally-append, tally-none}
+use Rattle.net_writer.proofs.NetlistLength.{gates-two, gates-one, gates-absent, tally-append, tally-none}
 use Rattle.net_writer.proofs.count_driver.Statement.{statement}
 use Rattle.net_writer.proofs.count_driver.Tie as tie
 

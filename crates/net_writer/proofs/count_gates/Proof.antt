@@ -4,17 +4,17 @@ use Rattle.base.specs.{_≡_, sym, ap, _∙_, _+_, _-_, _*_, _≤_, arith, need
 use Rattle.net_gates.specs.{gatesOf}
 use Rattle.net_writer.specs.declared.Tally.{Tally}
 use Rattle.net_writer.specs.{gatesFrom, tallied, noTally, Bounded}
-use Rattle.net_writer.proofs.Counting.{gates-none, tally-append, tally-none}
-use Rattle.net_writer.proofs.Walking.{gatesLeft, comes, gates-on}
+use Rattle.net_writer.proofs.NetlistLength.{gates-none, tally-append, tally-none}
+use Rattle.net_writer.proofs.GateWalk.{gatesLeft, comes, gates-on}
 use Rattle.net_writer.proofs.count_gates.Statement.{statement}
 use Rattle.net_writer.proofs.count_gates.Tie as tie
 
 abbrev Inv-loop : tie.InvT-loop
-Inv-loop work book m end t₀ l₀ t l =
-    (l ≤ 2 * (m + 1)) × Bounded t l × (tallied t (gatesLeft work book m l) ≡ tallied noTally (gatesFrom work book m 0 (2 * (m + 1))))
+Inv-loop work records m end t₀ l₀ t l =
+    (l ≤ 2 * (m + 1)) × Bounded t l × (tallied t (gatesLeft work records m l) ≡ tallied noTally (gatesFrom work records m 0 (2 * (m + 1))))
 
 abbrev μ-loop : tie.MeasureT-loop
-μ-loop work book m end t₀ l₀ t l = 2 * (m + 1) - l
+μ-loop work records m end t₀ l₀ t l = 2 * (m + 1) - l
 
 loop-holds : tie.Need-loop-holds Inv-loop μ-loop
 loop-holds c =
@@ -23,7 +23,7 @@ loop-holds c =
     let e : 2 * (a .m + 1) - 0 ≡ 2 * (a .m + 1) = omega arith in (
       k .high,
       record { length = omega arith; gates = omega arith; area = omega arith },
-      rw (← k .same (a .book .now), e),
+      rw (← k .same (a .records .now), e),
     )
 
 loop-again : tie.Need-loop-again Inv-loop μ-loop
@@ -32,15 +32,15 @@ loop-again c =
     let l = d .before .before in
     let s = l .before .before .before .before in
     let w = s .args .work .now in
-    let book = s .args .book .now in
+    let records = s .args .records .now in
     let t = c .before .count-driver in
     let k = comes (omega arith) (c .gate-after .ensures) in (
       k .high,
       record { length = omega arith; gates = omega arith; area = omega arith },
-      ap (tallied (t .result)) (sym (k .same book))
-          ∙ ap (λ (x : Tally). tallied x (gatesLeft w book (s .args .m) (l .loop .l + 1))) (t .ensures .0)
+      ap (tallied (t .result)) (sym (k .same records))
+          ∙ ap (λ (x : Tally). tallied x (gatesLeft w records (s .args .m) (l .loop .l + 1))) (t .ensures .0)
           ∙ tally-append (l .loop .t) (gatesOf (d .driver-at .result)) _
-          ∙ ap (tallied (l .loop .t)) (sym (gates-on w book (s .args .m) (l .loop .l) (omega arith) (d .driver-at .ensures)))
+          ∙ ap (tallied (l .loop .t)) (sym (gates-on w records (s .args .m) (l .loop .l) (omega arith) (d .driver-at .ensures)))
           ∙ l .loop .inv .2,
     )
 
@@ -48,7 +48,7 @@ returns : tie.Need-returns Inv-loop μ-loop
 returns c =
     let l = c .before .loop in
     let a = c .before .before .before .before .before .args in
-    let none = gates-none (a .work .now) (a .book .now) (a .m) (2 * (a .m + 1)) (l .l) (c .loop-test .left) in (
+    let none = gates-none (a .work .now) (a .records .now) (a .m) (2 * (a .m + 1)) (l .l) (c .loop-test .left) in (
       sym (tally-none (l .t)) ∙ ap (tallied (l .t)) (sym none) ∙ l .inv .2,
       record { length = omega arith; gates = omega arith; area = omega arith },
     )

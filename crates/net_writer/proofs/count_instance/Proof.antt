@@ -1,7 +1,7 @@
 -- `net_writer::count_instance` meets its contract: one gate more.
 use Rattle.base.specs.{sym, _∙_, _+_, arith, take, needs}
 use Rattle.net_gates.specs.{gateOf}
-use Rattle.net_writer.proofs.Counting.{line-length, tally-one}
+use Rattle.net_writer.proofs.NetlistLength.{line-length, tally-one}
 use Rattle.net_writer.proofs.count_instance.Statement.{statement}
 use Rattle.net_writer.proofs.count_instance.Tie as tie
 

@@ -1,6 +1,6 @@
 -- `net_writer::figures_len` meets its contract: a figure has at most ten digits.
 use Rattle.base.specs.{arith, needs}
-use Rattle.net_writer.proofs.Counting.{ten-digits, figures-short}
+use Rattle.net_writer.proofs.NetlistLength.{ten-digits, figures-short}
 use Rattle.net_writer.proofs.figures_len.Statement.{statement}
 use Rattle.net_writer.proofs.figures_len.Tie as tie
 

@@ -37,7 +37,7 @@ use denote.Triple.Walked.{walk-meets}
 use denote.Exit.{yes}
 use denote.Triple.Clauses.{ensured, lasts}
 use Rattle.base.specs.{_≡_, refl, ap, subst, ℕ, _+_, _-_, _*_, _<_, _^_, List, [], _∷_, T as Holds, length}
-use Rattle.base_words.specs.{Room}
+use Rattle.base_words.specs.{HasCapacity}
 use Rattle.net_writer.specs.{gateFrom}
 use Rattle.net_writer.specs.declared.Walk.{Walk}
 use Rattle.net_writer.proofs.step.Symbol.{name as #net-writer·step}
@@ -94,11 +94,11 @@ module _ {M : Type 1} (𝓤 : URA M) (H : Heap 𝓤) (A : Atoms 𝓤) (W : Given
   abbrev to : StepC 𝓤 H A mem run .Ghost
   to = (((κ, tt), (q, tt), tt, (here, (m, tt)), passed), tt)
 
-  asked : Room (now s) m × (l < 2 * (m + 1)) → ent 𝓤 (onEntry 𝓤 H A step.signature (κ, tt) (q, tt) (here, (m, tt)) passed) (StepC 𝓤 H A mem run .pre to)
+  asked : HasCapacity (now s) m × (l < 2 * (m + 1)) → ent 𝓤 (onEntry 𝓤 H A step.signature (κ, tt) (q, tt) (here, (m, tt)) passed) (StepC 𝓤 H A mem run .pre to)
   asked ok = qed W ((‵ (flft κ q) ⊛ ‵ ftrue) ∷ ‵ (owns (B ∷ usize ∷ []) (here, (m, tt)) passed) ∷ []) ∵ says ! ok $ frame ! $ done !
 
   -- what is had at entry gives what the callee asks, and what s owns is kept
-  goes : Room (now s) m × (l < 2 * (m + 1)) → ent 𝓤 (onEntry 𝓤 H A gate-after.signature (κ, tt) (q, tt) (s, (m, (l, tt))) at) (sep 𝓤 (StepC 𝓤 H A mem run .pre to) (sem 𝓤 H A Own))
+  goes : HasCapacity (now s) m × (l < 2 * (m + 1)) → ent 𝓤 (onEntry 𝓤 H A gate-after.signature (κ, tt) (q, tt) (s, (m, (l, tt))) at) (sep 𝓤 (StepC 𝓤 H A mem run .pre to) (sem 𝓤 H A Own))
   goes ok =
       qed W ((‵ (flft κ q) ⊛ ‵ ftrue) ∷ ‵ (owns (ShrSlice (named 0) κ u16 ∷ usize ∷ usize ∷ []) (s, (m, (l, tt))) at) ∷ []) ∵
       move ! (1 ∷ []) $ fsplit ! $ move ! (1 ∷ []) $ drop ! $ use1 W (‵ Own ⊛ ‵ Own) (shr-slice-copy 𝓤 H A W (named 0) κ u16 .twice s (v ∷ [])) $ split ! $
@@ -126,7 +126,7 @@ module _ {M : Type 1} (𝓤 : URA M) (H : Heap 𝓤) (A : Atoms 𝓤) (W : Given
       frame ! $ owned ! usize (Is usize) (uint-makes 𝓤 H A W w64) t _ (refl, fits′) $ done !
 
   module _ (C : Calls 𝓤 H) (Λ : Loops 𝓤 H) (fm : FmC 𝓤 H (W .laws) C) (known : Triple 𝓤 (C #net-writer·step) (StepC 𝓤 H A mem run)) where
-    walk : Is (ShrSlice (named 0) κ u16) s (v ∷ []) → Room (now s) m × (l < 2 * (m + 1)) → ent 𝓤 (onEntry 𝓤 H A gate-after.signature (κ, tt) (q, tt) (s, (m, (l, tt))) at) (WpFn 𝓤 H C Λ code.function (v ∷ vint w64 m ∷ vint w64 l ∷ []) Post)
+    walk : Is (ShrSlice (named 0) κ u16) s (v ∷ []) → HasCapacity (now s) m × (l < 2 * (m + 1)) → ent 𝓤 (onEntry 𝓤 H A gate-after.signature (κ, tt) (q, tt) (s, (m, (l, tt))) at) (WpFn 𝓤 H C Λ code.function (v ∷ vint w64 m ∷ vint w64 l ∷ []) Post)
     walk p ok =
         let wt = shr-slice-lawful 𝓤 H A W (named 0) κ u16 .typed s (v ∷ []) p .0 in
         qed W (raw (onEntry 𝓤 H A gate-after.signature (κ, tt) (q, tt) (s, (m, (l, tt))) at) ∷ []) ∵ enter ! C Λ code.function (v ∷ vint w64 m ∷ vint w64 l ∷ []) _ $

@@ -1,7 +1,7 @@
 -- `net_writer::gate_from` meets its contract. The invariant: the first gate from g on is the first from l on. The measure is the number of phases left.
 use Rattle.base.specs.{_≡_, refl, sym, _∙_, _+_, _-_, _*_, arith, needs}
 use Rattle.net_writer.specs.{gateFrom}
-use Rattle.net_writer.proofs.Walking.{gate-here, gate-later, gate-end}
+use Rattle.net_writer.proofs.GateWalk.{gate-here, gate-later, gate-end}
 use Rattle.net_writer.proofs.gate_from.Statement.{statement}
 use Rattle.net_writer.proofs.gate_from.Tie as tie
 

@@ -1,4 +1,4 @@
--- `net_writer::input_net` meets its contract: the literal of the variable that is placed behind the constant and i inputs.
+-- `net_writer::input_net` meets its contract: the literal of the variable that is ordered behind the constant and i inputs.
 use Rattle.base.specs.{ap, ℕ, _+_, _*_, arith, needs}
 use Rattle.model.specs.{literal}
 use Rattle.base_words.specs.{slotAddr}

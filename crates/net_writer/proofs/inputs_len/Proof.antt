@@ -1,7 +1,7 @@
 -- `net_writer::inputs_len` meets its contract. The invariant: what is counted and what is left make the whole, at most 12 bytes for each name. The measure is the number of names left.
 use Rattle.base.specs.{_≡_, ap, ℕ, _+_, _-_, _*_, _≤_, arith, needs, length, length-append}
 use Rattle.net_writer.specs.{inputNamesFrom, spaced}
-use Rattle.net_writer.proofs.Counting.{inputs-next, inputs-none}
+use Rattle.net_writer.proofs.NetlistLength.{inputs-next, inputs-none}
 use Rattle.net_writer.proofs.inputs_len.Statement.{statement}
 use Rattle.net_writer.proofs.inputs_len.Tie as tie
 

@@ -14,7 +14,7 @@ unfolding invertedGates
 returns c =
     let a = c .before .before .before .before .args in
     let made = c .one-gate .ensures ∙ (λ i. oneDriver (c .before .before .cell-at .ensures i) (2 * c .before .opposite .ensures .0 i ∷ 0 ∷ 0 ∷ 0 ∷ []) 1 (a .l)) in
-    subst (λ (d : Driver). Drives d (invertedGates (a .book .now) (a .l) (a .i))) (sym made) (drives-inverted (lineCell (a .book .now) (a .i)) (opposite (a .l)) (a .l))
+    subst (λ (d : Driver). Drives d (invertedGates (a .records .now) (a .l) (a .i))) (sym made) (drives-inverted (lineCell (a .records .now) (a .i)) (opposite (a .l)) (a .l))
 
 pub inverted-spec : {M : Type 1} → statement M
 inverted-spec = tie.close (tie.spec

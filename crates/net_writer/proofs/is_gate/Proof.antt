@@ -2,7 +2,7 @@
 use Rattle.base.specs.{sym, ap, _∙_, needs}
 use Rattle.model.specs.declared.Phase.{Phase}
 use Rattle.base_words.specs.{makesGate}
-use Rattle.net_writer.proofs.Walking.{is-gate-needed, is-gate-idle}
+use Rattle.net_writer.proofs.GateWalk.{is-gate-needed, is-gate-idle}
 use Rattle.net_writer.proofs.is_gate.Statement.{statement}
 use Rattle.net_writer.proofs.is_gate.Tie as tie
 

@@ -2,7 +2,7 @@
 use Rattle.base.specs.{_≡_, ap, _+_, _/_, arith, length, needs}
 use Rattle.model.specs.{netName, label}
 use Rattle.net_gates.specs.{netOf}
-use Rattle.net_writer.proofs.Counting.{label-inside, label-phase}
+use Rattle.net_writer.proofs.NetlistLength.{label-inside, label-phase}
 use Rattle.net_writer.proofs.label_len.Statement.{statement}
 use Rattle.net_writer.proofs.label_len.Tie as tie
 

@@ -1,7 +1,7 @@
 -- `net_writer::latest` meets its contract. The invariant: the latest so far and the latest of those left make the latest. The measure is the number of outputs left.
 use Rattle.base.specs.{_≡_, ap, _-_, _≤_, max, arith}
 use Rattle.net_writer.specs.{latestFrom}
-use Rattle.net_writer.proofs.Counting.{latest-next, latest-none}
+use Rattle.net_writer.proofs.NetlistLength.{latest-next, latest-none}
 use Rattle.net_writer.proofs.latest.Statement.{statement}
 use Rattle.net_writer.proofs.latest.Tie as tie
 
@@ -18,7 +18,7 @@ loop-holds c =
     omega (arith, ap (latestFrom (a .work .now) (a .m) 0) e)
 
 output-arrival-requires : tie.Need-output-arrival-requires Inv-loop μ-loop
-output-arrival-requires c κs = (c .before .before .before .pre .room, c .loop-test .taken, c .before .before .before .pre .within (c .before .loop .i) (c .loop-test .taken))
+output-arrival-requires c κs = (c .before .before .before .pre .capacity, c .loop-test .taken, c .before .before .before .pre .within (c .before .loop .i) (c .loop-test .taken))
 
 loop-again : tie.Need-loop-again Inv-loop μ-loop
 loop-again c =

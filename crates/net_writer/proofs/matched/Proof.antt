@@ -21,10 +21,10 @@ returns c =
     let leaves = cutOf (a .work .now) (a .m) (varOf (a .l)) (x .cut) .leaves in
     let ps = fourNets (placesOf (x .order)) (x .mask) leaves in
     let nets = c .before .four-nets .ensures ∙ ap (λ (k : Cut). map phaseNet (fourNets (placesOf (x .order)) (x .mask) (k .leaves))) (c .before .before .before .load-cut .ensures) in
-    let made = c .gates-by .ensures ∙ ap (λ (ns : List ℕ). driverBy (a .book .now) (x .cell) ns (a .l)) nets in
-    let taken = four-taken (x .order) (ready .order) (x .mask) leaves (pinsBy (a .book .now) (x .cell)) (number-pins (a .book .now) (x .cell) (ready .number)) in
-    subst (λ (d : Driver). Drives d (matchedGates (a .work .now) (a .book .now) (a .m) (a .l) x)) (sym made)
-    (subst (λ (fed : List ℕ). Drives (driverBy (a .book .now) (x .cell) (map phaseNet ps) (a .l)) (gatesUnder (a .book .now) (x .cell) fed (a .l))) taken (drives-by ps refl (a .l) (a .book .now) (x .cell) (ready .number)))
+    let made = c .gates-by .ensures ∙ ap (λ (ns : List ℕ). driverBy (a .records .now) (x .cell) ns (a .l)) nets in
+    let taken = four-taken (x .order) (ready .order) (x .mask) leaves (pinsBy (a .records .now) (x .cell)) (number-pins (a .records .now) (x .cell) (ready .number)) in
+    subst (λ (d : Driver). Drives d (matchedGates (a .work .now) (a .records .now) (a .m) (a .l) x)) (sym made)
+    (subst (λ (fed : List ℕ). Drives (driverBy (a .records .now) (x .cell) (map phaseNet ps) (a .l)) (gatesUnder (a .records .now) (x .cell) fed (a .l))) taken (drives-by ps refl (a .l) (a .records .now) (x .cell) (ready .number)))
 
 pub matched-spec : {M : Type 1} → statement M
 matched-spec = tie.close (tie.spec (λ c κs. search needs) (λ c κs. search needs) (λ c κs. search needs) returns)

@@ -1,6 +1,6 @@
 -- `net_writer::net_len` meets its contract: a letter and at most ten digits.
 use Rattle.base.specs.{_/_, arith, needs}
-use Rattle.net_writer.proofs.Counting.{net-length, ten-digits}
+use Rattle.net_writer.proofs.NetlistLength.{net-length, ten-digits}
 use Rattle.net_writer.proofs.net_len.Statement.{statement}
 use Rattle.net_writer.proofs.net_len.Tie as tie
 

@@ -1,6 +1,6 @@
 -- `net_writer::out_len` meets its contract: a letter and at most ten digits.
 use Rattle.base.specs.{arith, needs}
-use Rattle.net_writer.proofs.Counting.{out-length, ten-digits}
+use Rattle.net_writer.proofs.NetlistLength.{out-length, ten-digits}
 use Rattle.net_writer.proofs.out_len.Statement.{statement}
 use Rattle.net_writer.proofs.out_len.Tie as tie
 

@@ -1,7 +1,7 @@
 -- `net_writer::outputs_len` meets its contract. The invariant: what is counted and what is left make the whole, at most 12 bytes for each name. The measure is the number of names left.
 use Rattle.base.specs.{_≡_, ap, ℕ, _+_, _-_, _*_, _≤_, arith, length, length-append}
 use Rattle.net_writer.specs.{outputNamesFrom, spaced}
-use Rattle.net_writer.proofs.Counting.{outputs-next, outputs-none}
+use Rattle.net_writer.proofs.NetlistLength.{outputs-next, outputs-none}
 use Rattle.net_writer.proofs.outputs_len.Statement.{statement}
 use Rattle.net_writer.proofs.outputs_len.Tie as tie
 

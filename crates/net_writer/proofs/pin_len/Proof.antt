@@ -1,6 +1,6 @@
 -- `net_writer::pin_len` meets its contract: three bytes and the net, where the pin is there.
 use Rattle.base.specs.{_≡_, ap, arith, needs, length}
-use Rattle.net_writer.proofs.Counting.{part-there, part-absent}
+use Rattle.net_writer.proofs.NetlistLength.{part-there, part-absent}
 use Rattle.net_writer.proofs.pin_len.Statement.{statement}
 use Rattle.net_writer.proofs.pin_len.Tie as tie
 

@@ -1,6 +1,6 @@
 -- `net_writer::pins_len` meets its contract: pin by pin.
 use Rattle.base.specs.{_≡_, ap, arith, needs, length, length-append}
-use Rattle.net_writer.proofs.Counting.{pin-parts}
+use Rattle.net_writer.proofs.NetlistLength.{pin-parts}
 use Rattle.net_writer.proofs.pins_len.Statement.{statement}
 use Rattle.net_writer.proofs.pins_len.Tie as tie
 

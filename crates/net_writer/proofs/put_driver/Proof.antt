@@ -5,8 +5,8 @@ use Rattle.base_text.proofs.{idle}
 use Rattle.net_gates.specs.declared.Instance.{Instance}
 use Rattle.net_gates.specs.{gateOf}
 use Rattle.net_writer.specs.{lineLength}
-use Rattle.net_writer.proofs.Counting.{line-length, lines-two, lines-one, lines-absent}
-use Rattle.net_writer.proofs.Behind.{then, reads}
+use Rattle.net_writer.proofs.NetlistLength.{line-length, lines-two, lines-one, lines-absent}
+use Rattle.net_writer.proofs.FollowingText.{then, reads}
 use Rattle.net_writer.proofs.put_driver.Statement.{statement}
 use Rattle.net_writer.proofs.put_driver.Tie as tie
 

@@ -3,7 +3,7 @@ use Rattle.base.specs.{_≤_, arith, needs, length}
 use Rattle.model.specs.{text}
 use Rattle.base_text.proofs.{as-wrote}
 use Rattle.net_writer.specs.{figuresText}
-use Rattle.net_writer.proofs.Behind.{then}
+use Rattle.net_writer.proofs.FollowingText.{then}
 use Rattle.net_writer.proofs.put_figures.Statement.{statement}
 use Rattle.net_writer.proofs.put_figures.Tie as tie
 

@@ -2,8 +2,8 @@
 use Rattle.base.specs.{_≡_, ap, ℕ, _-_, _≤_, arith, needs, length, length-append}
 use Rattle.base_text.proofs.{Partly, begin, step, kept, end}
 use Rattle.net_writer.specs.{inputNamesFrom, spaced}
-use Rattle.net_writer.proofs.Counting.{inputs-next, inputs-none}
-use Rattle.net_writer.proofs.Behind.{then, left}
+use Rattle.net_writer.proofs.NetlistLength.{inputs-next, inputs-none}
+use Rattle.net_writer.proofs.FollowingText.{then, left}
 use Rattle.net_writer.proofs.put_inputs.Statement.{statement}
 use Rattle.net_writer.proofs.put_inputs.Tie as tie
 

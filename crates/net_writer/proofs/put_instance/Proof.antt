@@ -2,8 +2,8 @@
 use Rattle.base.specs.{_≤_, arith, needs, length, take}
 use Rattle.model.specs.{text}
 use Rattle.net_gates.specs.{gateOf}
-use Rattle.net_writer.proofs.Counting.{line-is}
-use Rattle.net_writer.proofs.Behind.{then, reads}
+use Rattle.net_writer.proofs.NetlistLength.{line-is}
+use Rattle.net_writer.proofs.FollowingText.{then, reads}
 use Rattle.net_writer.proofs.put_instance.Statement.{statement}
 use Rattle.net_writer.proofs.put_instance.Tie as tie
 

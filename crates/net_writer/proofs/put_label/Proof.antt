@@ -1,7 +1,7 @@
 -- `net_writer::put_label` meets its contract: the net's name, inside a pair behind an `s`.
 use Rattle.base.specs.{ap, _≤_, arith, needs, length}
-use Rattle.net_writer.proofs.Counting.{label-inside, label-phase}
-use Rattle.net_writer.proofs.Behind.{then, reads}
+use Rattle.net_writer.proofs.NetlistLength.{label-inside, label-phase}
+use Rattle.net_writer.proofs.FollowingText.{then, reads}
 use Rattle.net_writer.proofs.put_label.Statement.{statement}
 use Rattle.net_writer.proofs.put_label.Tie as tie
 

@@ -1,8 +1,8 @@
 -- `net_writer::put_net` meets its contract: the phase's letter, and the variable behind it.
 use Rattle.base.specs.{sym, _≤_, arith, needs, length}
 use Rattle.base_text.proofs.{as-wrote}
-use Rattle.net_writer.proofs.Counting.{net-length}
-use Rattle.net_writer.proofs.Behind.{then, reads}
+use Rattle.net_writer.proofs.NetlistLength.{net-length}
+use Rattle.net_writer.proofs.FollowingText.{then, reads}
 use Rattle.net_writer.proofs.put_net.Statement.{statement}
 use Rattle.net_writer.proofs.put_net.Tie as tie
 

@@ -2,8 +2,8 @@
 use Rattle.base.specs.{_≤_, arith, needs, length}
 use Rattle.model.specs.{outName}
 use Rattle.base_text.proofs.{as-wrote}
-use Rattle.net_writer.proofs.Counting.{out-length}
-use Rattle.net_writer.proofs.Behind.{then}
+use Rattle.net_writer.proofs.NetlistLength.{out-length}
+use Rattle.net_writer.proofs.FollowingText.{then}
 use Rattle.net_writer.proofs.put_out.Statement.{statement}
 use Rattle.net_writer.proofs.put_out.Tie as tie
 

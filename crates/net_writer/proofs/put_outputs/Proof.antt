@@ -2,8 +2,8 @@
 use Rattle.base.specs.{_≡_, ap, ℕ, _-_, _≤_, arith, length, length-append}
 use Rattle.base_text.proofs.{Partly, begin, step, kept, end}
 use Rattle.net_writer.specs.{outputNamesFrom, spaced}
-use Rattle.net_writer.proofs.Counting.{outputs-next, outputs-none}
-use Rattle.net_writer.proofs.Behind.{then, left}
+use Rattle.net_writer.proofs.NetlistLength.{outputs-next, outputs-none}
+use Rattle.net_writer.proofs.FollowingText.{then, left}
 use Rattle.net_writer.proofs.put_outputs.Statement.{statement}
 use Rattle.net_writer.proofs.put_outputs.Tie as tie
 

@@ -1,6 +1,6 @@
 -- `net_writer::put_pin` meets its contract: a space, the pin's letter, `=` and the net.
 use Rattle.base.specs.{_≤_, arith, needs, length}
-use Rattle.net_writer.proofs.Behind.{then}
+use Rattle.net_writer.proofs.FollowingText.{then}
 use Rattle.net_writer.proofs.put_pin.Statement.{statement}
 use Rattle.net_writer.proofs.put_pin.Tie as tie
 

@@ -1,8 +1,8 @@
 -- `net_writer::put_pin_of` meets its contract: the word of a pin that is there, nothing for another.
 use Rattle.base.specs.{_≡_, refl, ap, arith, needs, length}
 use Rattle.base_text.proofs.{begin, end}
-use Rattle.net_writer.proofs.Counting.{part-there, part-absent}
-use Rattle.net_writer.proofs.Behind.{reads}
+use Rattle.net_writer.proofs.NetlistLength.{part-there, part-absent}
+use Rattle.net_writer.proofs.FollowingText.{reads}
 use Rattle.net_writer.proofs.put_pin_of.Statement.{statement}
 use Rattle.net_writer.proofs.put_pin_of.Tie as tie
 

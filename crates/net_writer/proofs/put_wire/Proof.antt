@@ -1,7 +1,7 @@
 -- `net_writer::put_wire` meets its contract: the keyword, the net, the output's own name and the row.
 use Rattle.base.specs.{_≤_, arith, needs, length}
 use Rattle.model.specs.{text, wireLine}
-use Rattle.net_writer.proofs.Behind.{then}
+use Rattle.net_writer.proofs.FollowingText.{then}
 use Rattle.net_writer.proofs.put_wire.Statement.{statement}
 use Rattle.net_writer.proofs.put_wire.Tie as tie
 

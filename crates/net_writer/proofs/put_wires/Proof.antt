@@ -2,8 +2,8 @@
 use Rattle.base.specs.{_≡_, ap, _-_, _≤_, arith, needs, length, length-append}
 use Rattle.base_text.proofs.{Partly, begin, step, kept, end}
 use Rattle.net_writer.specs.{wireLinesFrom}
-use Rattle.net_writer.proofs.Counting.{wire-length, wires-next, wires-none}
-use Rattle.net_writer.proofs.Behind.{left}
+use Rattle.net_writer.proofs.NetlistLength.{wire-length, wires-next, wires-none}
+use Rattle.net_writer.proofs.FollowingText.{left}
 use Rattle.net_writer.proofs.put_wires.Statement.{statement}
 use Rattle.net_writer.proofs.put_wires.Tie as tie
 
@@ -26,7 +26,7 @@ put-wire-requires c κs =
     let s = l .before .before .before in
     let a = s .args in
     let next = rw (← c .before .output-net .ensures) at (wires-next (a .work .now) (a .m) (a .outputs) (l .loop .i) (omega arith)) in
-    let room = left (s .pre .2) (l .loop .inv .1) in
+    let capacity = left (s .pre .2) (l .loop .inv .1) in
     omega (arith, simp (length-append, wire-length) at (ap length next))
 
 loop-again : tie.Need-loop-again Inv-loop μ-loop

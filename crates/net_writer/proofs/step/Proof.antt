@@ -39,7 +39,7 @@ use denote.Triple.Walked.{says, needs, Stays, stay-none, walkOf, goes-none, Walk
 use denote.Exit.{yes}
 use denote.Triple.Clauses.{ensured, lasts}
 use Rattle.base.specs.{_≡_, refl, ap, ℕ, _+_, _-_, _*_, _<_, _^_, arith, [], _∷_, T as Holds, length}
-use Rattle.base_words.specs.{Room}
+use Rattle.base_words.specs.{HasCapacity}
 use Rattle.net_writer.specs.{gateFrom}
 use Rattle.net_writer.specs.declared.Walk.{Walk}
 use Rattle.net_writer.proofs.gate_from.Symbol.{name as #net-writer·gate-from}
@@ -107,8 +107,8 @@ module _ {M : Type 1} (𝓤 : URA M) (H : Heap 𝓤) (A : Atoms 𝓤) (W : Given
   abbrev to : GateFrom 𝓤 H A mem run .Ghost
   to = (((κ, tt), (q, tt), tt, (d .words, (m, (after, tt))), passed), tt)
 
-  asked : Room (now (d .words)) m → ent 𝓤 (onEntry 𝓤 H A gate-from.signature (κ, tt) (q, tt) (d .words, (m, (after, tt))) passed) (GateFrom 𝓤 H A mem run .pre to)
-  asked room = qed W ((‵ (flft κ q) ⊛ ‵ ftrue) ∷ ‵ (owns (ShrSlice (named 0) κ u16 ∷ usize ∷ usize ∷ []) (d .words, (m, (after, tt))) passed) ∷ []) ∵ says ! room $ frame ! $ done !
+  asked : HasCapacity (now (d .words)) m → ent 𝓤 (onEntry 𝓤 H A gate-from.signature (κ, tt) (q, tt) (d .words, (m, (after, tt))) passed) (GateFrom 𝓤 H A mem run .pre to)
+  asked capacity = qed W ((‵ (flft κ q) ⊛ ‵ ftrue) ∷ ‵ (owns (ShrSlice (named 0) κ u16 ∷ usize ∷ usize ∷ []) (d .words, (m, (after, tt))) passed) ∷ []) ∵ says ! capacity $ frame ! $ done !
 
   -- what the struct owns gives what words owns, and is kept
   opened : ent 𝓤 (sem 𝓤 H A Own) (sep 𝓤 (sem 𝓤 H A (ownAt (D .parts) L 0 (d .words))) (sem 𝓤 H A Own))
@@ -118,13 +118,13 @@ module _ {M : Type 1} (𝓤 : URA M) (H : Heap 𝓤) (A : Atoms 𝓤) (W : Given
       move ! (1 ∷ []) $ drop ! $ frame ! $ done !)
 
   -- what is had at entry gives what the callee asks, and what the struct owns is kept
-  apart : Room (now (d .words)) m → after < 2 ^ 64 → ent 𝓤 (onEntry 𝓤 H A step.signature (κ, tt) (q, tt) (d, (m, tt)) at) (sep 𝓤 (GateFrom 𝓤 H A mem run .pre to) (sem 𝓤 H A Own))
-  apart room fits =
+  apart : HasCapacity (now (d .words)) m → after < 2 ^ 64 → ent 𝓤 (onEntry 𝓤 H A step.signature (κ, tt) (q, tt) (d, (m, tt)) at) (sep 𝓤 (GateFrom 𝓤 H A mem run .pre to) (sem 𝓤 H A Own))
+  apart capacity fits =
       qed W ((‵ (flft κ q) ⊛ ‵ ftrue) ∷ ‵ (owns (B (κ, tt) ∷ usize ∷ []) (d, (m, tt)) at) ∷ []) ∵
       move ! (1 ∷ []) $ fsplit ! $ move ! (1 ∷ []) $ drop ! $ use1 W (‵ (ownAt (D .parts) L 0 (d .words)) ⊛ ‵ Own) opened $ split ! $
       -- [what words owns; what the struct owns; the token]
       nothing ! $ owned ! usize (Is usize) (uint-makes 𝓤 H A W w64) after _ (refl, fits) $ fjoin ! $ owned ! usize (Is usize) (uint-makes 𝓤 H A W w64) m _ (refl, small) $ fjoin ! $ move ! (1 ∷ 0 ∷ []) $ fjoin ! $
-      move ! (2 ∷ 0 ∷ []) $ use2 W (raw (GateFrom 𝓤 H A mem run .pre to)) (asked room) $ frame ! $ done !
+      move ! (2 ∷ 0 ∷ []) $ use2 W (raw (GateFrom 𝓤 H A mem run .pre to)) (asked capacity) $ frame ! $ done !
 
   -- of the callee's `ensured`, the clause alone: it has no `&mut`, so what is said of last values is dropped
   said : (r : ℕ) → ent 𝓤 (ensured 𝓤 H A gate-from.ended (gate-from.clauses 𝓤 H A mem run) (κ, tt) (d .words, (m, (after, tt))) tt r) (fact 𝓤 (r ≡ found))
@@ -143,7 +143,7 @@ module _ {M : Type 1} (𝓤 : URA M) (H : Heap 𝓤) (A : Atoms 𝓤) (W : Given
       nothing ! $ owned ! usize (Is usize) (uint-makes 𝓤 H A W w64) r _ (refl, fits) $ fjoin ! $ move ! (1 ∷ 0 ∷ []) $ fjoin ! $ by ! (own-shut 𝓤 H A W D L (d .words, (r, tt)))
 
   module _ (C : Calls 𝓤 H) (Λ : Loops 𝓤 H) (fm : FmC 𝓤 H (W .laws) C) (known : Triple 𝓤 (C #net-writer·gate-from) (GateFrom 𝓤 H A mem run)) where
-    walk : Holds (hasTy (T′.mir (named 0)) mach) × WT mach → Room (now (d .words)) m × (d .next < 2 * (m + 1)) → ent 𝓤 (onEntry 𝓤 H A step.signature (κ, tt) (q, tt) (d, (m, tt)) at) (WpFn 𝓤 H C Λ code.function (mach ∷ vint w64 m ∷ []) Post)
+    walk : Holds (hasTy (T′.mir (named 0)) mach) × WT mach → HasCapacity (now (d .words)) m × (d .next < 2 * (m + 1)) → ent 𝓤 (onEntry 𝓤 H A step.signature (κ, tt) (q, tt) (d, (m, tt)) at) (WpFn 𝓤 H C Λ code.function (mach ∷ vint w64 m ∷ []) Post)
     walk wt ok =
         let fits : after < 2 ^ 64 = omega (arith, ok .0 .small, ok .1) in
         qed W (raw (onEntry 𝓤 H A step.signature (κ, tt) (q, tt) (d, (m, tt)) at) ∷ []) ∵ enter ! C Λ code.function (mach ∷ vint w64 m ∷ []) _ $

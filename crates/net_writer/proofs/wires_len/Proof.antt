@@ -1,7 +1,7 @@
 -- `net_writer::wires_len` meets its contract. The invariant: what is counted and what is left make the whole, at most 35 bytes for each output. The measure is the number of outputs left.
 use Rattle.base.specs.{_≡_, ap, ℕ, _+_, _-_, _*_, _≤_, arith, needs, length, length-append}
 use Rattle.net_writer.specs.{wireLinesFrom}
-use Rattle.net_writer.proofs.Counting.{wire-length, wires-next, wires-none}
+use Rattle.net_writer.proofs.NetlistLength.{wire-length, wires-next, wires-none}
 use Rattle.net_writer.proofs.wires_len.Statement.{statement}
 use Rattle.net_writer.proofs.wires_len.Tie as tie
 

@@ -2,10 +2,10 @@
 use Rattle.base.specs.{_≡_, sym, ap, subst, _∙_, List, _++_, ℕ, _+_, arith, length, drop, replicate, needs}
 use Rattle.model.specs.{cellsOf}
 use Rattle.base_text.proofs.{put-front}
-use Rattle.cells_pairs.specs.{bookOf}
-use Rattle.net_writer.specs.{Gated, textIn}
-use Rattle.net_writer.proofs.Counting.{text-length}
-use Rattle.net_writer.proofs.Held.{book-is, gated, named, text-held}
+use Rattle.cells_pairs.specs.{cellRecordsOf}
+use Rattle.net_writer.specs.{GatesWritable, textIn}
+use Rattle.net_writer.proofs.NetlistLength.{text-length}
+use Rattle.net_writer.proofs.WrittenGates.{records-is, gatesWritable, named, text-represented}
 use Rattle.net_writer.proofs.write.Statement.{statement}
 use Rattle.net_writer.proofs.write.Tie as tie
 
@@ -14,27 +14,27 @@ write-words-requires c κs =
     let s = c .before .before .before .before .before .before .before .before in
     let a = s .args in
     let p = s .pre in
-    let made = c .before .before .before .put-book in
-    let rest : List ℕ = drop (length (bookOf (cellsOf (a .lib)) (a .codes .now))) (replicate 833 0) in
-    let is = book-is (a .lib) (a .codes .now) (replicate 833 0) (made .last .0) (made .result) (made .ensures) in
-    let held = text-held (a .work .now) (a .lib) (a .codes .now) (a .h) (p .0) (p .1) rest (a .f) in
-    let long = ap length (ap (λ (b : List ℕ). textIn (a .work .now) b (a .h) (a .f)) is ∙ held) in (
-      subst (λ (b : List ℕ). Gated (a .work .now) b (a .h .size)) (sym is) (gated (a .work .now) (a .lib) (a .codes .now) (a .h) (p .0) (p .1) rest),
-      named (a .work .now) (a .lib) (a .codes .now) (a .h) (p .0) (p .1) rest,
+    let made = c .before .before .before .put-cell-records in
+    let rest : List ℕ = drop (length (cellRecordsOf (cellsOf (a .lib)) (a .ids .now))) (replicate 833 0) in
+    let is = records-is (a .lib) (a .ids .now) (replicate 833 0) (made .last .0) (made .result) (made .ensures) in
+    let represented = text-represented (a .work .now) (a .lib) (a .ids .now) (a .h) (p .0) (p .1) rest (a .f) in
+    let long = ap length (ap (λ (b : List ℕ). textIn (a .work .now) b (a .h) (a .f)) is ∙ represented) in (
+      subst (λ (b : List ℕ). GatesWritable (a .work .now) b (a .h .size)) (sym is) (gatesWritable (a .work .now) (a .lib) (a .ids .now) (a .h) (p .0) (p .1) rest),
+      named (a .work .now) (a .lib) (a .ids .now) (a .h) (p .0) (p .1) rest,
       omega (arith, text-length (a .work .now) (made .last .0) (a .h) (a .f)),
     )
 
 returns : tie.Need-returns
 returns c =
-    let book = c .before .before .before .before .before .before in
-    let made = book .put-book in
-    let a = book .before .before .before .before .before .args in
-    let rest : List ℕ = drop (length (bookOf (cellsOf (a .lib)) (a .codes .now))) (replicate 833 0) in
-    let is = book-is (a .lib) (a .codes .now) (replicate 833 0) (made .last .0) (made .result) (made .ensures) in
+    let records = c .before .before .before .before .before .before in
+    let made = records .put-cell-records in
+    let a = records .before .before .before .before .before .args in
+    let rest : List ℕ = drop (length (cellRecordsOf (cellsOf (a .lib)) (a .ids .now))) (replicate 833 0) in
+    let is = records-is (a .lib) (a .ids .now) (replicate 833 0) (made .last .0) (made .result) (made .ensures) in
     let r = c .before .before .write-words in
     let t = textIn (a .work .now) (made .last .0) (a .h) (a .f) in
     λ g k.
-    let e = ap (λ (b : List ℕ). textIn (a .work .now) b (a .h) (a .f)) is ∙ text-held (a .work .now) (a .lib) (a .codes .now) (a .h) g k rest (a .f) in
+    let e = ap (λ (b : List ℕ). textIn (a .work .now) b (a .h) (a .f)) is ∙ text-represented (a .work .now) (a .lib) (a .ids .now) (a .h) g k rest (a .f) in
     let z : 0 + length t ≡ length t = omega arith in
     (r .ensures .ends ∙ z ∙ ap length e, r .ensures .leaves ∙ put-front (a .out .now) t ∙ ap (λ (bs : List ℕ). bs ++ drop (length bs) (a .out .now)) e)
 

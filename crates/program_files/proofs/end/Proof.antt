@@ -1,7 +1,7 @@
 -- `program_files::end` meets its contract. The invariant: the text from here on ends where that from the start does; the measure is what is left.
 use Rattle.base.specs.{_≡_, refl, sym, _∙_, _-_, arith, length, needs}
 use Rattle.program_files.specs.{endFrom}
-use Rattle.program_files.proofs.Ends.{end-here, end-on, end-past, end-within}
+use Rattle.program_files.proofs.FileEnds.{end-here, end-on, end-past, end-within}
 use Rattle.program_files.proofs.end.Statement.{statement}
 use Rattle.program_files.proofs.end.Tie as tie
 

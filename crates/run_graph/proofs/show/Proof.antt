@@ -1,10 +1,10 @@
 -- `run_graph::show` is safe: a header that is answered is the text's, and what `place` asks is what an accepted `load` leaves.
 use Rattle.base.specs.{sym, _∙_, arith, needs}
 use Rattle.theory_text.proofs.{header-fits}
-use Rattle.graph_placing.specs.{Fit, Operands}
-use Rattle.graph_placing.proofs.{fit-length}
+use Rattle.graph_order.specs.{Fit, Operands}
+use Rattle.graph_order.proofs.{fit-length}
 use Rattle.graph_binary.proofs.{header-fit}
-use Rattle.graph_reader.proofs.{header-read, place-asks}
+use Rattle.graph_reader.proofs.{header-read, order-asks}
 use Rattle.run_graph.proofs.show.Statement.{statement}
 use Rattle.run_graph.proofs.show.Tie as tie
 
@@ -29,23 +29,23 @@ loaded e =
     let at-header = k .before .before in
     let a = at-header .before .before .before .args in
     let fit = header-fit (a .text .now) (k .h .given .0 .0) (a .work .now) (header-read _ _ (sym (at-header .header .ensures .0) ∙ k .h .given .1)) (omega (arith, n .need-words .ensures, l .before .before .if1 .left)) in
-    place-asks (a .work .now) (a .text .now) (k .h .given .0 .0) _ fit (sym (l .load .ensures .0) ∙ e .enum-told .given .1) (l .load .ensures .1 .0)
+    order-asks (a .work .now) (a .text .now) (k .h .given .0 .0) _ fit (sym (l .load .ensures .0) ∙ e .enum-told .given .1) (l .load .ensures .1 .0)
 
-place-requires : tie.Need-place-requires
-place-requires c κs = loaded (c .before)
+order-graph-requires : tie.Need-order-graph-requires
+order-graph-requires c κs = loaded (c .before)
 
 show-order-requires : tie.Need-show-order-requires
 show-order-requires c κs =
     let p = c .before .before .before .before .before in
     let e = p .before .before in
-    fit-length _ _ _ (loaded e .0) (omega (arith, p .place .kept .0))
+    fit-length _ _ _ (loaded e .0) (omega (arith, p .order-graph .kept .0))
 
 show-outputs-requires : tie.Need-show-outputs-requires
 show-outputs-requires c κs =
     let p = c .before .before .before .before .before .before .before in
     let e = p .before .before in
-    fit-length _ _ _ (loaded e .0) (omega (arith, p .place .kept .0))
+    fit-length _ _ _ (loaded e .0) (omega (arith, p .order-graph .kept .0))
 
 pub show-spec : {M : Type 1} → statement M
 show-spec = tie.close (tie.spec
-    (λ c κs. search needs) (λ c. search needs) need-words-requires (λ c κs. search needs) (λ c. search needs) load-requires (λ c. search needs) place-requires (λ c. search needs) show-order-requires show-outputs-requires (λ c. search needs) (λ c κs. search needs) (λ c. search needs) (λ c κs. search needs) (λ c. search needs) (λ c κs. search needs) (λ c. search needs) (λ c. search needs) (λ c. search needs) (λ c. search needs) (λ c. search needs) (λ c. search needs) (λ c. search needs))
+    (λ c κs. search needs) (λ c. search needs) need-words-requires (λ c κs. search needs) (λ c. search needs) load-requires (λ c. search needs) order-graph-requires (λ c. search needs) show-order-requires show-outputs-requires (λ c. search needs) (λ c κs. search needs) (λ c. search needs) (λ c κs. search needs) (λ c. search needs) (λ c κs. search needs) (λ c. search needs) (λ c. search needs) (λ c. search needs) (λ c. search needs) (λ c. search needs) (λ c. search needs) (λ c. search needs))

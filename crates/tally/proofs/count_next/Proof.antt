@@ -1,6 +1,6 @@
 -- `tally::count_next` meets its contract: a name has at most fifteen bytes.
 use Rattle.base.specs.{arith, _≡_, sym, length, length-take-le, needs}
-use Rattle.tally.proofs.Within.{ten-digits}
+use Rattle.tally.proofs.TallyBounds.{ten-digits}
 use Rattle.tally.proofs.count_next.Statement.{statement}
 use Rattle.tally.proofs.count_next.Tie as tie
 

@@ -1,6 +1,6 @@
 -- `tally::show` meets its contract: the length that `report` answers is within text memory.
 use Rattle.base.specs.{arith, sym, _∙_, length, length-take, needs}
-use Rattle.tally.proofs.Within.{report-within}
+use Rattle.tally.proofs.TallyBounds.{report-within}
 use Rattle.tally.proofs.show.Statement.{statement}
 use Rattle.tally.proofs.show.Tie as tie
 

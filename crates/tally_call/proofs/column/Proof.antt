@@ -2,7 +2,7 @@
 use Rattle.base.specs.{needs, arith, _≡_, sym, _-_, _≤_, take, drop}
 use Rattle.base_words.specs.{putAt, zeros}
 use Rattle.base_words.proofs.{put-none}
-use Rattle.tally_call.proofs.Columns.{column-step, column-end}
+use Rattle.tally_call.proofs.TallyColumns.{column-step, column-end}
 use Rattle.tally_call.proofs.column.Statement.{statement}
 use Rattle.tally_call.proofs.column.Tie as tie
 

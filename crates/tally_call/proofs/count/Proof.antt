@@ -2,11 +2,9 @@
 use Rattle.base.specs.{_≡_, sym, ap, _∙_, needs}
 use Rattle.model.specs.{holds, countText}
 use Rattle.model.specs.declared.Tally.{Tally}
-use Rattle.model.proofs.{verdict-ruled}
-use Rattle.theory_tally.proofs.{count-exactly}
-use Rattle.tally_call.specs.{tallyOf}
-use Rattle.tally_call.proofs.Columns.{was-counted, was-refused, only-97, numbers-held, numbers-kept}
-use Rattle.tally_call.proofs.RoundTrip.{count-sums, refused-sums}
+use Rattle.promises.specs.{tallyOf}
+use Rattle.tally_call.proofs.TallyColumns.{was-counted, was-refused, only-97}
+use Rattle.tally_call.proofs.TallyCallRecords.{was-stored, was-kept}
 use Rattle.tally_call.proofs.count.Statement.{statement}
 use Rattle.tally_call.proofs.count.Tie as tie
 
@@ -25,16 +23,14 @@ returns c =
     let e = was-counted (t .result) (countText (t .result) (a .cells .now) (a .netlist .now)) (r .result) (r .ensures .0) (c .before .before .before .before .enum-told .given .1) in
     let is : countText (tallyOf (a .tally .now)) (a .cells .now) (a .netlist .now) ≡ holds (r .result .tally) = ap (λ (x : Tally). countText x (a .cells .now) (a .netlist .now)) (sym (t .ensures)) ∙ e in
     let s = c .before .before .store in
-    let h = numbers-held (countText (tallyOf (a .tally .now)) (a .cells .now) (a .netlist .now)) (a .tally .now) (s .last .0) (r .result .tally) is (s .ensures) in
-    (h .0, (h .1, (count-sums (a .cells .now) (a .netlist .now) (a .tally .now) (s .last .0) (r .result .tally) is (s .ensures), (count-exactly _ _ _, verdict-ruled _ (countText (tallyOf (a .tally .now)) (a .cells .now) (a .netlist .now)) (h .0)))))
+    was-stored (a .cells .now) (a .netlist .now) (a .tally .now) (s .last .0) (r .result .tally) is (s .ensures)
 
 returns-2 : tie.Need-returns-2
 returns-2 c =
     let p = c .before .before .before .before .before .before .before .before .before in let a = p .before .args in
     let r = c .before .before .before .before .count in let t = c .before .before .before .before .before .load in
     let e = was-refused (t .result) (countText (t .result) (a .cells .now) (a .netlist .now)) (r .result) (r .ensures .0) _ _ (c .before .verdict .given .1) in
-    let h = numbers-kept (countText (tallyOf (a .tally .now)) (a .cells .now) (a .netlist .now)) (a .tally .now) _ _ (ap (λ (x : Tally). countText x (a .cells .now) (a .netlist .now)) (sym (t .ensures)) ∙ e) in
-    (h .0, (h .1, (refused-sums (a .cells .now) (a .netlist .now) (a .tally .now) _ _, (count-exactly _ _ _, verdict-ruled _ (countText (tallyOf (a .tally .now)) (a .cells .now) (a .netlist .now)) (h .0)))))
+    was-kept (a .cells .now) (a .netlist .now) (a .tally .now) _ _ (ap (λ (x : Tally). countText x (a .cells .now) (a .netlist .now)) (sym (t .ensures)) ∙ e)
 
 pub count-spec : {M : Type 1} → statement M
 count-spec = tie.close (tie.spec

@@ -1,6 +1,6 @@
 -- `tally_call::load` meets its contract: column by column.
 use Rattle.base.specs.{arith, _∙_, needs}
-use Rattle.tally_call.proofs.Columns.{tally-short, tally-is}
+use Rattle.tally_call.proofs.TallyColumns.{tally-short, tally-is}
 use Rattle.tally_call.proofs.load.Statement.{statement}
 use Rattle.tally_call.proofs.load.Tie as tie
 

@@ -1,6 +1,6 @@
 -- `tally_call::store` meets its contract: column by column.
 use Rattle.base.specs.{_∙_, length-set, needs}
-use Rattle.tally_call.proofs.Columns.{stored-is}
+use Rattle.tally_call.proofs.TallyColumns.{stored-is}
 use Rattle.tally_call.proofs.store.Statement.{statement}
 use Rattle.tally_call.proofs.store.Tie as tie
 

@@ -1,7 +1,7 @@
 -- `tally_counting::add_counts` meets its contract. The invariant: the places before this one are added; the measure is the places left.
 use Rattle.base.specs.{needs, arith, _≡_, refl, ap, _∙_, ℕ, _-_, _≤_}
 use Rattle.tally_counting.specs.{addUpTo, addedUpTo}
-use Rattle.tally_counting.proofs.Places.{tally-low, tally-step}
+use Rattle.tally_counting.proofs.CountPositions.{tally-low, tally-step}
 use Rattle.tally_counting.proofs.add_counts.Statement.{statement}
 use Rattle.tally_counting.proofs.add_counts.Tie as tie
 
@@ -15,15 +15,15 @@ add-place-requires : tie.Need-add-place-requires Inv-loop μ-loop
 add-place-requires c κs =
     let st = c .before .before .before .before .before .before .before in let p = c .before .before .before .before .before .before .loop in
     let low = tally-low (st .args .t2) (st .args .t3) (st .args .from) (st .pre) (p .i) (p .t) (p .inv .1) in
-    (omega arith, c .before .before .long .ensures .1, omega (arith, c .long2 .ensures .0, c .before .wide .ensures .1), low .0, low .1, low .2)
+    (omega arith, c .before .before .widen-sum .ensures .1, omega (arith, c .widen-sum2 .ensures .0, c .before .widen .ensures .1), low .0, low .1, low .2)
 
 loop-again : tie.Need-loop-again Inv-loop μ-loop
 loop-again c =
     let st = c .before .before .before .before .before .before .before .before in
     let p = c .before .before .before .before .before .before .before .loop in (
       omega arith,
-      tally-step (st .args .t2) (st .args .t3) (st .args .from) (st .pre) (p .i) (p .t) (p .inv .1) (omega arith) (c .before .before .before .long .result) (c .before .long2 .result) (c .add-place .result)
-          (c .before .before .before .long .ensures .0) (c .before .long2 .ensures .0 ∙ c .before .before .wide .ensures .0) (c .add-place .ensures),
+      tally-step (st .args .t2) (st .args .t3) (st .args .from) (st .pre) (p .i) (p .t) (p .inv .1) (omega arith) (c .before .before .before .widen-sum .result) (c .before .widen-sum2 .result) (c .add-place .result)
+          (c .before .before .before .widen-sum .ensures .0) (c .before .widen-sum2 .ensures .0 ∙ c .before .before .widen .ensures .0) (c .add-place .ensures),
     )
 
 returns : tie.Need-returns Inv-loop μ-loop

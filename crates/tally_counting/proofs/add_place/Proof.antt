@@ -1,6 +1,6 @@
 -- `tally_counting::add_place` meets its contract: a place of each figure.
 use Rattle.base.specs.{arith, ap, ℕ, _+_, _*_, ltb, getD, set, needs}
-use Rattle.tally_counting.proofs.Places.{occurs-low, product-low}
+use Rattle.tally_counting.proofs.CountPositions.{occurs-low, product-low}
 use Rattle.tally_counting.proofs.add_place.Statement.{statement}
 use Rattle.tally_counting.proofs.add_place.Tie as tie
 

@@ -1,21 +1,21 @@
 -- `tally_counting::count` meets its contract: 1, the library's, then 28 and 29.
 use Rattle.base.specs.{_≡_, sym, ap, subst, _∙_, ⊎-elim, Bool, List, ltb-true, ltb-false, needs}
-use Rattle.model.specs.{Read, rulingOf, verdictRuling, cellsOf, readLibrary, isRanged, countText, countedAnswer}
+use Rattle.model.specs.{Read, refusalOf, verdictRefusal, cellsOf, readLibrary, isRanged, countText, countedAnswer}
 use Rattle.model.specs.declared.Cell.{Cell}
 use Rattle.model.specs.declared.Library.{Library}
 use Rattle.model.specs.declared.Tally.{Tally}
 use Rattle.model.specs.declared.Counted.{Counted}
-use Rattle.model.proofs.{counted-ruled}
+use Rattle.model.proofs.{counted-refusal}
 use Rattle.tally_lines.specs.{Listed}
 use Rattle.tally_counting.specs.{Blank, countRead}
-use Rattle.tally_counting.proofs.Answers.{accepted, turned-back, cells-back, listed, blanks, count-long, count-long-too}
-use Rattle.tally_counting.proofs.Answers.{count-refused, count-read}
+use Rattle.tally_counting.proofs.CountAnswers.{accepted, refused-back, cells-back, listed, blanks, count-long, count-long-too}
+use Rattle.tally_counting.proofs.CountAnswers.{count-refused, count-read}
 use Rattle.tally_counting.proofs.count.Statement.{statement}
 use Rattle.tally_counting.proofs.count.Tie as tie
 
 -- the answer, and the number and place that it stands for
-both : (t : Tally) (r : Counted) (q : Read Tally) → r ≡ countedAnswer t q → (r ≡ countedAnswer t q) × (verdictRuling (r .verdict) ≡ rulingOf q)
-both t r q e = (e, counted-ruled t r q e)
+both : (t : Tally) (r : Counted) (q : Read Tally) → r ≡ countedAnswer t q → (r ≡ countedAnswer t q) × (verdictRefusal (r .verdict) ≡ refusalOf q)
+both t r q e = (e, counted-refusal t r q e)
 
 returns : tie.Need-returns
 returns c =
@@ -53,7 +53,7 @@ returns-3 c =
     let r = c .before .before .before .before .before .read in
     both (a .t) _ (countText (a .t) (a .cells .now) (a .netlist .now)) (
     c .refused2 .ensures
-    ∙ sym (ap (countedAnswer (a .t)) (count-refused (a .t) (a .cells .now) (a .netlist .now) (p .before .if1 .left) (ltb-false _ _ (p .if2 .left)) _ _ (turned-back (readLibrary (a .cells .now)) (r .result) (r .ensures .0) _ _ (c .before .before .verdict .given .1)))))
+    ∙ sym (ap (countedAnswer (a .t)) (count-refused (a .t) (a .cells .now) (a .netlist .now) (p .before .if1 .left) (ltb-false _ _ (p .if2 .left)) _ _ (refused-back (readLibrary (a .cells .now)) (r .result) (r .ensures .0) _ _ (c .before .before .verdict .given .1)))))
 
 pub count-spec : {M : Type 1} → statement M
 count-spec = tie.close (tie.spec

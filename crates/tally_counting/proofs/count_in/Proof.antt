@@ -1,7 +1,7 @@
 -- `tally_counting::count_in` meets its contract: 28, then 29.
 use Rattle.base.specs.{sym, ap, _∙_, ⊎-elim, not-true, not-false, needs}
 use Rattle.model.specs.{cellsOf, countedAnswer}
-use Rattle.tally_counting.proofs.Answers.{count-many, count-over, count-broken, count-whole}
+use Rattle.tally_counting.proofs.CountAnswers.{count-many, count-over, count-broken, count-whole}
 use Rattle.tally_counting.proofs.count_in.Statement.{statement}
 use Rattle.tally_counting.proofs.count_in.Tie as tie
 

@@ -1,7 +1,7 @@
 -- `tally_counting::gate_at` meets its contract: by the line at the place.
 use Rattle.base.specs.{arith, _-_, needs}
-use Rattle.tally_counting.proofs.DueLines.{ten-line, not-ended, span-bounds, part-short}
-use Rattle.tally_counting.proofs.Gating.{gate-none, gate-line, gate-other}
+use Rattle.tally_counting.proofs.ExpectedNetlistLines.{ten-line, not-ended, span-bounds, part-short}
+use Rattle.tally_counting.proofs.GateCounts.{gate-none, gate-line, gate-other}
 use Rattle.tally_counting.proofs.gate_at.Statement.{statement}
 use Rattle.tally_counting.proofs.gate_at.Tie as tie
 

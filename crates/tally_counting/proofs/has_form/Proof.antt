@@ -1,4 +1,4 @@
--- `tally_counting::has_form` meets its contract: the line is judged by its kind.
+-- `tally_counting::has_form` meets its contract: the line is validated by its kind.
 use Rattle.base.specs.{sym, ap, _∙_, needs}
 use Rattle.model.specs.{text}
 use Rattle.tally_counting.specs.{formTest}

@@ -1,7 +1,7 @@
 -- `tally_counting::in_width` meets its contract: figure by figure.
 use Rattle.base.specs.{sym, _∙_, needs}
-use Rattle.tally_counting.proofs.Reading.{never}
-use Rattle.tally_counting.proofs.Places.{width-gates, width-areas, width-occurs, width-last, width-wide}
+use Rattle.tally_counting.proofs.CountReading.{never}
+use Rattle.tally_counting.proofs.CountPositions.{width-gates, width-areas, width-occurs, width-last, width-wide}
 use Rattle.tally_counting.proofs.in_width.Statement.{statement}
 use Rattle.tally_counting.proofs.in_width.Tie as tie
 

@@ -1,5 +1,5 @@
 -- `tally_counting::occurs` meets its contract: by the number.
-use Rattle.tally_counting.proofs.Places.{some-occurs, none-occurs}
+use Rattle.tally_counting.proofs.CountPositions.{some-occurs, none-occurs}
 use Rattle.tally_counting.proofs.occurs.Statement.{statement}
 use Rattle.tally_counting.proofs.occurs.Tie as tie
 

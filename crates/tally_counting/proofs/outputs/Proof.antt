@@ -1,6 +1,6 @@
 -- `tally_counting::outputs` meets its contract: the third line's fields, less the keyword.
 use Rattle.base.specs.{arith, _∙_, needs}
-use Rattle.tally_counting.proofs.DueLines.{span-bounds, outputs-none, outputs-some}
+use Rattle.tally_counting.proofs.ExpectedNetlistLines.{span-bounds, outputs-none, outputs-some}
 use Rattle.tally_counting.proofs.outputs.Statement.{statement}
 use Rattle.tally_counting.proofs.outputs.Tie as tie
 

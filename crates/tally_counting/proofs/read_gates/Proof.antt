@@ -1,7 +1,7 @@
 -- `tally_counting::read_gates` meets its contract. The invariant: what was counted and what is left are all gates; the measure is what is left of the text.
 use Rattle.base.specs.{needs, arith, sym, ap, subst, _∙_, _-_, _<_, length}
 use Rattle.tally_counting.specs.declared.Counts.{Counts}
-use Rattle.tally_counting.proofs.Gating.{SoFar, so-far-first, so-far-last, so-far-listed, so-far-later, so-far-more}
+use Rattle.tally_counting.proofs.GateCounts.{SoFar, so-far-first, so-far-last, so-far-listed, so-far-later, so-far-more}
 use Rattle.tally_counting.proofs.read_gates.Statement.{statement}
 use Rattle.tally_counting.proofs.read_gates.Tie as tie
 
@@ -35,7 +35,7 @@ add-gate-requires c κs =
     let h = so-far-listed (st .args .t3) (st .pre .2) (st .args .s .now) (st .args .from) (p .c) (p .inv) k _ e in
     let g = so-far-later (st .args .t3) (st .pre .2) (st .args .s .now) (st .args .from) (p .c) (p .inv) k _ e in
     let few : p .c .gates < 65536 = omega (arith, p .inv .few, g .0, g .1, st .pre .1) in
-    (omega (arith, h, st .pre .2 .few), omega (arith, p .inv .each k (omega (arith, h, st .pre .2 .few))), few, omega (arith, p .inv .small, c .wide .ensures .1))
+    (omega (arith, h, st .pre .2 .few), omega (arith, p .inv .each k (omega (arith, h, st .pre .2 .few))), few, omega (arith, p .inv .small, c .widen .ensures .1))
 
 loop-less : tie.Need-loop-less Inv-loop μ-loop
 loop-less c =
@@ -53,7 +53,7 @@ loop-again c =
     let e = sym (c .before .before .before .before .before .before .gate-at .ensures) ∙ c .before .before .before .before .k .given .1 in
     let k = c .before .before .before .before .k .given .0 .0 in
     subst (SoFar (st .args .t3) (st .args .s .now) (st .args .from)) (sym (c .add-gate .ensures))
-    (so-far-more (st .args .t3) (st .pre .2) (st .args .s .now) (st .args .from) (p .c) (p .inv) k _ e (c .before .wide .result) (c .before .wide .ensures .0) (c .before .wide .ensures .1))
+    (so-far-more (st .args .t3) (st .pre .2) (st .args .s .now) (st .args .from) (p .c) (p .inv) k _ e (c .before .widen .result) (c .before .widen .ensures .0) (c .before .widen .ensures .1))
 
 returns : tie.Need-returns Inv-loop μ-loop
 returns c =

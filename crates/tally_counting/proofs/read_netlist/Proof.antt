@@ -1,18 +1,18 @@
--- `tally_counting::read_netlist` meets its contract: the frame, the gates, and what is due behind them.
+-- `tally_counting::read_netlist` meets its contract: the preamble, the gates, and what is expected behind them.
 use Rattle.base.specs.{not-true, not-false, needs}
-use Rattle.tally_counting.proofs.Reading.{frame-broken, behind-broken, behind-whole, never}
+use Rattle.tally_counting.proofs.CountReading.{preamble-broken, behind-broken, behind-whole, never}
 use Rattle.tally_counting.proofs.read_netlist.Statement.{statement}
 use Rattle.tally_counting.proofs.read_netlist.Tie as tie
 
 returns : tie.Need-returns
 returns c =
-    let a = c .before .before .before .before .before .args in let f = c .before .before .before .read-frame in
-    record { broken = λ e. frame-broken (a .ranged) (a .lib) (a .s .now) (f .result) (f .ensures .0) (not-true _ (c .before .if1 .taken)); whole = λ e. never e }
+    let a = c .before .before .before .before .before .args in let f = c .before .before .before .read-preamble in
+    record { broken = λ e. preamble-broken (a .ranged) (a .lib) (a .s .now) (f .result) (f .ensures .0) (not-true _ (c .before .if1 .taken)); whole = λ e. never e }
 
 returns-2 : tie.Need-returns-2
 returns-2 c =
     let a = c .before .before .before .before .before .before .before .args in
-    let f = c .before .before .before .before .before .read-frame in let ok = not-false _ (c .before .before .before .if1 .left) in
+    let f = c .before .before .before .before .before .read-preamble in let ok = not-false _ (c .before .before .before .if1 .left) in
     let g = c .before .before .read-gates in let o = c .before .outputs in let r = c .read-behind in
     record {
       broken = behind-broken (a .ranged) (a .lib) (a .s .now) (f .result) (f .ensures .0) ok (g .result) (g .ensures) (o .result) (o .ensures) (record { ok = r .result .ok; at = r .result .at }) (r .ensures .0);

@@ -1,13 +1,13 @@
--- `tally_counting::read_timings` meets its contract. The invariant: what is due from here on is what is left of all that is due; the measure is the lines left.
+-- `tally_counting::read_timings` meets its contract. The invariant: what is expected from here on is what is left of all that is expected; the measure is the lines left.
 use Rattle.base.specs.{arith, _≡_, sym, _∙_, ⊎-elim, _-_, _≤_, length}
-use Rattle.model.specs.{next, dueLines, timings}
+use Rattle.model.specs.{next, expectedLines, timings}
 use Rattle.tally_counting.specs.{formTest, readIn}
-use Rattle.tally_counting.proofs.DueLines.{timesFrom, timings-first, timings-step, timings-end, count-yes, count-no}
+use Rattle.tally_counting.proofs.ExpectedNetlistLines.{timesFrom, timings-first, timings-step, timings-end, count-yes, count-no}
 use Rattle.tally_counting.proofs.read_timings.Statement.{statement}
 use Rattle.tally_counting.proofs.read_timings.Tie as tie
 
 abbrev Inv-loop : tie.InvT-loop
-Inv-loop s ranged outs n r₀ k₀ r k = (r .at ≤ length s) × (next (readIn s r₀) (dueLines (length s) (timings ranged outs)) ≡ next (readIn s r) (dueLines (length s) (timesFrom k (n - k))))
+Inv-loop s ranged outs n r₀ k₀ r k = (r .at ≤ length s) × (next (readIn s r₀) (expectedLines (length s) (timings ranged outs)) ≡ next (readIn s r) (expectedLines (length s) (timesFrom k (n - k))))
 
 abbrev μ-loop : tie.MeasureT-loop
 μ-loop s ranged outs n r₀ k₀ r k = n - k
@@ -25,8 +25,8 @@ unfolding formTest
 loop-again c =
     let a = c .before .before .before .before .before .args in
     let p = c .before .before .loop in (
-      c .due .ensures .1,
-      p .inv .1 ∙ timings-step (length (a .s .now)) (readIn (a .s .now) (p .r)) (p .k) (c .before .before .before .if1 .n) (readIn (a .s .now) (c .due .result)) (omega arith) (c .due .ensures .0),
+      c .expected-line .ensures .1,
+      p .inv .1 ∙ timings-step (length (a .s .now)) (readIn (a .s .now) (p .r)) (p .k) (c .before .before .before .if1 .n) (readIn (a .s .now) (c .expected-line .result)) (omega arith) (c .expected-line .ensures .0),
     )
 
 returns : tie.Need-returns Inv-loop μ-loop

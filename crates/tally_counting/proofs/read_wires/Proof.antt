@@ -1,13 +1,13 @@
--- `tally_counting::read_wires` meets its contract. The invariant: what is due from here on is what is left of all that is due; the measure is the outputs left.
+-- `tally_counting::read_wires` meets its contract. The invariant: what is expected from here on is what is left of all that is expected; the measure is the outputs left.
 use Rattle.base.specs.{arith, _≡_, sym, _∙_, _-_, _≤_, length}
-use Rattle.model.specs.{next, dueLines, wirePairs}
+use Rattle.model.specs.{next, expectedLines, wirePairs}
 use Rattle.tally_counting.specs.{formTest, readIn}
-use Rattle.tally_counting.proofs.DueLines.{pairsFrom, wires-first, wires-step, wires-end}
+use Rattle.tally_counting.proofs.ExpectedNetlistLines.{pairsFrom, wires-first, wires-step, wires-end}
 use Rattle.tally_counting.proofs.read_wires.Statement.{statement}
 use Rattle.tally_counting.proofs.read_wires.Tie as tie
 
 abbrev Inv-loop : tie.InvT-loop
-Inv-loop s outs r₀ k₀ r k = (r .at ≤ length s) × (next (readIn s r₀) (dueLines (length s) (wirePairs outs)) ≡ next (readIn s r) (dueLines (length s) (pairsFrom k (outs - k))))
+Inv-loop s outs r₀ k₀ r k = (r .at ≤ length s) × (next (readIn s r₀) (expectedLines (length s) (wirePairs outs)) ≡ next (readIn s r) (expectedLines (length s) (pairsFrom k (outs - k))))
 
 abbrev μ-loop : tie.MeasureT-loop
 μ-loop s outs r₀ k₀ r k = outs - k
@@ -20,8 +20,8 @@ unfolding formTest
 loop-again c =
     let a = c .before .before .before .before .before .args in
     let p = c .before .before .before .loop in (
-      c .due2 .ensures .1,
-      p .inv .1 ∙ wires-step (length (a .s .now)) (readIn (a .s .now) (p .r)) (p .k) (a .outs) (readIn (a .s .now) (c .before .due .result)) (readIn (a .s .now) (c .due2 .result)) (omega arith) (c .before .due .ensures .0) (c .due2 .ensures .0),
+      c .expected-line2 .ensures .1,
+      p .inv .1 ∙ wires-step (length (a .s .now)) (readIn (a .s .now) (p .r)) (p .k) (a .outs) (readIn (a .s .now) (c .before .expected-line .result)) (readIn (a .s .now) (c .expected-line2 .result)) (omega arith) (c .before .expected-line .ensures .0) (c .expected-line2 .ensures .0),
     )
 
 returns : tie.Need-returns Inv-loop μ-loop
@@ -31,5 +31,5 @@ returns c =
 
 pub read-wires-spec : {M : Type 1} → statement M
 read-wires-spec = tie.close (tie.spec
-    Inv-loop μ-loop loop-holds (λ c κs. (omega arith, omega arith)) (λ c κs. (c .due .ensures .1, omega arith)) (λ c. omega arith)
+    Inv-loop μ-loop loop-holds (λ c κs. (omega arith, omega arith)) (λ c κs. (c .expected-line .ensures .1, omega arith)) (λ c. omega arith)
     (λ c. omega arith) loop-again returns)

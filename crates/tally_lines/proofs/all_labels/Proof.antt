@@ -2,7 +2,7 @@
 use Rattle.base.specs.{_+_, _-_, _≤_, arith, _≡_, sym, ap, _∙_, length}
 use Rattle.model.specs.{all, isLabel}
 use Rattle.tally_lines.specs.{fieldsAt, kindTest}
-use Rattle.tally_lines.proofs.Forms.{step-low, step-on, Labels, labels-first, labels-step, labels-yes, labels-no}
+use Rattle.tally_lines.proofs.NetlistLineForms.{step-low, step-on, Labels, labels-first, labels-step, labels-yes, labels-no}
 use Rattle.tally_lines.proofs.all_labels.Statement.{statement}
 use Rattle.tally_lines.proofs.all_labels.Tie as tie
 

@@ -1,6 +1,6 @@
 -- `tally_lines::are_digits` meets its contract: an empty field has none.
 use Rattle.base.specs.{ℕ, ap, _∙_, arith, eqb, length, le-ltb, needs}
-use Rattle.tally_lines.proofs.Digits.{digits-none, digits-some}
+use Rattle.tally_lines.proofs.FieldDigits.{digits-none, digits-some}
 use Rattle.tally_lines.proofs.are_digits.Statement.{statement}
 use Rattle.tally_lines.proofs.are_digits.Tie as tie
 

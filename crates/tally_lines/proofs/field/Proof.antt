@@ -1,9 +1,9 @@
 -- `tally_lines::field` meets its contract: by the test of the field's bytes.
 use Rattle.base.specs.{arith, _≡_, sym, _∙_, ⊎-elim, not-true, not-false, needs}
 use Rattle.tally_lines.specs.{kindTest}
-use Rattle.tally_lines.proofs.Fields.{end-span, field-fits, field-from}
+use Rattle.tally_lines.proofs.FieldLaws.{end-span, field-fits, field-from}
 use Rattle.tally_lines.specs.{fieldEnd}
-use Rattle.tally_lines.proofs.Forms.{step-past, step-takes, step-fails}
+use Rattle.tally_lines.proofs.NetlistLineForms.{step-past, step-takes, step-fails}
 use Rattle.tally_lines.proofs.field.Statement.{statement}
 use Rattle.tally_lines.proofs.field.Tie as tie
 

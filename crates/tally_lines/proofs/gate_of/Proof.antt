@@ -3,7 +3,7 @@ use Rattle.base.specs.{arith, _≡_, refl, sym, ap, _∙_, _-_, _≤_, length, 
 use Rattle.model.specs.{fields, noCell, cellsOf, ofForm, gateForm, gateOf}
 use Rattle.model.specs.declared.Cell.{Cell}
 use Rattle.tally_lines.specs.{whichOf}
-use Rattle.tally_lines.proofs.Gates.{cells-count, cells-at, gate-end, gate-here, gate-later, gate-behind, gate-never}
+use Rattle.tally_lines.proofs.GateLineForms.{cells-count, cells-at, gate-end, gate-here, gate-later, gate-behind, gate-never}
 use Rattle.tally_lines.proofs.gate_of.Statement.{statement}
 use Rattle.tally_lines.proofs.gate_of.Tie as tie
 

@@ -1,7 +1,7 @@
 -- `tally_lines::is_bound` meets its contract: each return knows what was met in the field.
 use Rattle.base.specs.{arith, ap, _∙_, le-ltb, ne-eqb, needs}
 use Rattle.model.specs.{isGateNet}
-use Rattle.tally_lines.proofs.Digits.{rest-part, bound-short, bound-letter, bound-sign, bound-is}
+use Rattle.tally_lines.proofs.FieldDigits.{rest-part, bound-short, bound-letter, bound-sign, bound-is}
 use Rattle.tally_lines.proofs.is_bound.Statement.{statement}
 use Rattle.tally_lines.proofs.is_bound.Tie as tie
 

@@ -2,8 +2,8 @@
 use Rattle.base.specs.{arith, _≡_, sym, ap, _∙_, ⊎-elim, List, ℕ, length, take, drop, length-take-le, take-all, needs}
 use Rattle.model.specs.{same, gateForm}
 use Rattle.tally_lines.specs.{stepAt, kindTest}
-use Rattle.tally_lines.proofs.Forms.{form-yes, form-no}
-use Rattle.tally_lines.proofs.Gates.{gate-steps}
+use Rattle.tally_lines.proofs.NetlistLineForms.{form-yes, form-no}
+use Rattle.tally_lines.proofs.GateLineForms.{gate-steps}
 use Rattle.tally_lines.proofs.is_gate.Statement.{statement}
 use Rattle.tally_lines.proofs.is_gate.Tie as tie
 

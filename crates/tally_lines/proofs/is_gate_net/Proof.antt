@@ -1,6 +1,6 @@
 -- `tally_lines::is_gate_net` meets its contract: a phase's net, or one inside a pair.
 use Rattle.base.specs.{sym, _∙_, needs}
-use Rattle.tally_lines.proofs.Digits.{gate-first, gate-second}
+use Rattle.tally_lines.proofs.FieldDigits.{gate-first, gate-second}
 use Rattle.tally_lines.proofs.is_gate_net.Statement.{statement}
 use Rattle.tally_lines.proofs.is_gate_net.Tie as tie
 

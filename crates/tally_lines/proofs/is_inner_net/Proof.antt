@@ -1,7 +1,7 @@
 -- `tally_lines::is_inner_net` meets its contract: each return knows what was met in the field.
 use Rattle.base.specs.{arith, ap, _∙_, le-ltb, ne-eqb, needs}
 use Rattle.model.specs.{isPhaseNet}
-use Rattle.tally_lines.proofs.Digits.{inner-none, inner-other, inner-is, rest-part}
+use Rattle.tally_lines.proofs.FieldDigits.{inner-none, inner-other, inner-is, rest-part}
 use Rattle.tally_lines.proofs.is_inner_net.Statement.{statement}
 use Rattle.tally_lines.proofs.is_inner_net.Tie as tie
 

@@ -1,4 +1,4 @@
--- `tally_lines::is_kind` meets its contract: the field is judged by its kind.
+-- `tally_lines::is_kind` meets its contract: the field is validated by its kind.
 use Rattle.base.specs.{sym, ap, _∙_, needs}
 use Rattle.tally_lines.specs.declared.Kind.{Kind}
 use Rattle.tally_lines.specs.{kindTest}

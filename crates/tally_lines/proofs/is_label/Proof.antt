@@ -1,7 +1,7 @@
 -- `tally_lines::is_label` meets its contract: each return knows what was met in the field.
 use Rattle.base.specs.{arith, ap, _∙_, le-ltb, ne-eqb, needs}
 use Rattle.model.specs.{areDigits}
-use Rattle.tally_lines.proofs.Digits.{label-none, label-other, label-is, rest-part}
+use Rattle.tally_lines.proofs.FieldDigits.{label-none, label-other, label-is, rest-part}
 use Rattle.tally_lines.proofs.is_label.Statement.{statement}
 use Rattle.tally_lines.proofs.is_label.Tie as tie
 

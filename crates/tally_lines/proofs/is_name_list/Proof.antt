@@ -2,7 +2,7 @@
 use Rattle.base.specs.{arith, ap, _∙_, ℕ, needs}
 use Rattle.model.specs.{all, isLabel}
 use Rattle.tally_lines.specs.{fieldsAt}
-use Rattle.tally_lines.proofs.Forms.{list-no, list-yes}
+use Rattle.tally_lines.proofs.NetlistLineForms.{list-no, list-yes}
 use Rattle.tally_lines.proofs.is_name_list.Statement.{statement}
 use Rattle.tally_lines.proofs.is_name_list.Tie as tie
 

@@ -1,7 +1,7 @@
 -- `tally_lines::is_number` meets its contract: the number's digits are written, and compared.
 use Rattle.base.specs.{length, length-take-le, needs, arith, _≡_, sym, ap, _∙_, List, ℕ}
 use Rattle.model.specs.{same}
-use Rattle.tally_lines.proofs.Digits.{ten-digits, written}
+use Rattle.tally_lines.proofs.FieldDigits.{ten-digits, written}
 use Rattle.tally_lines.proofs.is_number.Statement.{statement}
 use Rattle.tally_lines.proofs.is_number.Tie as tie
 

@@ -1,6 +1,6 @@
 -- `tally_lines::is_phase_net` meets its contract: either letter.
 use Rattle.base.specs.{sym, _∙_, needs}
-use Rattle.tally_lines.proofs.Digits.{phase-first, phase-second}
+use Rattle.tally_lines.proofs.FieldDigits.{phase-first, phase-second}
 use Rattle.tally_lines.proofs.is_phase_net.Statement.{statement}
 use Rattle.tally_lines.proofs.is_phase_net.Tie as tie
 

@@ -1,7 +1,7 @@
 -- `tally_lines::names_in` meets its contract. The invariant: the fields from here on and the spaces passed are all fields; the measure is what is left of the line.
 use Rattle.base.specs.{needs, arith, _≡_, ⊎-elim, _+_, _-_, _≤_, length, drop}
 use Rattle.model.specs.{fields}
-use Rattle.tally_lines.proofs.Fields.{count-space, count-step, count-out}
+use Rattle.tally_lines.proofs.FieldLaws.{count-space, count-step, count-out}
 use Rattle.tally_lines.proofs.names_in.Statement.{statement}
 use Rattle.tally_lines.proofs.names_in.Tie as tie
 

@@ -2,7 +2,7 @@
 use Rattle.base.specs.{_-_, _≤_, arith, _≡_, sym, _∙_}
 use Rattle.model.specs.{from, below}
 use Rattle.tally_lines.specs.{stepsAt, kindTest}
-use Rattle.tally_lines.proofs.Gates.{pinTests, pins-first, pins-step, pins-end}
+use Rattle.tally_lines.proofs.GateLineForms.{pinTests, pins-first, pins-step, pins-end}
 use Rattle.tally_lines.proofs.pins.Statement.{statement}
 use Rattle.tally_lines.proofs.pins.Tie as tie
 

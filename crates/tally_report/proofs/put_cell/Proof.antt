@@ -1,7 +1,7 @@
 -- `tally_report::put_cell` meets its contract: the cell by its place in the array.
 use Rattle.base.specs.{sym, subst, List, ℕ, _+_, _≤_, length, needs}
 use Rattle.base_text.specs.{Wrote}
-use Rattle.tally_report.proofs.Lines.{cell-is}
+use Rattle.tally_report.proofs.ReportLines.{cell-is}
 use Rattle.tally_report.proofs.put_cell.Statement.{statement}
 use Rattle.tally_report.proofs.put_cell.Tie as tie
 

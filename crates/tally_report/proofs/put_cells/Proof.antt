@@ -1,9 +1,9 @@
 -- `tally_report::put_cells` meets its contract. The invariant: the lines before this cell's are written; the measure is the cells left.
 use Rattle.base.specs.{arith, _+_, _-_, _≤_, _<_, length}
 use Rattle.model.specs.{cellsOf, cellLine}
-use Rattle.base_text.proofs.{Partly, begin, step, room, kept, end}
+use Rattle.base_text.proofs.{Partly, begin, step, capacity, kept, end}
 use Rattle.tally_report.specs.{cellLines}
-use Rattle.tally_report.proofs.Lines.{cells-first, cells-step, cells-end}
+use Rattle.tally_report.proofs.ReportLines.{cells-first, cells-step, cells-end}
 use Rattle.tally_report.proofs.put_cells.Statement.{statement}
 use Rattle.tally_report.proofs.put_cells.Tie as tie
 
@@ -21,7 +21,7 @@ put-cell-requires c κs =
     let st = c .before .before .before .before in let l = c .before .before .loop in let a = st .args in
     let f : 0 + length (cellLines (st .args .lib) (st .args .t) 0 (st .args .lib .n)) ≤ length (st .args .out .now) = omega (arith, st .pre .1) in
     let h : l .i < a .lib .n = omega arith in
-    (h, st .pre .0, room f (l .inv .1) (cellLine (cellsOf (a .lib)) (a .t) (l .i)) (cellLines (a .lib) (a .t) (l .i + 1) (a .lib .n - (l .i + 1))) (cells-step (a .lib) (a .t) (l .i) (a .lib .n) h))
+    (h, st .pre .0, capacity f (l .inv .1) (cellLine (cellsOf (a .lib)) (a .t) (l .i)) (cellLines (a .lib) (a .t) (l .i + 1) (a .lib .n - (l .i + 1))) (cells-step (a .lib) (a .t) (l .i) (a .lib .n) h))
 
 loop-again : tie.Need-loop-again Inv-loop μ-loop
 loop-again c =

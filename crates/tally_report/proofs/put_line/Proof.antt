@@ -1,9 +1,9 @@
 -- `tally_report::put_line` meets its contract: the name, three figures, and the line's end.
 use Rattle.base.specs.{refl, List, _∷_, [], _++_, ℕ, arith, needs}
 use Rattle.model.specs.{reportLine}
-use Rattle.base_text.proofs.{Partly, begin, step, room, finish}
+use Rattle.base_text.proofs.{Partly, begin, step, capacity, finish}
 use Rattle.tally_report.specs.{figureText}
-use Rattle.tally_report.proofs.Lines.{behindName, line-is}
+use Rattle.tally_report.proofs.ReportLines.{behindName, line-is}
 use Rattle.tally_report.proofs.put_line.Statement.{statement}
 use Rattle.tally_report.proofs.put_line.Tie as tie
 
@@ -55,19 +55,19 @@ netlists c =
     step (s .pre) (area (c .before .before .before .before)) (c .put-figure3 .last .0) (c .put-figure3 .result) (figureText (s .args .netlists)) (10 ∷ []) refl (c .put-figure3 .ensures)
 
 put-bytes-requires : tie.Need-put-bytes-requires
-put-bytes-requires c κs = let s = c .before .before .before in room (s .pre) (none s) (s .args .name .now) (behind s) refl
+put-bytes-requires c κs = let s = c .before .before .before in capacity (s .pre) (none s) (s .args .name .now) (behind s) refl
 
 put-figure-requires : tie.Need-put-figure-requires
-put-figure-requires c κs = let p = c .before .before .before in let s = start1 p in room (s .pre) (name p) (figureText (s .args .gates)) (behindGates s) refl
+put-figure-requires c κs = let p = c .before .before .before in let s = start1 p in capacity (s .pre) (name p) (figureText (s .args .gates)) (behindGates s) refl
 
 put-figure-requires-2 : tie.Need-put-figure-requires-2
-put-figure-requires-2 c κs = let p = c .before .before .before in let s = start2 p in room (s .pre) (gates p) (figureText (s .args .area)) (behindArea s) refl
+put-figure-requires-2 c κs = let p = c .before .before .before in let s = start2 p in capacity (s .pre) (gates p) (figureText (s .args .area)) (behindArea s) refl
 
 put-figure-requires-3 : tie.Need-put-figure-requires-3
-put-figure-requires-3 c κs = let p = c .before .before .before in let s = start3 p in room (s .pre) (area p) (figureText (s .args .netlists)) (10 ∷ []) refl
+put-figure-requires-3 c κs = let p = c .before .before .before in let s = start3 p in capacity (s .pre) (area p) (figureText (s .args .netlists)) (10 ∷ []) refl
 
 put-byte-requires : tie.Need-put-byte-requires
-put-byte-requires c κs = let p = c .before .before .before in omega (arith, room (start4 p .pre) (netlists p) (10 ∷ []) [] refl)
+put-byte-requires c κs = let p = c .before .before .before in omega (arith, capacity (start4 p .pre) (netlists p) (10 ∷ []) [] refl)
 
 returns : tie.Need-returns
 returns c =

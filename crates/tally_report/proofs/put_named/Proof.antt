@@ -19,8 +19,8 @@ slice-aggregate-put-line c =
     sym (length-take-le (j .if1 .len) name (⊎-elim (λ y. omega arith) (λ y. omega arith) (j .if1 .came)))
 
 -- the bytes that were lent are the cell's name
-lent : (j : tie.Joined1) → let a = j .before .before .before .before .args in take (j .if1 .len) (a .c .name) ≡ take (a .c .len) (a .c .name)
-lent j =
+withMemory : (j : tie.Joined1) → let a = j .before .before .before .before .args in take (j .if1 .len) (a .c .name) ≡ take (a .c .len) (a .c .name)
+withMemory j =
     let a = j .before .before .before .before .args in
     let n = j .if1 .len in
     let name = a .c .name in
@@ -32,14 +32,14 @@ put-line-requires c κs =
     let j = c .before .before in
     let s = j .before .before .before .before in
     let a = s .args in
-    subst (λ (x : List ℕ). a .at + length (reportLine x (a .gates) (a .area) (a .netlists)) ≤ length (a .out .now)) (sym (lent j)) (s .pre)
+    subst (λ (x : List ℕ). a .at + length (reportLine x (a .gates) (a .area) (a .netlists)) ≤ length (a .out .now)) (sym (withMemory j)) (s .pre)
 
 returns : tie.Need-returns
 returns c =
     let p = c .before .before in
     let j = p .before .before .before in
     let a = j .before .before .before .before .args in
-    subst (λ (x : List ℕ). Wrote (a .out .now) (p .put-line .last .0) (a .at) (p .put-line .result) (reportLine x (a .gates) (a .area) (a .netlists))) (lent j) (p .put-line .ensures)
+    subst (λ (x : List ℕ). Wrote (a .out .now) (p .put-line .last .0) (a .at) (p .put-line .result) (reportLine x (a .gates) (a .area) (a .netlists))) (withMemory j) (p .put-line .ensures)
 
 pub put-named-spec : {M : Type 1} → statement M
 put-named-spec = tie.close (tie.spec array-share-prefix-name slice-aggregate-put-line put-line-requires (λ c. search needs) returns)

@@ -1,9 +1,9 @@
 -- `tally_report::put_report` meets its contract: the cells' lines, and the total.
 use Rattle.base.specs.{arith, refl, sym, [], _++_, append-nil, _+_, _≤_, length, needs}
 use Rattle.model.specs.{cellsOf, totalLine, reportText}
-use Rattle.base_text.proofs.{Partly, begin, step, room, finish}
+use Rattle.base_text.proofs.{Partly, begin, step, capacity, finish}
 use Rattle.tally_report.specs.{cellLines}
-use Rattle.tally_report.proofs.Lines.{report-is}
+use Rattle.tally_report.proofs.ReportLines.{report-is}
 use Rattle.tally_report.proofs.put_report.Statement.{statement}
 use Rattle.tally_report.proofs.put_report.Tie as tie
 
@@ -25,12 +25,12 @@ cells c =
 put-cells-requires : tie.Need-put-cells-requires
 put-cells-requires c κs =
     let s = c .before .before in let a = s .args in
-    (s .pre .0, omega (arith, room (fits s) (none s) (cellLines (a .lib) (a .t) 0 (a .lib .n)) (totalLine (cellsOf (a .lib)) (a .t)) refl))
+    (s .pre .0, omega (arith, capacity (fits s) (none s) (cellLines (a .lib) (a .t) 0 (a .lib .n)) (totalLine (cellsOf (a .lib)) (a .t)) refl))
 
 put-total-requires : tie.Need-put-total-requires
 put-total-requires c κs =
     let p = c .before .before .before in let s = start p in
-    (s .pre .0, s .pre .1, room (fits s) (cells p) (totalLine (cellsOf (s .args .lib)) (s .args .t)) [] (sym (append-nil (totalLine (cellsOf (s .args .lib)) (s .args .t)))))
+    (s .pre .0, s .pre .1, capacity (fits s) (cells p) (totalLine (cellsOf (s .args .lib)) (s .args .t)) [] (sym (append-nil (totalLine (cellsOf (s .args .lib)) (s .args .t)))))
 
 returns : tie.Need-returns
 returns c =

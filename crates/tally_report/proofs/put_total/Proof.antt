@@ -1,7 +1,7 @@
 -- `tally_report::put_total` meets its contract: the sums over the listed cells.
 use Rattle.base.specs.{sym, subst, List, ℕ, _+_, _≤_, length, needs}
 use Rattle.base_text.specs.{Wrote}
-use Rattle.tally_report.proofs.Lines.{total-is}
+use Rattle.tally_report.proofs.ReportLines.{total-is}
 use Rattle.tally_report.proofs.put_total.Statement.{statement}
 use Rattle.tally_report.proofs.put_total.Tie as tie
 

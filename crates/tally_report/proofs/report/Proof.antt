@@ -4,22 +4,22 @@ use Rattle.model.specs.{Read, cellsOf, readLibrary, writtenAnswer, writtenPair,
 use Rattle.model.specs.declared.Cell.{Cell}
 use Rattle.model.specs.declared.Library.{Library}
 use Rattle.model.specs.declared.Written.{Written}
-use Rattle.model.proofs.{written-ruled}
+use Rattle.model.proofs.{written-refusal}
 use Rattle.tally_lines.specs.{Listed}
-use Rattle.tally_counting.proofs.{accepted, turned-back, cells-back, listed}
+use Rattle.tally_counting.proofs.{accepted, refused-back, cells-back, listed}
 use Rattle.tally_report.specs.{fitting}
-use Rattle.tally_report.proofs.Pages.{refuses, report-long, report-refused, report-over, report-read, page-enough}
+use Rattle.tally_report.proofs.ReportLength.{refuses, report-long, report-refused, report-over, report-read, page-enough}
 use Rattle.tally_report.proofs.report.Statement.{statement}
 use Rattle.tally_report.proofs.report.Tie as tie
 
 -- the number and value that the answer stands for
-ruled : (w : Written) (q : Read (List ℕ)) {B : Type 0} → (w ≡ writtenAnswer q) × B → (w ≡ writtenAnswer q) × (B × (writtenPair w ≡ writtenBy q))
-ruled w q p = (p .0, (p .1, written-ruled w q (p .0)))
+refusal : (w : Written) (q : Read (List ℕ)) {B : Type 0} → (w ≡ writtenAnswer q) × B → (w ≡ writtenAnswer q) × (B × (writtenPair w ≡ writtenBy q))
+refusal w q p = (p .0, (p .1, written-refusal w q (p .0)))
 
 returns : tie.Need-returns
 returns c =
     let a = c .before .before .before .args in
-    ruled _ (reportOf (a .t) (a .cells .now) (length (a .text .now))) (refuses (reportOf (a .t) (a .cells .now) (length (a .text .now))) 1 0 (a .text .now) (report-long (a .t) (a .cells .now) (length (a .text .now)) (omega arith)))
+    refusal _ (reportOf (a .t) (a .cells .now) (length (a .text .now))) (refuses (reportOf (a .t) (a .cells .now) (length (a .text .now))) 1 0 (a .text .now) (report-long (a .t) (a .cells .now) (length (a .text .now)) (omega arith)))
 
 report-in-requires : tie.Need-report-in-requires
 report-in-requires c κs =
@@ -44,7 +44,7 @@ returns-2 c =
     ap (λ (l : Library). fitting (reportText (cellsOf l) (a .t)) n) (o .isLibrary)
     ∙ ap (λ (cs : List Cell). fitting (reportText cs (a .t)) n) (cells-back (o .cells))
     ∙ sym (report-read (a .t) (a .cells .now) n (omega arith) (o .cells) (o .isRead) (sym (w .ensures .0) ∙ t)) in
-    ruled _ (reportOf (a .t) (a .cells .now) (length (a .text .now))) (c .before .before .report-in .ensures .0 ∙ ap writtenAnswer e, c .before .before .report-in .ensures .1 ∙ ap (λ (x : Read (List ℕ)). writtenAfter x (a .text .now)) e)
+    refusal _ (reportOf (a .t) (a .cells .now) (length (a .text .now))) (c .before .before .report-in .ensures .0 ∙ ap writtenAnswer e, c .before .before .report-in .ensures .1 ∙ ap (λ (x : Read (List ℕ)). writtenAfter x (a .text .now)) e)
 
 returns-3 : tie.Need-returns-3
 returns-3 c =
@@ -52,12 +52,12 @@ returns-3 c =
     let r = c .before .before .before .before .before .read in
     let o = accepted (readLibrary (a .cells .now)) (r .result) (r .ensures .0) (c .before .before .enum-told .given .1) in
     let w = c .before .in-width in
-    ruled _ (reportOf (a .t) (a .cells .now) (length (a .text .now))) (refuses (reportOf (a .t) (a .cells .now) (length (a .text .now))) 28 64 (a .text .now) (report-over (a .t) (a .cells .now) (length (a .text .now)) (omega arith) (o .cells) (o .isRead) (sym (w .ensures .0) ∙ c .if2 .left)))
+    refusal _ (reportOf (a .t) (a .cells .now) (length (a .text .now))) (refuses (reportOf (a .t) (a .cells .now) (length (a .text .now))) 28 64 (a .text .now) (report-over (a .t) (a .cells .now) (length (a .text .now)) (omega arith) (o .cells) (o .isRead) (sym (w .ensures .0) ∙ c .if2 .left)))
 
 returns-4 : tie.Need-returns-4
 returns-4 c =
     let a = c .before .before .before .before .before .before .before .before .args in let r = c .before .before .before .before .read in
-    ruled _ (reportOf (a .t) (a .cells .now) (length (a .text .now))) (refuses (reportOf (a .t) (a .cells .now) (length (a .text .now))) _ _ (a .text .now) (report-refused (a .t) (a .cells .now) (length (a .text .now)) (omega arith) _ _ (turned-back (readLibrary (a .cells .now)) (r .result) (r .ensures .0) _ _ (c .before .verdict .given .1))))
+    refusal _ (reportOf (a .t) (a .cells .now) (length (a .text .now))) (refuses (reportOf (a .t) (a .cells .now) (length (a .text .now))) _ _ (a .text .now) (report-refused (a .t) (a .cells .now) (length (a .text .now)) (omega arith) _ _ (refused-back (readLibrary (a .cells .now)) (r .result) (r .ensures .0) _ _ (c .before .verdict .given .1))))
 
 pub report-spec : {M : Type 1} → statement M
 report-spec = tie.close (tie.spec

@@ -2,7 +2,7 @@
 use Rattle.base.specs.{arith, sym, ap, _∙_, length, needs}
 use Rattle.model.specs.{cellsOf, reportText}
 use Rattle.base_words.specs.{putAt}
-use Rattle.tally_report.proofs.Pages.{page-end, page-is, too-short, fits}
+use Rattle.tally_report.proofs.ReportLength.{page-end, page-is, too-short, fits}
 use Rattle.tally_report.proofs.report_in.Statement.{statement}
 use Rattle.tally_report.proofs.report_in.Tie as tie
 

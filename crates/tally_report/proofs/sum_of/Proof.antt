@@ -1,7 +1,7 @@
 -- `tally_report::sum_of` meets its contract. The invariant: the places before this one are summed; the measure is the places left.
 use Rattle.base.specs.{needs, arith, _≡_, sym, ap, _∙_, refl, ℕ, _+_, _-_, _*_, _^_, _≤_, length, take, getD}
 use Rattle.model.specs.{sum}
-use Rattle.tally_report.proofs.Lines.{sum-step}
+use Rattle.tally_report.proofs.ReportLines.{sum-step}
 use Rattle.tally_report.proofs.sum_of.Statement.{statement}
 use Rattle.tally_report.proofs.sum_of.Tie as tie
 

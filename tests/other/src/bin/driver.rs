@@ -2,7 +2,7 @@
 //! with `--other`, through the reference mapper, with `--pairs` with pairs of
 //! cells too, and prints a line for each, or with `--netlist` the netlist.
 
-use mapper::{bytes_enough_pairs, call, call_pairs, words_needed, Answer};
+use arraymap::{bytes_enough_pairs, call, call_pairs, words_needed, Answer};
 use other::reference;
 use std::io::Write;
 use std::{env, fs, io, process::exit};

@@ -1,24 +1,24 @@
 //! How much stack each call takes, on texts that take it deep: each runs in a thread of exactly
-//! MAPPER_STACK bytes, painted beforehand, above a page that nobody may touch. Compared with
-//! the figures of include/mapper.h: none may be exceeded, or be twice what is measured.
+//! ARRAYMAP_STACK bytes, painted beforehand, above a page that nobody may touch. Compared with
+//! the figures of include/arraymap.h: none may be exceeded, or be twice what is measured.
 //!
-//! `stack [FILE ...]`: files with the same figures, in lines as "`mapper_map` .. 700 KB".
+//! `stack [FILE ...]`: files with the same figures, in lines as "`arraymap_map` .. 700 KB".
 
 use other::gen::{self, Graph, Rng};
 use other::two::Channel;
 use other::{genlib_gen, ours, pages, stack, CUT_LIMIT};
 use std::{env, fs, process};
 
-const HEADER: &str = include_str!("../../../../include/mapper.h");
+const HEADER: &str = include_str!("../../../../include/arraymap.h");
 
 /// The bytes that the header says are enough for every call.
 fn enough() -> Option<usize> {
-    let line = HEADER.lines().find_map(|line| line.strip_prefix("#define MAPPER_STACK "))?;
+    let line = HEADER.lines().find_map(|line| line.strip_prefix("#define ARRAYMAP_STACK "))?;
     line.trim().parse().ok()
 }
 
 /// The bytes that a text says one call takes, in a line with its name and a figure, as in
-/// ` *   mapper_map  1,100 KB` or "`mapper_map` .. | 1,100 KB |".
+/// ` *   arraymap_map  1,100 KB` or "`arraymap_map` .. | 1,100 KB |".
 fn said(text: &str, call: &str) -> Option<usize> {
     text.lines().find_map(|line| {
         let words: Vec<&str> = line.split_whitespace().collect();
@@ -99,14 +99,14 @@ fn measured(stack: usize) -> [(&'static str, usize); 8] {
     let (mut work, mut more) = (vec![0; 1_040_000], vec![0; 1_100_000]);
     let (mut text, mut second) = (vec![0; 1_100_000], vec![0; 1_100_000]);
     let mut most = [
-        ("mapper_map", 0),
-        ("mapper_map_pairs", 0),
-        ("mapper_map_two", 0),
-        ("mapper_map_two_pairs", 0),
-        ("mapper_check", 0),
-        ("mapper_cells", 0),
-        ("mapper_count", 0),
-        ("mapper_report", 0),
+        ("arraymap_map", 0),
+        ("arraymap_map_pairs", 0),
+        ("arraymap_map_two", 0),
+        ("arraymap_map_two_pairs", 0),
+        ("arraymap_check", 0),
+        ("arraymap_cells", 0),
+        ("arraymap_count", 0),
+        ("arraymap_report", 0),
     ];
     let nothing = stack::depth(stack, || {});
     for Texts { what, cells, graph, arrivals, genlib } in &texts() {
@@ -151,7 +151,7 @@ fn measured(stack: usize) -> [(&'static str, usize); 8] {
 
 fn main() {
     let Some(stack) = enough() else {
-        println!("include/mapper.h defines no MAPPER_STACK");
+        println!("include/arraymap.h defines no ARRAYMAP_STACK");
         process::exit(1)
     };
     let files: Vec<(String, String)> = env::args()
@@ -171,10 +171,12 @@ fn main() {
         let figure = said(HEADER, call);
         let right = figure.is_some_and(|said| bytes <= said && said <= stack && said < 2 * bytes + 4_000);
         if !right {
-            println!("{call} takes {bytes} bytes of stack; include/mapper.h says {figure:?}, and {stack} of all calls");
+            println!(
+                "{call} takes {bytes} bytes of stack; include/arraymap.h says {figure:?}, and {stack} of all calls"
+            );
         }
         for (name, text) in files.iter().filter(|(_, text)| said(text, call) != figure) {
-            println!("{name} says {:?} of {call}, and include/mapper.h {figure:?}", said(text, call));
+            println!("{name} says {:?} of {call}, and include/arraymap.h {figure:?}", said(text, call));
             wrong = true;
         }
         wrong |= !right;

@@ -1,7 +1,7 @@
 -- `base_text::Cursor::line_end` meets its contract: `ends_at` says how many bytes of the end stand there.
 use Rattle.base.specs.{needs, sym, ap, _∙_, arith, ltb}
 use Rattle.base_text.specs.{lineEndAt}
-use Rattle.base_text.proofs.Words.{some-end, end-fits}
+use Rattle.base_text.proofs.TextWords.{some-end, end-fits}
 use Rattle.base_text.proofs.Cursor.line_end.Statement.{statement}
 use Rattle.base_text.proofs.Cursor.line_end.Tie as tie
 

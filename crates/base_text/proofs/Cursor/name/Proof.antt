@@ -1,9 +1,9 @@
--- `base_text::Cursor::name` meets its contract: the field is the part of the text that `is_name` judges.
+-- `base_text::Cursor::name` meets its contract: the field is the part of the text that `is_name` validates.
 use Rattle.base.specs.{needs, refl, sym, _∙_, arith, []}
 use Rattle.model.specs.{isName}
 use Rattle.base_text.specs.{nameAt}
-use Rattle.base_text.proofs.Words.{word-out, end-le, end-from, passes-at, fails-at}
-use Rattle.base_text.proofs.Names.{name-empty}
+use Rattle.base_text.proofs.TextWords.{word-out, end-le, end-from, passes-at, fails-at}
+use Rattle.base_text.proofs.NameBytes.{name-empty}
 use Rattle.base_text.proofs.Cursor.name.Statement.{statement}
 use Rattle.base_text.proofs.Cursor.name.Tie as tie
 

@@ -1,9 +1,9 @@
 -- `base_text::Cursor::number` meets its contract: each return knows the first byte of the field.
 use Rattle.base.specs.{needs, sym, ap, _∙_, arith}
 use Rattle.model.specs.{number}
-use Rattle.base_text.proofs.Words.{word-out}
+use Rattle.base_text.proofs.TextWords.{word-out}
 use Rattle.base_text.proofs.Decimal.{number-empty}
-use Rattle.base_text.proofs.Runs.{number-none, zero-first, low-first}
+use Rattle.base_text.proofs.ByteRuns.{number-none, zero-first, low-first}
 use Rattle.base_text.proofs.Cursor.number.Statement.{statement}
 use Rattle.base_text.proofs.Cursor.number.Tie as tie
 

@@ -1,8 +1,8 @@
--- `base_text::Cursor::table` meets its contract: the field is the part of the text that `hex_of` judges.
+-- `base_text::Cursor::table` meets its contract: the field is the part of the text that `hex_of` validates.
 use Rattle.base.specs.{needs, arith}
 use Rattle.model.specs.{hexTable}
 use Rattle.base_text.specs.{tableAt}
-use Rattle.base_text.proofs.Words.{word-out, end-le, end-from, found-at, not-at}
+use Rattle.base_text.proofs.TextWords.{word-out, end-le, end-from, found-at, not-at}
 use Rattle.base_text.proofs.Hex.{value-is, value-none, table-empty}
 use Rattle.base_text.proofs.Cursor.table.Statement.{statement}
 use Rattle.base_text.proofs.Cursor.table.Tie as tie

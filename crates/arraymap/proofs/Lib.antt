@@ -1,0 +1,2 @@
+-- `AnswerValues`: the values of each case of an answer.
+pub mod AnswerValues

@@ -1,0 +1,2 @@
+-- `SlotLookup`: a look-up by its answer.
+pub mod SlotLookup

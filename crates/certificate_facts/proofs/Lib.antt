@@ -1,0 +1,2 @@
+-- `StoredRows`: reading and writing a row.
+pub mod StoredRows

@@ -1,0 +1,11 @@
+pub mod Places
+pub mod Orders
+pub mod Walks
+pub mod Rows
+pub mod Latest
+pub mod CutOrder
+pub mod CellRelations
+pub mod Sources
+pub mod CoverEquivalence
+pub mod Prefer
+pub mod Memory

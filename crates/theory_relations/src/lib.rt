@@ -1,0 +1,1 @@
+// Laws of covers by relations: cuts, walks, orders, matches, inverters, feeding and arrivals, each against the definition that computes it; no code.
