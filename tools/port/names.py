@@ -56,14 +56,22 @@ def turned():
             yield from (os.path.join(d, f) for f in sorted(fs) if f.endswith(end))
 
 
-def turn(line, table):
+def turn(line, table, rust):
     """The line with each name of the table turned, but for quoted text of code and the backticks round a name in a comment."""
-    out, at = [], 0
-    for m in re.finditer(r"\"(?:[^\"\\\n]|\\.)*\"|[^\s(){}.;,@\"«»`]+", line):
-        out.append(line[at : m.start()])
-        out.append(m[0] if m[0][0] == '"' else table.get(m[0], m[0]))
-        at = m.end()
-    return "".join(out) + line[at:]
+
+    def one(m):
+        w = m[0]
+        if w[0] == '"' or w not in table:
+            return w
+        # a lemma that had no dash and no capital may have the name of a function of src/, of its module or of a call in a proof
+        if not CAMEL.search(w) and "-" not in w and "·" not in w and (rust or m.string[m.start() - 1 : m.start()] == "."):
+            return w
+        return table[w]
+
+    return re.sub(r'"(?:[^"\\\n]|\\.)*"|' + (RUST_WORD if rust else r'[^\s(){}.;,@"«»`]+'), one, line)
+
+
+RUST_WORD = r"""[^\W\d][\w'₀-₉·]*(?:-[\w'₀-₉]+)*"""
 
 
 def snake(word):
@@ -142,7 +150,7 @@ def main():
             functions_of[p.split("/")[1]].update(re.findall(r"\bfn (\w+)", f.read()))
     for token in sorted(own):
         new = table.get(token)
-        if any("/proofs/" in p and new in functions_of[p.split("/")[1]] for p in declared[token]):
+        if token not in FIXED and any("/proofs/" in p and new in functions_of[p.split("/")[1]] for p in declared[token]):
             table[token] = new + "_value"
             print("has a function's name:", token, table[token])
     # what falls together
@@ -167,7 +175,7 @@ def main():
         for p in turned():
             with open(p, encoding="utf-8") as f:
                 old = f.read()
-            new = "\n".join(turn(line, table) for line in old.split("\n"))
+            new = "\n".join(turn(line, table, p.endswith(".rt") or "/must-fail/" in p) for line in old.split("\n"))
             new = re.sub(r"(?<![^\s{,])(" + WORD.pattern + r") as \1(?=[,}\s])", r"\1", new)
             if new != old:
                 with open(p, "w", encoding="utf-8") as f:
@@ -199,6 +207,10 @@ FIXED = {
     "eqb·zero-suc": "eqb-zero-suc",
     # a crate has the name cut_lists
     "cutLists": "cut_lists_of",
+    # local names beside functions
+    "minArrival": "min_arrival",
+    "pinTime": "pin_time",
+    "feeds-itself": "feeds_itself_lem",
 }
 if __name__ == "__main__":
     main()

@@ -219,8 +219,8 @@ module _ (m c v k : ℕ) (column : c < 5) (inside : v ≤ m) (few : k < cut_limi
       (arith, o.place, o.one, ends m 0 (cut_column c) v k (o.listed inside few), edges m 0 (suc (rank (cut_column c))) (rank functions) (omega (arith, o.number)))
 
   pub cut-words-apart : (d u j : ℕ) → d < 5 → u ≤ m → j < cut_limit → (c ≡ d → v ≡ u → k ≡ j → ⊥) → cut_addr m c v k ≡ cut_addr m d u j → ⊥
-  cut-words-apart d u j other within min_arrival_value n e =
+  cut-words-apart d u j other within min_arrival n e =
       let o = of_cut m c v k column in let p = of_cut m d u j other in
-      (never_meet m 0 (cut_column c) (cut_column d) v k u j (o.listed inside few) (p.listed within min_arrival_value)
+      (never_meet m 0 (cut_column c) (cut_column d) v k u j (o.listed inside few) (p.listed within min_arrival)
       (λ same. n (let r : rank (cut_column c) ≡ rank (cut_column d) = ap rank same in omega (arith, r, o.number, p.number)))).apart 0 0
       (omega (arith, o.one)) (omega (arith, p.one)) (omega (arith, o.place, p.place, e))

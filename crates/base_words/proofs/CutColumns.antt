@@ -90,7 +90,7 @@ record InLists (m i : ℕ) : Type 0 where
   column : ℕ
   here : i ≡ former_addr m variable number + column
   within : variable ≤ m
-  min_arrival_value : number < cut_limit
+  min_arrival : number < cut_limit
   five : column < 5
 
 in_lists : (m i : ℕ) → lists_from m ≤ i → i < lists_to m → InLists m i
@@ -102,7 +102,7 @@ in_lists m i a b =
       column = q % 5;
       here = omega arith;
       within = omega arith;
-      min_arrival_value = omega arith;
+      min_arrival = omega arith;
       five = omega arith;
     }
 
@@ -162,12 +162,12 @@ module _ (w : List ℕ) (m v k : ℕ) (ws : List ℕ) (fits : HasCapacity w m) (
   -- a word of cut j of u
   stored-word : (u j c : ℕ) → u ≤ m → j < cut_limit → c < 5
       → get_or (former m (put_cut w m v k ws)) (former_addr m u j + c) 0 ≡ get_or (put_at (former m w) (former_addr m v k) ws) (former_addr m u j + c) 0
-  stored-word u j c within min_arrival_value h = cut_word_lem m (put_cut w m v k ws) fits-put u j within min_arrival_value c h ∙ by (eqb u v) refl (eqb j k) refl
+  stored-word u j c within min_arrival h = cut_word_lem m (put_cut w m v k ws) fits-put u j within min_arrival c h ∙ by (eqb u v) refl (eqb j k) refl
     where
       other : (u ≡ v → j ≡ k → ⊥)
           → get_or (put_cut w m v k ws) (cut_addr m c u j) 0 ≡ get_or (put_at (former m w) (former_addr m v k) ws) (former_addr m u j + c) 0
       other n =
-          word_stays w m v k ws fits inside few five u j within min_arrival_value n c h ∙ sym (cut_word_lem m w fits u j within min_arrival_value c h) ∙ sym
+          word_stays w m v k ws fits inside few five u j within min_arrival n c h ∙ sym (cut_word_lem m w fits u j within min_arrival c h) ∙ sym
           (get_apart (former m w) (former_addr m v k) ws fits-former (former_addr m u j + c)
           (λ d b e. let same : u ≡ v = omega arith in n same (omega arith)))
 
@@ -202,7 +202,7 @@ module _ (w : List ℕ) (m v k : ℕ) (ws : List ℕ) (fits : HasCapacity w m) (
       by false e true f =
           let o = in_lists m i (ltb-false i (lists_from m) e) (ltb-true i (lists_to m) f) in
           ap (λ (x : ℕ). get_or (former m (put_cut w m v k ws)) x 0) o.here
-          ∙ stored-word o.variable o.number o.column o.within o.min_arrival_value o.five
+          ∙ stored-word o.variable o.number o.column o.within o.min_arrival o.five
           ∙ sym (ap (λ (x : ℕ). get_or (put_at (former m w) (former_addr m v k) ws) x 0) o.here)
 
   pub former-put-cut : former m (put_cut w m v k ws) ≡ former_put (former m w) m v k ws
@@ -227,12 +227,12 @@ module _ (w : List ℕ) (m at : ℕ) (vs : List ℕ) (fits : HasCapacity w m) (c
   kept_word : (i : ℕ) → lists_from m ≤ i → i < lists_to m → i < length w → get_or (former m (put_at w at vs)) i 0 ≡ get_or (put_at (former m w) at vs) i 0
   kept_word i a b l =
       let o = in_lists m i a b in let to : ℕ = cut_addr m o.column o.variable o.number in
-      let from : lists_from m ≤ to = cut-from m o.column o.variable o.number o.five o.within o.min_arrival_value in
-      let below : to < lists_to m = cut_to m o.column o.variable o.number o.five o.within o.min_arrival_value in
+      let from : lists_from m ≤ to = cut-from m o.column o.variable o.number o.five o.within o.min_arrival in
+      let below : to < lists_to m = cut_to m o.column o.variable o.number o.five o.within o.min_arrival in
       ap (λ (x : ℕ). get_or (former m (put_at w at vs)) x 0) o.here
-      ∙ cut_word_lem m (put_at w at vs) fits_changed o.variable o.number o.within o.min_arrival_value o.column o.five
+      ∙ cut_word_lem m (put_at w at vs) fits_changed o.variable o.number o.within o.min_arrival o.column o.five
       ∙ get_apart w at vs capacity to (λ d h e. let c : lists_to m ≤ at = outside (omega arith) in omega arith)
-      ∙ sym (cut_word_lem m w fits o.variable o.number o.within o.min_arrival_value o.column o.five)
+      ∙ sym (cut_word_lem m w fits o.variable o.number o.within o.min_arrival o.column o.five)
       ∙ sym (ap (λ (x : ℕ). get_or (former m w) x 0) o.here)
       ∙ sym (get_apart (former m w) at vs capacity-former i (λ d h e. let c : lists_to m ≤ at = outside (omega arith) in omega arith))
 

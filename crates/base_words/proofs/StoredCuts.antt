@@ -165,12 +165,12 @@ module _ (w : List ℕ) (m v k : ℕ) (ws : List ℕ) (fits : HasCapacity w m) (
   cut-stored = same-cut (λ c. get_or (put_cut w m v k ws) (cut_addr m c v k) 0) (λ c. get_or ws c 0) word-stored
 
   -- every other cut stays
-  module _ (u j : ℕ) (within : u ≤ m) (min_arrival_value : j < cut_limit) (other : u ≡ v → j ≡ k → ⊥) where
+  module _ (u j : ℕ) (within : u ≤ m) (min_arrival : j < cut_limit) (other : u ≡ v → j ≡ k → ⊥) where
     pub word_stays : (c : ℕ) → c < 5 → get_or (put_cut w m v k ws) (cut_addr m c u j) 0 ≡ get_or w (cut_addr m c u j) 0
     unfolding put_cut
     word_stays c h =
         from-apart m v k inside few w 0 ws fits wide (cut_addr m c u j)
-        (λ d a i. cut-words-apart m c u j h within min_arrival_value d v k i inside few (λ e. other))
+        (λ d a i. cut-words-apart m c u j h within min_arrival d v k i inside few (λ e. other))
 
     pub cut_apart : cut_of (put_cut w m v k ws) m u j ≡ cut_of w m u j
     unfolding cut_of

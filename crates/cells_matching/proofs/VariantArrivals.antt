@@ -70,20 +70,20 @@ unfolding latest arrivals
 latest_bare p ps = ap (λ (t : ℕ). max t (latest (arrivals ps) [])) (sym (add-zero p.arrival))
 
 -- what a pin that is fed from a place adds
-unfoldable pin_time_value : List ℕ → ℕ → Bool → ℕ → ℕ
-pin_time_value times place neg d = get_or times (literal neg place) 0 + d
+unfoldable pin_time : List ℕ → ℕ → Bool → ℕ → ℕ
+pin_time times place neg d = get_or times (literal neg place) 0 + d
 
 arrival_cons : (m place : ℕ) (places : List ℕ) (mask d : ℕ) (ds times : List ℕ)
-    → arrival_of (suc m) (d ∷ ds) (place ∷ places) mask times ≡ max (pin_time_value times place (bit mask 0) d) (arrival_of m ds places (mask / 2) times)
-unfolding arrival_of largest pin_at pin_time_value bit
+    → arrival_of (suc m) (d ∷ ds) (place ∷ places) mask times ≡ max (pin_time times place (bit mask 0) d) (arrival_of m ds places (mask / 2) times)
+unfolding arrival_of largest pin_at pin_time bit
 arrival_cons m place places mask d ds times =
-    ap (max (pin_time_value times place (bit mask 0) d)) (largest_shift (pin_at (d ∷ ds) (place ∷ places) mask times) m 0)
+    ap (max (pin_time times place (bit mask 0) d)) (largest_shift (pin_at (d ∷ ds) (place ∷ places) mask times) m 0)
 
 arrival_bare : (m place : ℕ) (places : List ℕ) (mask : ℕ) (times : List ℕ)
-    → arrival_of (suc m) [] (place ∷ places) mask times ≡ max (pin_time_value times place (bit mask 0) 0) (arrival_of m [] places (mask / 2) times)
-unfolding arrival_of largest pin_at pin_time_value bit
+    → arrival_of (suc m) [] (place ∷ places) mask times ≡ max (pin_time times place (bit mask 0) 0) (arrival_of m [] places (mask / 2) times)
+unfolding arrival_of largest pin_at pin_time bit
 arrival_bare m place places mask times =
-    ap (max (pin_time_value times place (bit mask 0) 0)) (largest_shift (pin_at [] (place ∷ places) mask times) m 0)
+    ap (max (pin_time times place (bit mask 0) 0)) (largest_shift (pin_at [] (place ∷ places) mask times) m 0)
 
 and_first : (a b : Bool) → (a && b) ≡ true → a ≡ true
 and_first true b e = refl
@@ -99,8 +99,8 @@ fed known cut m places mask = map (phase_of known) (fed_nets m places mask cut)
 
 module _ (known : ℕ → Phases) (cut times : List ℕ) (timed : TimesOf known cut times) (quick : Quick known cut) where
   pin-feeds : (place : ℕ) (neg : Bool) (d : ℕ) → place < length cut
-      → pin_time_value times place neg d ≡ time_of (phase_of known (literal neg (get_or cut place 0))) + d
-  unfolding pin_time_value
+      → pin_time times place neg d ≡ time_of (phase_of known (literal neg (get_or cut place 0))) + d
+  unfolding pin_time
   pin-feeds place neg d h = ap (λ (t : ℕ). t + d) (timed.there place neg h)
 
   pin_quick : (place : ℕ) (neg : Bool) → place < length cut → (phase_of known (literal neg (get_or cut place 0))).arrival ≤ last_time
@@ -123,12 +123,12 @@ module _ (known : ℕ → Phases) (cut times : List ℕ) (timed : TimesOf known 
   -- one pin more
   fed-more : (m place : ℕ) (places : List ℕ) (mask d : ℕ) (ds es : List ℕ) (a : ℕ) → places_below (suc m) (place ∷ places) (length cut) ≡ true → d < 131072
       → ((p : Phase) (ps : List Phase) → latest (arrivals (p ∷ ps)) es ≡ max (p.arrival + d) (latest (arrivals ps) ds))
-      → Right (fed known cut m places (mask / 2)) ds a → Right (fed known cut (suc m) (place ∷ places) mask) es (max (pin_time_value times place (bit mask 0) d) a)
+      → Right (fed known cut m places (mask / 2)) ds a → Right (fed known cut (suc m) (place ∷ places) mask) es (max (pin_time times place (bit mask 0) d) a)
   fed-more m place places mask d ds es a fit small cons r =
       let h : place < length cut = fit-first m place places fit in
       let p : Phase = phase_of known (literal (bit mask 0) (get_or cut place 0)) in
       rw fed_cons
-      (pin-joined p (fed known cut m places (mask / 2)) (pin_time_value times place (bit mask 0) d) d a (pin-feeds place (bit mask 0) d h) (pin_quick place (bit mask 0) h) small ds es (cons p (fed known cut m places (mask / 2))) r)
+      (pin-joined p (fed known cut m places (mask / 2)) (pin_time times place (bit mask 0) d) d a (pin-feeds place (bit mask 0) d h) (pin_quick place (bit mask 0) h) small ds es (cons p (fed known cut m places (mask / 2))) r)
 
   fed-none : (places : List ℕ) (mask : ℕ) (ds : List ℕ) → Right (fed known cut 0 places mask) ds (arrival_of 0 ds places mask times)
   unfolding fed fed_nets arrival_of largest latest arrivals lacks any
@@ -151,8 +151,8 @@ module _ (known : ℕ → Phases) (cut times : List ℕ) (timed : TimesOf known 
 
 module _ (known : ℕ → Phases) (cut times : List ℕ) (timed : TimesOf known cut times) where
   input-arrival-more : (place : ℕ) (neg : Bool) (d a : ℕ) (rest : Bool) → place < 4 → (ltb place (length cut) && rest) ≡ false → (rest ≡ false → infinite ≤ a)
-      → infinite ≤ max (pin_time_value times place neg d) a
-  unfolding pin_time_value
+      → infinite ≤ max (pin_time times place neg d) a
+  unfolding pin_time
   input-arrival-more place neg d a rest four e more = by_bool (ltb place (length cut))
       (λ q. let h : infinite ≤ a = more (sym (ap (λ (b : Bool). b && rest) q) ∙ e) in omega arith)
       (λ q. let h : get_or times (literal neg place) 0 ≡ infinite = timed.past place neg (ltb-false place (length cut) q) four in omega arith)

@@ -124,17 +124,17 @@ module _ (inputs : List (List ℕ)) (ds : List Driver) (nets ins : List ℕ) (n 
 
   -- ---- "a net on a circle"
 
-  feeds_itself_value : (i : ℕ) → i < n → on_cycle ds (get_or ds i no_driver) ≡ true → Back refs i i
-  feeds_itself_value i h e =
+  feeds_itself_lem : (i : ℕ) → i < n → on_cycle ds (get_or ds i no_driver) ≡ true → Back refs i i
+  feeds_itself_lem i h e =
       feeds-back (net_at ds i) (net_at ds i) (found-cycle ds (get_or ds i no_driver) (is-driver inputs ds nets ins n count st i h) e) i i h h refl refl
 
   pub cycle-at : (r : ℕ) → r < n → ((i : ℕ) → i < r → Back refs i i → ⊥) → Back refs r r → first_line (on_cycle ds) ds ≡ some (get_or ds r no_driver).offset
   cycle-at r h f b =
-      first_some (on_cycle ds) ds r (omega (arith, st.drivers)) (λ i q e. f i q (feeds_itself_value i (omega arith) e))
+      first_some (on_cycle ds) ds r (omega (arith, st.drivers)) (λ i q e. f i q (feeds_itself_lem i (omega arith) e))
       (cycle-found ds same-net (get_or ds r no_driver) (is-driver inputs ds nets ins n count st r h) (back-feeds r r h b))
 
   pub cycle_nowhere : ((i : ℕ) → i < n → Back refs i i → ⊥) → first_line (on_cycle ds) ds ≡ none
-  cycle_nowhere f = first-none (on_cycle ds) ds (λ i q e. let h : i < n = omega (arith, st.drivers) in f i h (feeds_itself_value i h e))
+  cycle_nowhere f = first-none (on_cycle ds) ds (λ i q e. let h : i < n = omega (arith, st.drivers) in f i h (feeds_itself_lem i h e))
 
   no_cycle_lem : ((i : ℕ) → i < n → Back refs i i → ⊥) → NoCycle ds
   no_cycle_lem f d m w =

@@ -204,7 +204,7 @@ fn from_stored(
 }
 
 // The function of a cut of v: v is of this kind and has the operands l and r.
-fn cut_word_lem(
+fn cut_word(
     work: &[u16],
     m: usize,
     notes: &mut Notes,
@@ -263,7 +263,7 @@ fn fill_one(
     let leaves = c.leaves;
     let n = c.count;
     note_leaves(notes, base, leaves, n);
-    let x = cut_word_lem(work, m, notes, base, leaves, n, v, kind, l, r);
+    let x = cut_word(work, m, notes, base, leaves, n, v, kind, l, r);
     base_words::set_function(work, m, v, k, x);
 }
 

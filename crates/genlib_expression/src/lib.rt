@@ -99,7 +99,7 @@ pub fn nth_bytes(w: &[u8], k: usize) -> &[u8]
 }
 
 // The bytes are a name.
-pub fn is_word_lem(w: &[u8]) -> bool
+pub fn is_word(w: &[u8]) -> bool
     ensures { result ≡ is_word w.now }
 {
     w.len() > 0 && base_text::span_end(w, 0, Class::Name) == w.len()
@@ -156,7 +156,7 @@ fn scan_at(w: &[u8], t: Token, s: Scan) -> Scan
         return s;
     }
     match s {
-        Scan::Expected(depth) => scan_expected(depth, w[from], is_word_lem(&w[from..to])),
+        Scan::Expected(depth) => scan_expected(depth, w[from], is_word(&w[from..to])),
         Scan::After(depth) => scan_after(depth, w[from]),
         Scan::Done => Scan::Broken,
         Scan::Broken => Scan::Broken,
@@ -247,7 +247,7 @@ fn index(w: &[u8], p: Pins, t: &[u8]) -> usize
 pub fn is_pin(t: &[u8]) -> bool
     ensures { result ≡ is_pin t.now }
 {
-    is_word_lem(t) && (!base_text::same_bytes(t, b"CONST0") && !base_text::same_bytes(t, b"CONST1"))
+    is_word(t) && (!base_text::same_bytes(t, b"CONST0") && !base_text::same_bytes(t, b"CONST1"))
 }
 
 // The list with a name that is added if it is not in it; a fifth makes `n` 5.
@@ -358,7 +358,7 @@ fn name(w: &[u8], at: usize, p: Pins, odd: bool) -> Parsed
     let t = next_token(w, at);
     let from = t.from;
     let to = t.to;
-    if is_word_lem(&w[from..to]) {
+    if is_word(&w[from..to]) {
         let v = name_value(w, p, &w[from..to]);
         let q = negated_by_signs(w, to, b'\'', odd);
         Parsed::At(base_truth::in_phase(q.value, v), q.at)

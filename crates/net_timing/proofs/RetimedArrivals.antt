@@ -47,8 +47,8 @@ module _ (g : Graph) (ok : Accepted g) (free : over_limit g ≡ []) where
     abbrev src : ℕ → Source
     src l = (chosen cells g l).source
 
-    abbrev min_arrival_value : ℕ → ℕ
-    min_arrival_value = min_arrival_of cells g
+    abbrev min_arrival : ℕ → ℕ
+    min_arrival = min_arrival_of cells g
 
     abbrev Here : ℕ → Type 0
     Here l = Present cells g (order-once g ok) l
@@ -66,20 +66,20 @@ module _ (g : Graph) (ok : Accepted g) (free : over_limit g ≡ []) where
     small l h = let v : l / 2 ≤ g.size = order_small g ok (var_of l) (ordered l h) in omega arith
 
     -- its minimum arrival is at most its arrival
-    min-arrival-soon : (l : ℕ) → Here l → min_arrival_value l ≤ 1073741823
+    min-arrival-soon : (l : ℕ) → Here l → min_arrival l ≤ 1073741823
     unfolding min_arrival_of
     min-arrival-soon l h =
-        let b : min_arrival_value l ≤ (chosen cells g l).arrival = retimed-below cells g once (λ x. (cell_of cells (chosen cells g x).source).mins) ranged l h in
+        let b : min_arrival l ≤ (chosen cells g l).arrival = retimed-below cells g once (λ x. (cell_of cells (chosen cells g x).source).mins) ranged l h in
         omega (arith, soon l (small l h))
 
-    rule : (l : ℕ) → Here l → min_arrival_value l ≡ time_by cells g (cell_of cells (src l)).mins min_arrival_value l (src l)
+    rule : (l : ℕ) → Here l → min_arrival l ≡ time_by cells g (cell_of cells (src l)).mins min_arrival l (src l)
     unfolding min_arrival_of
     rule l h = retimed_rule cells g once (λ x. (cell_of cells (chosen cells g x).source).mins) l h
 
     -- ---- a step
 
     module _ (w : List ℕ) (r : Ready w cells g) (pre : List ℕ) (v : ℕ) (post : List ℕ) (e : topological_order g ≡ pre ++ (v ∷ post))
-        (known : (l : ℕ) → Memᴰ (var_of l) pre → Here l → min_arrival_at w g.size l ≡ min_arrival_value l) where
+        (known : (l : ℕ) → Memᴰ (var_of l) pre → Here l → min_arrival_at w g.size l ≡ min_arrival l) where
       before : (x : ℕ) → Here x → ¬ Memᴰ (var_of x) (v ∷ post) → Memᴰ (var_of x) pre
       before x h n = go (Memᴰ-append_cases pre (subst (λ (vs : List ℕ). Memᴰ (var_of x) vs) e (ordered x h)))
         where
@@ -88,29 +88,29 @@ module _ (g : Graph) (ok : Accepted g) (free : over_limit g ≡ []) where
           go (inr i) = absurd (n i)
 
       -- a phase that no inverter drives
-      own-represented : (l : ℕ) → var_of l ≡ v → Here l → Straight (src l) → own_at cells w g.size l ≡ min_arrival_value l
+      own-represented : (l : ℕ) → var_of l ≡ v → Here l → Straight (src l) → own_at cells w g.size l ≡ min_arrival l
       unfolding own_min match_min time_by feeds var_of cut_at cell_of
       own-represented l p h t =
           ap (λ (q : Phase). own_min cells w g.size l q.source) (r.phases l (small l h))
           ∙ go (src l) refl t ∙ sym (rule l h)
         where
-          go : (s : Source) → src l ≡ s → Straight s → own_min cells w g.size l s ≡ time_by cells g (cell_of cells (src l)).mins min_arrival_value l (src l)
-          go Input q u = r.input_arrival (l / 2) (let z = small l h in omega arith) ∙ sym (ap (time_by cells g (cell_of cells (src l)).mins min_arrival_value l) q)
+          go : (s : Source) → src l ≡ s → Straight s → own_min cells w g.size l s ≡ time_by cells g (cell_of cells (src l)).mins min_arrival l (src l)
+          go Input q u = r.input_arrival (l / 2) (let z = small l h in omega arith) ∙ sym (ap (time_by cells g (cell_of cells (src l)).mins min_arrival l) q)
           go Nothing q u = absurd u
           go (Inverted c) q u = absurd u
           go (Matched x) q u =
               let k = is_match_lem cells g once l x q in
               let z = small l h in
               ap (λ (ls : List ℕ). latest_min w g.size (match_nets cells ls x) (cell_at cells x.cell).mins) (r.cuts (l / 2) (omega arith) x.cut k.has_cut)
-              ∙ latest-represented w g.size min_arrival_value (feeds cells (cuts_of g) l (Matched x)) (cell_at cells x.cell).mins (λ y i.
+              ∙ latest-represented w g.size min_arrival (feeds cells (cuts_of g) l (Matched x)) (cell_at cells x.cell).mins (λ y i.
               let i' : Memᴰ y (feeds cells (cuts_of g) l (src l)) = subst (λ (s : Source). Memᴰ y (feeds cells (cuts_of g) l s)) (sym q) i in
               let here : Here y = (chosen_fine cells g once l h).0.fed_by y i' in
               (known y (before y here (straight-before cells g once pre v post e l p t y i')) here, min-arrival-soon y here)) (short x.cell)
-              ∙ ap (λ (s : Source). latest (map min_arrival_value (feeds cells (cuts_of g) l (Matched x))) (cell_of cells s).mins) (sym q)
-              ∙ sym (ap (time_by cells g (cell_of cells (src l)).mins min_arrival_value l) q)
+              ∙ ap (λ (s : Source). latest (map min_arrival (feeds cells (cuts_of g) l (Matched x))) (cell_of cells s).mins) (sym q)
+              ∙ sym (ap (time_by cells g (cell_of cells (src l)).mins min_arrival l) q)
 
       -- any phase
-      stored-represented : (l : ℕ) → var_of l ≡ v → Here l → inverter_min cells (own_at cells w g.size l) (own_at cells w g.size (opposite l)) (phase_at w g.size l).source ≡ min_arrival_value l
+      stored-represented : (l : ℕ) → var_of l ≡ v → Here l → inverter_min cells (own_at cells w g.size l) (own_at cells w g.size (opposite l)) (phase_at w g.size l).source ≡ min_arrival l
       unfolding inverter_min time_by feeds cell_of latest absent
       stored-represented l p h = ap (λ (q : Phase). inverter_min cells (own_at cells w g.size l) (own_at cells w g.size (opposite l)) q.source) (r.phases l (small l h)) ∙ go (src l) refl
         where
@@ -121,7 +121,7 @@ module _ (g : Graph) (ok : Accepted g) (free : over_limit g ≡ []) where
           one t [] = (let z : t + 0 ≡ t = omega arith in z) ∙ max-zero t
           one t (d ∷ ds) = max-zero (t + d)
 
-          go : (s : Source) → src l ≡ s → inverter_min cells (own_at cells w g.size l) (own_at cells w g.size (opposite l)) s ≡ min_arrival_value l
+          go : (s : Source) → src l ≡ s → inverter_min cells (own_at cells w g.size l) (own_at cells w g.size (opposite l)) s ≡ min_arrival l
           go Input q = own-represented l p h (subst Straight (sym q) tt)
           go Nothing q = absurd (true≢false (ap absent (sym q) ∙ h))
           go (Matched x) q = own-represented l p h (subst Straight (sym q) tt)
@@ -129,17 +129,17 @@ module _ (g : Graph) (ok : Accepted g) (free : over_limit g ≡ []) where
               let here : Here (opposite l) = (chosen_fine cells g once l h).0.fed_by (opposite l) (subst (λ (s : Source). Memᴰ (opposite l) (feeds cells (cuts_of g) l s)) (sym q) (Memᴰ-head refl)) in
               let o = own-represented (opposite l) (opposite-var l ∙ p) here ((chosen_fine cells g once l h).1 c q) in
               ap (λ (t : ℕ). after t (get_or (cell_at cells c).mins 0 0)) o
-              ∙ after_is (min_arrival_value (opposite l)) (get_or (cell_at cells c).mins 0 0) (omega (arith, min-arrival-soon (opposite l) here, short c 0))
-              ∙ one (min_arrival_value (opposite l)) (cell_at cells c).mins
-              ∙ ap (λ (s : Source). latest (min_arrival_value (opposite l) ∷ []) (cell_of cells s).mins) (sym q)
-              ∙ sym (ap (time_by cells g (cell_of cells (src l)).mins min_arrival_value l) q)
+              ∙ after_is (min_arrival (opposite l)) (get_or (cell_at cells c).mins 0 0) (omega (arith, min-arrival-soon (opposite l) here, short c 0))
+              ∙ one (min_arrival (opposite l)) (cell_at cells c).mins
+              ∙ ap (λ (s : Source). latest (min_arrival (opposite l) ∷ []) (cell_of cells s).mins) (sym q)
+              ∙ sym (ap (time_by cells g (cell_of cells (src l)).mins min_arrival l) q)
               ∙ sym (rule l h)
 
       inside : v ≤ g.size
       inside = order_small g ok v (subst (λ (vs : List ℕ). Memᴰ v vs) (sym e) (Memᴰ-append_right pre (Memᴰ-head refl)))
 
       -- both phases are stored, and those of the variables before stay
-      step-represented : (l : ℕ) → Memᴰ (var_of l) (pre ++ (v ∷ [])) → Here l → min_arrival_at (retimed_step cells w g.size v) g.size l ≡ min_arrival_value l
+      step-represented : (l : ℕ) → Memᴰ (var_of l) (pre ++ (v ∷ [])) → Here l → min_arrival_at (retimed_step cells w g.size v) g.size l ≡ min_arrival l
       unfolding var_of opposite negated literal
       step-represented l i h = go (Memᴰ-append_cases pre i)
         where
@@ -148,7 +148,7 @@ module _ (g : Graph) (ok : Accepted g) (free : over_limit g ≡ []) where
           apart (x ∷ vs) d (Memᴰ-head q) = d.0 (Memᴰ-cast (sym q) (Memᴰ-append_right vs (Memᴰ-head refl)))
           apart (x ∷ vs) d (Memᴰ-tail m) = apart vs d.1 m
 
-          this : l / 2 ≡ v → (t : Bool) → eqb (l % 2) 1 ≡ t → min_arrival_at (retimed_step cells w g.size v) g.size l ≡ min_arrival_value l
+          this : l / 2 ≡ v → (t : Bool) → eqb (l % 2) 1 ≡ t → min_arrival_at (retimed_step cells w g.size v) g.size l ≡ min_arrival l
           this p true q =
               let is : l ≡ 2 * v + 1 = omega (arith, eqb-true (l % 2) 1 q) in
               let o : opposite l ≡ 2 * v = ap (λ (b : Bool). literal (not b) (l / 2)) q ∙ (let z : 2 * (l / 2) ≡ 2 * v = omega arith in z) in
@@ -165,7 +165,7 @@ module _ (g : Graph) (ok : Accepted g) (free : over_limit g ≡ []) where
               ∙ ap₂ (λ (x y : ℕ). stored cells w g.size v r.capacity inside x y) (sym is) (sym o)
               ∙ stored-represented l p h
 
-          go : Memᴰ (var_of l) pre ⊎ Memᴰ (var_of l) (v ∷ []) → min_arrival_at (retimed_step cells w g.size v) g.size l ≡ min_arrival_value l
+          go : Memᴰ (var_of l) pre ⊎ Memᴰ (var_of l) (v ∷ []) → min_arrival_at (retimed_step cells w g.size v) g.size l ≡ min_arrival l
           go (inl a) = step_other cells w g.size v r.capacity inside l (λ q. apart pre (subst Distinct e once) (Memᴰ-cast (sym q) a)) ∙ known l a h
           go (inr a) = this (Memᴰ-eq_of_singleton a) (eqb (l % 2) 1) refl
 
@@ -176,7 +176,7 @@ module _ (g : Graph) (ok : Accepted g) (free : over_limit g ≡ []) where
       up i = retimed_up cells w g.size i
 
       up_represented : (i : ℕ) → i ≤ length (topological_order g)
-          → MinsKept g.size w (up i) × ((l : ℕ) → Memᴰ (var_of l) (take i (topological_order g)) → Here l → min_arrival_at (up i) g.size l ≡ min_arrival_value l)
+          → MinsKept g.size w (up i) × ((l : ℕ) → Memᴰ (var_of l) (take i (topological_order g)) → Here l → min_arrival_at (up i) g.size l ≡ min_arrival l)
       unfolding retimed_up
       up_represented zero h = (kept_same (lists_to g.size) (output_addr g.size 0) w, λ l m k. absurd (Memᴰ-not-nil m))
       up_represented (suc i) h =

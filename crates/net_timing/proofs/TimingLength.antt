@@ -6,9 +6,9 @@ use Rattle.base_words.specs.{output_at, min_arrival_at, phase_at}
 use Rattle.net_writer.proofs.{each_next, each_none}
 use Rattle.net_timing.specs.{line_text, line_length, line_of, lines_from}
 
-pub line-length : (k min_arrival_value high : ℕ) → length (line_text k min_arrival_value high) ≡ line_length k min_arrival_value high
+pub line-length : (k min_arrival high : ℕ) → length (line_text k min_arrival high) ≡ line_length k min_arrival high
 unfolding line_text text
-line-length k min_arrival_value high = simp length-append (omega arith)
+line-length k min_arrival high = simp length-append (omega arith)
 
 -- ---- line by line
 
@@ -24,19 +24,19 @@ module _ (w : List ℕ) (m n : ℕ) where
 -- ---- the lines of a graph's outputs
 
 -- where the words have the outputs and their two arrivals
-pub lines_are : (w : List ℕ) (m : ℕ) (min_arrival_value high : ℕ → ℕ) (i : ℕ) (ls : List ℕ) → ((j : ℕ) → j < length ls → output_at w m (i + j) ≡ get_or ls j 0)
-    → ((l : ℕ) → Memᴰ l ls → (min_arrival_at w m l ≡ min_arrival_value l) × ((phase_at w m l).arrival ≡ high l)) → lines_from w m i (length ls) ≡ timing_lines min_arrival_value high i ls
+pub lines_are : (w : List ℕ) (m : ℕ) (min_arrival high : ℕ → ℕ) (i : ℕ) (ls : List ℕ) → ((j : ℕ) → j < length ls → output_at w m (i + j) ≡ get_or ls j 0)
+    → ((l : ℕ) → Memᴰ l ls → (min_arrival_at w m l ≡ min_arrival l) × ((phase_at w m l).arrival ≡ high l)) → lines_from w m i (length ls) ≡ timing_lines min_arrival high i ls
 unfolding lines_from each from timing_lines line_text
-lines_are w m min_arrival_value high i [] o h = refl
-lines_are w m min_arrival_value high i (l ∷ ls) o h =
+lines_are w m min_arrival high i [] o h = refl
+lines_are w m min_arrival high i (l ∷ ls) o h =
     let z : i + 0 ≡ i = omega arith in
     let is : output_at w m i ≡ l = ap (output_at w m) (sym z) ∙ o 0 (omega arith) in
     let k = h l (Memᴰ-head refl) in
     ap₂ (λ (x : List ℕ) (y : List ℕ). x ++ y)
     (ap (λ (x : ℕ). line_text i (min_arrival_at w m x) (phase_at w m x).arrival) is ∙ ap₂ (λ (a b : ℕ). line_text i a b) k.0 k.1)
-    (lines_are w m min_arrival_value high (suc i) ls
+    (lines_are w m min_arrival high (suc i) ls
     (λ j b. let s : suc i + j ≡ i + suc j = omega arith in ap (output_at w m) s ∙ o (suc j) (omega arith)) (λ x m'. h x (Memᴰ-tail m')))
     ∙ joined
   where
-    joined : line_text i (min_arrival_value l) (high l) ++ timing_lines min_arrival_value high (suc i) ls ≡ timing_lines min_arrival_value high i (l ∷ ls)
+    joined : line_text i (min_arrival l) (high l) ++ timing_lines min_arrival high (suc i) ls ≡ timing_lines min_arrival high i (l ∷ ls)
     joined = simp append_assoc

@@ -168,24 +168,24 @@ pub fn retime(work: &mut [u16], lib: Library, ids: &[u16], h: Header)
 // ---- the timing lines
 
 // "as `# timing o0 30 35`: a low and a high arrival": the line of output k.
-fn put_line(out: &mut [u8], at: usize, k: u32, minArrival: u32, high: u32) -> usize
-    requires { at + line_length k min_arrival_value high ≤ length out.old }
-    ensures { Wrote out.old out.new at result (line_text k min_arrival_value high) }
+fn put_line(out: &mut [u8], at: usize, k: u32, min_arrival: u32, high: u32) -> usize
+    requires { at + line_length k min_arrival high ≤ length out.old }
+    ensures { Wrote out.old out.new at result (line_text k min_arrival high) }
 {
     let a = base_text::put_bytes(out, at, b"# timing ");
     let b = net_writer::put_out(out, a, k);
     let c = base_text::put_byte(out, b, b' ');
-    let d = base_text::put_number(out, c, min_arrival_value);
+    let d = base_text::put_number(out, c, min_arrival);
     let e = base_text::put_byte(out, d, b' ');
     let f = base_text::put_number(out, e, high);
     base_text::put_byte(out, f, b'\n')
 }
 
 // How long it is.
-fn line_len(k: u32, minArrival: u32, high: u32) -> usize
-    ensures { (result ≡ line_length k min_arrival_value high) × (result ≤ 43) }
+fn line_len(k: u32, min_arrival: u32, high: u32) -> usize
+    ensures { (result ≡ line_length k min_arrival high) × (result ≤ 43) }
 {
-    net_writer::out_len(k) + base_text::number_len(min_arrival_value) + base_text::number_len(high) + 12
+    net_writer::out_len(k) + base_text::number_len(min_arrival) + base_text::number_len(high) + 12
 }
 
 // "a line per output", written from a place on.
@@ -197,9 +197,9 @@ pub fn put_lines(work: &[u16], m: usize, outputs: usize, out: &mut [u8], at: usi
     let mut i: usize = 0;
     while i < outputs {
         let l = base_words::output(work, m, outputs, i);
-        let min_arrival_value = base_words::min_arrival(work, m, l);
+        let min_arrival = base_words::min_arrival(work, m, l);
         let p = base_words::phase(work, m, l);
-        next = put_line(out, next, i as u32, min_arrival_value, p.arrival);
+        next = put_line(out, next, i as u32, min_arrival, p.arrival);
         i += 1;
     }
     next
@@ -214,9 +214,9 @@ pub fn lines_len(work: &[u16], m: usize, outputs: usize) -> usize
     let mut i: usize = 0;
     while i < outputs {
         let l = base_words::output(work, m, outputs, i);
-        let min_arrival_value = base_words::min_arrival(work, m, l);
+        let min_arrival = base_words::min_arrival(work, m, l);
         let p = base_words::phase(work, m, l);
-        len = len + line_len(i as u32, min_arrival_value, p.arrival);
+        len = len + line_len(i as u32, min_arrival, p.arrival);
         i += 1;
     }
     len

@@ -6,16 +6,16 @@ use Rattle.base_words.proofs.min_arrival.Tie as tie
 mul-result : tie.Need-overflow-mul-result
 mul-result c =
     let s = c.before.before.before.before.before in
-    let min_arrival_value = c.before.before.before.shared-slice-known2.given (106 * (s.args.m + 1) + 2 * s.args.l) in
+    let min_arrival = c.before.before.before.shared-slice-known2.given (106 * (s.args.m + 1) + 2 * s.args.l) in
     let high = c.before.shared-slice-known3.given (106 * (s.args.m + 1) + 2 * s.args.l + 1) in
-    omega (arith, min_arrival_value, high, c.widen2.ensures, c.before.before.widen.ensures)
+    omega (arith, min_arrival, high, c.widen2.ensures, c.before.before.widen.ensures)
 
 add-result : tie.Need-overflow-add-result
 add-result c =
     let s = c.before.before.before.before.before in
-    let min_arrival_value = c.before.before.before.shared-slice-known2.given (106 * (s.args.m + 1) + 2 * s.args.l) in
+    let min_arrival = c.before.before.before.shared-slice-known2.given (106 * (s.args.m + 1) + 2 * s.args.l) in
     let high = c.before.shared-slice-known3.given (106 * (s.args.m + 1) + 2 * s.args.l + 1) in
-    omega (arith, min_arrival_value, high, c.widen2.ensures, c.before.before.widen.ensures)
+    omega (arith, min_arrival, high, c.widen2.ensures, c.before.before.widen.ensures)
 
 pub min-arrival-spec : {M : Type 1} → statement M
 min-arrival-spec = tie.close (tie.spec

@@ -18,7 +18,7 @@ returns-2 c =
     record { cycle = λ e. absurd (false≢true e); none = λ e z. t }
 
 returns-3 : tie.Need-returns-3
-returns-3 c = record { cycle = c.feeds_itself_value.ensures.cycle; none = λ e z. c.feeds_itself_value.ensures.none e }
+returns-3 c = record { cycle = c.feeds_itself_lem.ensures.cycle; none = λ e z. c.feeds_itself_lem.ensures.none e }
 
 pub is-on-cycle-spec : {M : Type 1} → statement M
 is-on-cycle-spec = tie.close (tie.spec (λ c. search needs) returns is-increasing-requires returns-2 (λ c κs. search needs) returns-3)

@@ -3,8 +3,8 @@ use Rattle.base.specs.{◌≡◌, sym, ◌∙◌, subst, ⊎_elim, List, ℕ, �
 use Rattle.base_words.specs.{and_kind, kind_at, position_at}
 use Rattle.cut_functions.specs.{Early, Walked, Done, cut_word}
 use Rattle.cut_functions.proofs.ConeWalks.{Operand, left_operand, right_operand, walked-known, walked_none, and-found, moved}
-use Rattle.cut_functions.proofs.cut_word_lem.Statement.{statement}
-use Rattle.cut_functions.proofs.cut_word_lem.Tie as tie
+use Rattle.cut_functions.proofs.cut_word.Statement.{statement}
+use Rattle.cut_functions.proofs.cut_word.Tie as tie
 
 cast-result : tie.Need-overflow-cast-result
 cast-result c =

@@ -50,10 +50,10 @@ returns c =
     let s = cut.before.before.before in
     let a = s.args in
     let sound = s.requires.0.sound a.v s.requires.0.inside in (
-      one-filled a.work.now a.m a.v a.k found.cut_word_lem.result (leaves_of cut.load_cut.result) _
+      one-filled a.work.now a.m a.v a.k found.cut_word.result (leaves_of cut.load_cut.result) _
           (cut-leaves a.work.now a.m a.v a.k sound s.requires.3 cut.load_cut.result cut.load_cut.ensures)
-          found.cut_word_lem.ensures.0 stored.set_function.ensures,
-      found.cut_word_lem.ensures.1,
+          found.cut_word.ensures.0 stored.set_function.ensures,
+      found.cut_word.ensures.1,
     )
 
 pub fill-one-spec : {M : Type 1} → statement M

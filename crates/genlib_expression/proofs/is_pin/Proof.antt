@@ -9,17 +9,17 @@ unfolding is_pin const0 const1 text
 returns c =
     let o = c.before.before in
     let e = o.before.before.before in
-    ap not c.same-bytes2.ensures ∙ sym (rw (sym e.before.is_word_lem.ensures ∙ e.if1.true, ap not (sym o.before.same_bytes.ensures) ∙ o.if2.true))
+    ap not c.same-bytes2.ensures ∙ sym (rw (sym e.before.is_word.ensures ∙ e.if1.true, ap not (sym o.before.same_bytes.ensures) ∙ o.if2.true))
 
 returns-2 : tie.Need-returns-2
 unfolding is_pin const0 const1 text
 returns-2 c =
     let e = c.before.before.before in
-    c.if2.false ∙ sym (rw (sym e.before.is_word_lem.ensures ∙ e.if1.true, ap not (sym c.before.same_bytes.ensures) ∙ c.if2.false))
+    c.if2.false ∙ sym (rw (sym e.before.is_word.ensures ∙ e.if1.true, ap not (sym c.before.same_bytes.ensures) ∙ c.if2.false))
 
 returns-3 : tie.Need-returns-3
 unfolding is_pin
-returns-3 c = c.if1.false ∙ sym (rw (sym c.before.is_word_lem.ensures ∙ c.if1.false))
+returns-3 c = c.if1.false ∙ sym (rw (sym c.before.is_word.ensures ∙ c.if1.false))
 
 pub is-pin-spec : {M : Type 1} → statement M
 is-pin-spec = tie.close (tie.spec

@@ -3,8 +3,8 @@ use Rattle.base.specs.{needs, ◌≡◌, refl, sym, ap, ◌∙◌, false, List, 
 use Rattle.model.specs.{is_name_byte, is_word, is_empty, span}
 use Rattle.base_text.specs.{span_end}
 use Rattle.base_text.proofs.{class_all}
-use Rattle.genlib_expression.proofs.is_word_lem.Statement.{statement}
-use Rattle.genlib_expression.proofs.is_word_lem.Tie as tie
+use Rattle.genlib_expression.proofs.is_word.Statement.{statement}
+use Rattle.genlib_expression.proofs.is_word.Tie as tie
 
 word-empty : (w : List ℕ) → length w ≤ 0 → is_word w ≡ false
 unfolding is_word is_empty

@@ -37,7 +37,7 @@ returns c =
     let s = b.before.before.before.before.before in
     let w = s.args.w.now in
     let t = b.before.before.before.next-token in
-    let y : (value : List ℕ → Bool) → _ = λ value. is_name w s.args.at s.requires.0 t.result t.ensures value s.args.odd (sym b.before.is_word_lem.ensures ∙ b.if1.true) in (
+    let y : (value : List ℕ → Bool) → _ = λ value. is_name w s.args.at s.requires.0 t.result t.ensures value s.args.odd (sym b.before.is_word.ensures ∙ b.if1.true) in (
       (omega (arith, q.ensures.0, (y (λ x. true)).1), q.ensures.1),
       λ row h. quoted-is w row c.in-phase.result q.result.at _ _ _ _ (in_phase-row _ _ _ row c.in-phase.ensures (omega arith) h ∙ ap (flip q.result.value) (c.before.before.name-value.ensures row h)) q.ensures.2
           ∙ sym (y (name_value (names_at w s.args.p) row)).0,
@@ -46,7 +46,7 @@ returns c =
 returns-2 : tie.Need-returns-2
 returns-2 c =
     let s = c.before.before.before.before.before in
-    (tt, λ row h. sym (no_name s.args.w.now s.args.at s.requires.0 _ c.before.before.before.next-token.ensures _ _ (sym c.before.is_word_lem.ensures ∙ c.if1.false)))
+    (tt, λ row h. sym (no_name s.args.w.now s.args.at s.requires.0 _ c.before.before.before.next-token.ensures _ _ (sym c.before.is_word.ensures ∙ c.if1.false)))
 
 pub name-spec : {M : Type 1} → statement M
 name-spec =

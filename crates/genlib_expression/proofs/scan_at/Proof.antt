@@ -21,8 +21,8 @@ returns-2 c =
     let a = e.before.before.args in
     let b = get_or a.w.now a.t.from 0 in
     c.scan-expected.ensures
-    ∙ sym (ap (λ (x : Scan). scan_step x b c.before.is_word_lem.result) g.1)
-    ∙ scan-one a.w.now a.t a.s (omega (arith, e.if1.false)) e.before.before.requires.1 b c.before.is_word_lem.result refl c.before.is_word_lem.ensures
+    ∙ sym (ap (λ (x : Scan). scan_step x b c.before.is_word.result) g.1)
+    ∙ scan-one a.w.now a.t a.s (omega (arith, e.if1.false)) e.before.before.requires.1 b c.before.is_word.result refl c.before.is_word.ensures
 
 returns-3 : tie.Need-returns-3
 unfolding scan_step

@@ -37,7 +37,7 @@ returns-2 c =
     let n = e.before.before.before in
     rw (
       told (λ x. same x (text "GATE")) _ _ _ true n.nth-bytes.ensures e.before.same_bytes.ensures (not-false _ e.if1.false),
-      told is_word _ _ _ true d.before.before.nth-bytes2.ensures d.before.is_word_lem.ensures (not-false _ d.if2.false),
+      told is_word _ _ _ true d.before.before.nth-bytes2.ensures d.before.is_word.ensures (not-false _ d.if2.false),
       told is_figure _ _ _ true b.before.before.nth-bytes3.ensures b.before.is-figure.ensures (not-false _ b.if3.false),
       told is_word _ _ _ true a.before.before.nth-bytes4.ensures a.before.is-word2.ensures (not-false _ a.if4.false),
       sym c.before.before.is-sign.ensures ∙ c.before.if5.true,
@@ -55,7 +55,7 @@ returns-3 c =
     c.if5.false
     ∙ sym (rw (
       told (λ x. same x (text "GATE")) _ _ _ true n.nth-bytes.ensures e.before.same_bytes.ensures (not-false _ e.if1.false),
-      told is_word _ _ _ true d.before.before.nth-bytes2.ensures d.before.is_word_lem.ensures (not-false _ d.if2.false),
+      told is_word _ _ _ true d.before.before.nth-bytes2.ensures d.before.is_word.ensures (not-false _ d.if2.false),
       told is_figure _ _ _ true b.before.before.nth-bytes3.ensures b.before.is-figure.ensures (not-false _ b.if3.false),
       told is_word _ _ _ true a.before.before.nth-bytes4.ensures a.before.is-word2.ensures (not-false _ a.if4.false),
       sym c.before.is-sign.ensures ∙ c.if5.false,

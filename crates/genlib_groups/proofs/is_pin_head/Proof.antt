@@ -17,7 +17,7 @@ returns c =
     c.if3.true
     ∙ sym (rw (
       told (λ x. same x (text "PIN")) _ _ _ true n.nth-bytes.ensures e.before.same_bytes.ensures e.if1.true,
-      told is_word _ _ _ true d.before.before.nth-bytes2.ensures d.before.is_word_lem.ensures d.if2.true,
+      told is_word _ _ _ true d.before.before.nth-bytes2.ensures d.before.is_word.ensures d.if2.true,
       sym c.before.is-sign.ensures ∙ c.if3.true,
     ))
 
@@ -30,7 +30,7 @@ returns-2 c =
     let n = e.before.before.before in
     sym (rw (
       told (λ x. same x (text "PIN")) _ _ _ true n.nth-bytes.ensures e.before.same_bytes.ensures e.if1.true,
-      told is_word _ _ _ true d.before.before.nth-bytes2.ensures d.before.is_word_lem.ensures d.if2.true,
+      told is_word _ _ _ true d.before.before.nth-bytes2.ensures d.before.is_word.ensures d.if2.true,
       sym g.before.is-sign.ensures ∙ g.if3.false,
     )
     (ap is_word (sym c.before.nth-bytes3.ensures) ∙ sym c.is-word2.ensures))
@@ -43,7 +43,7 @@ returns-3 c =
     c.if2.false
     ∙ sym (rw (
       told (λ x. same x (text "PIN")) _ _ _ true n.nth-bytes.ensures e.before.same_bytes.ensures e.if1.true,
-      told is_word _ _ _ false c.before.before.nth-bytes2.ensures c.before.is_word_lem.ensures c.if2.false,
+      told is_word _ _ _ false c.before.before.nth-bytes2.ensures c.before.is_word.ensures c.if2.false,
     ))
 
 returns-4 : tie.Need-returns-4

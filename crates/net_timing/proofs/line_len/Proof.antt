@@ -5,12 +5,12 @@ use Rattle.net_timing.proofs.line_len.Statement.{statement}
 use Rattle.net_timing.proofs.line_len.Tie as tie
 
 add-result : tie.Need-overflow-add-result
-add-result c = omega (arith, ten-digits c.before.before.args.min_arrival_value (omega arith))
+add-result c = omega (arith, ten-digits c.before.before.args.min_arrival (omega arith))
 
 add-result-2 : tie.Need-overflow-add-result-2
 add-result-2 c = let a = c.before.before.before.args in omega (
   arith,
-  ten-digits a.min_arrival_value (omega arith),
+  ten-digits a.min_arrival (omega arith),
   ten-digits a.high
       (omega arith),
 )
@@ -18,13 +18,13 @@ add-result-2 c = let a = c.before.before.before.args in omega (
 add-result-3 : tie.Need-overflow-add-result-3
 add-result-3 c = let a = c.before.before.before.args in omega (
   arith,
-  ten-digits a.min_arrival_value (omega arith),
+  ten-digits a.min_arrival (omega arith),
   ten-digits a.high
       (omega arith),
 )
 
 returns : tie.Need-returns
-returns c = let a = c.before.before.before.args in omega (arith, ten-digits a.min_arrival_value (omega arith), ten-digits a.high (omega arith))
+returns c = let a = c.before.before.before.args in omega (arith, ten-digits a.min_arrival (omega arith), ten-digits a.high (omega arith))
 
 pub line-len-spec : {M : Type 1} → statement M
 line-len-spec = tie.close (tie.spec

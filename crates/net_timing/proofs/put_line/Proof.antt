@@ -13,12 +13,12 @@ returns c =
     let p = c.before.before in
     let high = p.before.before.before.before in
     let space = high.before.before.before.before in
-    let min_arrival_value = space.before.before.before.before in
-    let first = min_arrival_value.before.before.before.before in
+    let min_arrival = space.before.before.before.before in
+    let first = min_arrival.before.before.before.before in
     let name = first.before.before.before.before in
     let keyword = name.before.before.before.before in
     let h : p.put-byte3.result ≤ length p.put-byte3.new.0 = omega arith in
-    then h keyword.put-bytes.ensures (then h name.put-out.ensures (then h first.put_byte.ensures (then h (as_wrote min_arrival_value.put-number.ensures)
+    then h keyword.put-bytes.ensures (then h name.put-out.ensures (then h first.put_byte.ensures (then h (as_wrote min_arrival.put-number.ensures)
     (then h space.put-byte2.ensures (then h (as_wrote high.put-number2.ensures) p.put-byte3.ensures)))))
 
 pub put-line-spec : {M : Type 1} → statement M
