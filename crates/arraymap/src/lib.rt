@@ -1,4 +1,6 @@
 // The calls for C and Rust. A slice is a pointer and a number of elements; the answer is the five values that document 01 names.
+#![tactic(auto)]
+
 ghost use Rattle.base.specs.{◌≡◌, true, false};
 ghost use Rattle.model.specs.{returned, written_pair, result_of};
 ghost use Rattle.arraymap.specs.{Called, CalledTwo, CalledGenlib, CalledCount, CalledReport, CalledCheck};
@@ -8,7 +10,7 @@ use model::{Answer, Checked, Two, Verdict, Written};
 
 // "Success returns number 0, the netlist's length and the three figures of its `# gates` line; a refusal its number, its place and zero figures".
 #[repr(C)]
-#[derive(Drop)]
+#[derive(Clone, Copy)]
 pub struct ArraymapAnswer {
     pub number: u64,
     pub value: u64,
@@ -115,7 +117,7 @@ pub extern "C" fn arraymap_report(cells: &[u8], tally: &[u64], text: &mut [u8]) 
 
 // An answer for each channel.
 #[repr(C)]
-#[derive(Drop)]
+#[derive(Clone, Copy)]
 pub struct ArraymapTwo {
     pub first: ArraymapAnswer,
     pub second: ArraymapAnswer,
@@ -175,7 +177,7 @@ pub extern "C" fn arraymap_map_two_pairs(
 // What a check answers: 0 where the netlist is accepted, 1 with "the lowest setting that differs" and "that setting's first wrong output", 2
 // with a refusal's number and place.
 #[repr(C)]
-#[derive(Drop)]
+#[derive(Clone, Copy)]
 pub struct ArraymapChecked {
     pub verdict: u64,
     pub first: u64,

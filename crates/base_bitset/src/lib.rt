@@ -1,5 +1,7 @@
 // A set of numbers below 4,096: a bit for each, and a bit for each word of those that says whether any of its bits is set, so that the lowest
 // number is found by counting zeros twice.
+#![tactic(auto)]
+
 ghost use Rattle.base.specs.{◌≡◌, ◌^◌, ◌<◌, count_trailing_zeros, replicate};
 ghost use Rattle.base_bitset.specs.{added, removed, lowest_of};
 

@@ -1,6 +1,8 @@
 // Fields, numbers and names in a text of bytes, and numbers written into one.
 // "One space separates fields"; byte 10, or bytes 13 and 10, end a line. "Every reader is a cursor that hands itself on after each number."
 // A field is what stands up to the next space, line's end or end of text; each field is validated whole, by the definition of the crate `model`.
+#![tactic(auto)]
+
 ghost use Rattle.base.specs.{◌≡◌, ◌∷◌, [], ◌+◌, ◌/◌, ◌%◌, ◌≤◌, ◌<◌, length, get_or, drop};
 ghost use Rattle.model.specs.{all, same, decimal, number, hex_digit, hex_from, hex_table, is_letter, is_name_byte, is_name, name_bytes};
 ghost use Rattle.base_words.specs.{put_at};
@@ -8,34 +10,34 @@ ghost use Rattle.base_text.specs.{Wrote, end_of, end_at, value_of, byte_at, line
 ghost use Rattle.base_text.specs.{in_class, span_end, then_end, number_then, number_end, table_then, difference_at, span_at, first_is};
 
 // A position in a text. The text itself is a parameter of each method.
-#[derive(Drop)]
+#[derive(Clone, Copy)]
 pub struct Cursor {
     pub at: usize,
 }
 
 // What a field says as a number.
-#[derive(Drop)]
+#[derive(Clone, Copy)]
 pub enum Value {
     Is(u16),
     Broken,
 }
 
 // A number that was read, with the cursor past it.
-#[derive(Drop)]
+#[derive(Clone, Copy)]
 pub enum Number {
     Value(u16, Cursor),
     Broken,
 }
 
 // A line: "where the contents stop and where the next line begins"; both are one place where the text ends first.
-#[derive(Drop)]
+#[derive(Clone, Copy)]
 pub struct Span {
     pub stop: usize,
     pub next: usize,
 }
 
 // The cursor past what was read.
-#[derive(Drop)]
+#[derive(Clone, Copy)]
 pub enum Step {
     To(Cursor),
     Broken,
@@ -468,7 +470,7 @@ pub fn put_number(out: &mut [u8], at: usize, n: u32) -> usize
 
 // "Spaces or tabs part words"; digits; the bytes of a name, "letters, digits and underscores"; those of a name or a figure; all but the space, which
 // "separates fields".
-#[derive(Drop)]
+#[derive(Clone, Copy)]
 pub enum Class {
     Blank,
     Digit,

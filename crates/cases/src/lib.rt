@@ -1,1 +1,2 @@
 // What the computed examples share: texts, kinds of case, and what holds of them; no code.
+#![tactic(auto)]

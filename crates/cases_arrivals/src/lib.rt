@@ -1,1 +1,2 @@
 // Computed examples: late inputs, names of outputs, wires and figures read back; no code.
+#![tactic(auto)]

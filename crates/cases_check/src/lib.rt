@@ -1,1 +1,2 @@
 // Computed examples: an edited netlist checked; no code.
+#![tactic(auto)]

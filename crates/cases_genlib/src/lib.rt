@@ -1,1 +1,2 @@
 // Computed examples: genlib read, and the cell text written; no code.
+#![tactic(auto)]

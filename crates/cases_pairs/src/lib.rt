@@ -1,1 +1,2 @@
 // Computed examples: pairs of cells, and a library's lines in another order; no code.
+#![tactic(auto)]

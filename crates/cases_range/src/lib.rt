@@ -1,1 +1,2 @@
 // Computed examples: delays given as a range; no code.
+#![tactic(auto)]

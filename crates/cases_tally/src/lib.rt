@@ -1,1 +1,2 @@
 // Computed examples: netlists counted, and the report; no code.
+#![tactic(auto)]

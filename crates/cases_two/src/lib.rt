@@ -1,1 +1,2 @@
 // Computed examples: two channels; no code.
+#![tactic(auto)]

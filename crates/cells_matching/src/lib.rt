@@ -3,6 +3,8 @@
 // and walks the variants that have it, in 01's order: "cell line, order number, mask, lowest first". Left out is one whose order gives the cell's pins
 // the places that the order before gave them: it is never strictly earlier. The buckets, what feeds each variant's pins and the cells' delays are one
 // match table of lent words: what lies where is said by specs/Match table.antt.
+#![tactic(auto)]
+
 ghost use Rattle.base.specs.{◌≡◌, List, ℕ, ◌+◌, ◌*◌, ◌%◌, ◌<◌, ◌≤◌, max, length, drop, get_or};
 ghost use Rattle.model.specs.{cell_at, cells_of};
 ghost use Rattle.model.specs.declared.Cell.{Cell};
@@ -28,14 +30,14 @@ const DELAYS: usize = 65536;
 const VARIANTS: usize = 66560;
 
 // A variant with its arrival, NEVER where there is no match.
-#[derive(Drop)]
+#[derive(Clone, Copy)]
 pub struct Best {
     pub variant: u32,
     pub arrival: u32,
 }
 
 // The quickest inverter: its line and its delay.
-#[derive(Drop)]
+#[derive(Clone, Copy)]
 pub enum Inverter {
     Is(usize, u16),
     Missing,

@@ -1,6 +1,8 @@
 // The pairs of a library, once for each call that wants them: "for each root cell, pin and inner cell with at least one pin, in that order of lines,
 // form a pair feeding that pin, if the result has at most four pins". A pair is a number of twelve bits. "Pairs follow the listed cells": behind them,
 // whatever asks of a cell by its number asks here, and no cell of a pair is stored.
+#![tactic(auto)]
+
 ghost use Rattle.base.specs.{◌≡◌, List, ℕ, ◌+◌, ◌*◌, ◌≤◌, ◌<◌, min, length, take, get_or};
 ghost use Rattle.model.specs.{each, below, cells_of, cell_at, joins, pair_delays};
 ghost use Rattle.base_text.specs.{Wrote};

@@ -1,6 +1,8 @@
 // The cell library's text, read: its cells by value, or the first refusal of 2 to 6 and 27 with its place.
 // "The first line is `cell pins table area d0 d1 d2 d3`; each further line gives one cell's values in that order." "A new library text has `l0` to `l3`
 // after `d3` in its names line." "Items 3 to 6 are tried line by line", and 27 "after 6 on its line".
+#![tactic(auto)]
+
 ghost use Rattle.base.specs.{◌≡◌, [], ◌+◌, ◌^◌, ◌≤◌, ◌<◌, length, take, drop, get_or};
 ghost use Rattle.model.specs.{same, lines_from, fault, refusal_of, verdict_refusal, no_cell, library_of, library_answer, is_clean, no_lower};
 ghost use Rattle.model.specs.{read_cells, read_library, is_ranged};
@@ -11,7 +13,7 @@ use base_text::{Cursor, Number, Step};
 use model::{Cell, Library, LibraryAnswer, Verdict};
 
 // The delays of pins 0 to 3.
-#[derive(Drop)]
+#[derive(Clone, Copy)]
 pub struct Delays {
     pub d0: u16,
     pub d1: u16,
@@ -20,7 +22,7 @@ pub struct Delays {
 }
 
 // What stands behind a cell's name.
-#[derive(Drop)]
+#[derive(Clone, Copy)]
 pub struct Figures {
     pub pins: u16,
     pub table: u16,
@@ -29,28 +31,28 @@ pub struct Figures {
     pub mins: Delays,
 }
 
-#[derive(Drop)]
+#[derive(Clone, Copy)]
 pub enum Four {
     Read(Delays, Cursor),
     Broken,
 }
 
 // The delays, then the lowest delays.
-#[derive(Drop)]
+#[derive(Clone, Copy)]
 pub enum Ranges {
     Both(Delays, Delays, Cursor),
     Broken,
 }
 
 // A cell line that has its form: where its name ends, its figures, and the next line.
-#[derive(Drop)]
+#[derive(Clone, Copy)]
 pub enum Form {
     Cell(usize, Figures, Cursor),
     Broken,
 }
 
 // The same, or the number of the line's refusal.
-#[derive(Drop)]
+#[derive(Clone, Copy)]
 pub enum Validated {
     Cell(usize, Figures, Cursor),
     Refused(usize),

@@ -1,4 +1,6 @@
 // What a block says: the table of a literal, and the row of a pin's net, each by the slot that the certificate gives.
+#![tactic(auto)]
+
 ghost use Rattle.base.specs.{◌≡◌, ◌*◌, ◌≤◌, length, take};
 ghost use Rattle.certificate_model.specs.{fed_at, lit_table};
 ghost use Rattle.certificate_facts.specs.{found, rows_in};
@@ -8,7 +10,7 @@ use certificate_facts::Found;
 use certificate_model::Row;
 
 // A literal's table, where its slot has its variable.
-#[derive(Drop)]
+#[derive(Clone, Copy)]
 pub enum Table {
     Is(u32),
     Nothing,

@@ -1,4 +1,6 @@
 // Rows of four words in lent words: facts, equalities, gates, and the slots of a block. Each is looked up by a number that the certificate gives.
+#![tactic(auto)]
+
 ghost use Rattle.base.specs.{◌≡◌, ◌+◌, ◌*◌, ◌≤◌, ◌<◌, ◌++◌, ◌∷◌, [], length, get_or, set, take};
 ghost use Rattle.certificate_model.specs.{at, no_row};
 ghost use Rattle.certificate_facts.specs.{found, rows_in};
@@ -6,7 +8,7 @@ ghost use Rattle.certificate_facts.specs.{found, rows_in};
 use certificate_model::Row;
 
 // The row of a number, where there is one.
-#[derive(Drop)]
+#[derive(Clone, Copy)]
 pub enum Found {
     At(Row),
     Nothing,

@@ -1,4 +1,6 @@
 // Tables of 16 rows in 32-bit words, over the four leaves of a block.
+#![tactic(auto)]
+
 ghost use Rattle.base.specs.{◌≡◌, ◌+◌, ◌*◌, ◌%◌, ◌^◌, ◌<◌, ◌≤◌, ◌∷◌, []};
 ghost use Rattle.model.specs.{bit, one, row_of, value};
 ghost use Rattle.certificate_model.specs.{conj, gate_table, phased, pin_nets};

@@ -1,5 +1,7 @@
 // The check of an edited netlist: three texts and lent memory in, the first refusal or the comparison with the graph out, "in checking order":
 // 31 to 33 "are tried after 15 in place of 16 to 18".
+#![tactic(auto)]
+
 ghost use Rattle.base.specs.{◌≡◌, List, map, ◌+◌, ◌*◌, ◌≤◌, length};
 ghost use Rattle.model.specs.{from, need, holds, read_header, Driver, line_ends, check_read};
 ghost use Rattle.model.specs.Graph.{Graph};

@@ -1,4 +1,6 @@
 // A line of an edited netlist: the words of a gate's line and of a `.names` line, each net as a number.
+#![tactic(auto)]
+
 ghost use Rattle.base.specs.{◌≡◌, [], none, ℕ, ◌+◌, ◌≤◌, ◌<◌, length, get_or};
 ghost use Rattle.model.specs.{all, same, text, fields, out_name, no_cell, cells_of, is_net, pin_net, bound_nets, gate_of_fields, name_driver};
 ghost use Rattle.check_names.specs.{is_net_byte, code, net_code, space_from, fields_from, opt_code, pin_at, letters, nets_of};
@@ -8,21 +10,21 @@ use base_text::Value;
 use model::Library;
 
 // A word `A=net` of a line: its net, 0 where it breaks its form, and where the next word begins.
-#[derive(Drop)]
+#[derive(Clone, Copy)]
 pub struct Pin {
     pub code: u64,
     pub next: usize,
 }
 
 // The nets of a gate's pins, zeros behind them, and the gate's own; net 0 where a word breaks its form.
-#[derive(Drop)]
+#[derive(Clone, Copy)]
 pub struct Nets {
     pub codes: [u64; 4],
     pub net: u64,
 }
 
 // What a gate's line says: its cell's table and number of pins, the nets at its pins, zeros behind them, and its own; net 0 where it breaks its form.
-#[derive(Drop)]
+#[derive(Clone, Copy)]
 pub struct Gate {
     pub table: u16,
     pub count: usize,

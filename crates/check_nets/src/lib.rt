@@ -1,4 +1,6 @@
 // The nets of an edited netlist validated, 33: its pins get numbers, and its drivers an order, or the first on a cycle is found where there is none.
+#![tactic(auto)]
+
 ghost use Rattle.base.specs.{◌≡◌, true, ℕ, ◌≤◌, ◌<◌, get_or};
 ghost use Rattle.check_order.specs.{Pinned, FeedsAt, Behind, Reached, Stepped, Spread, FeedsItself, LeftFeeds, Cyclic};
 ghost use Rattle.check_nets.specs.{Rising};
@@ -113,7 +115,7 @@ fn gather(components: &mut Words, wait: &Words, waiting: usize, own: u16, compon
 // How deep the path is, how many wait for the component number of their part, the last number given, and the next component number. No text has so many
 // drivers that a number
 // is out of range: a test of it spares a proof.
-#[derive(Drop)]
+#[derive(Clone, Copy)]
 struct Search {
     depth: usize,
     waiting: usize,

@@ -1,6 +1,8 @@
 // The drivers of an edited netlist in an order, each behind those that feed it. A sweep lists each driver whose pins are fed by inputs and listed drivers
 // alone, so that what is listed is in order whatever was tried first; a walk from each driver down to what feeds it tries them so that without a cycle all
 // are listed at once. Where a sweep lists none, what is left is stuck behind a cycle.
+#![tactic(auto)]
+
 ghost use Rattle.base.specs.{◌≡◌, ◌*◌, ◌≤◌, ◌<◌, get_or, set};
 ghost use Rattle.check_order.specs.{Made, down, push_fanin_of};
 ghost use Rattle.check_order.specs.{Pinned, Fed, Tried};
@@ -10,7 +12,7 @@ use check_reader::DRIVERS;
 use check_wires::{Flags, Refs, Words};
 
 // How deep the walk down is, and how many drivers are listed.
-#[derive(Drop)]
+#[derive(Clone, Copy)]
 pub struct Walk {
     pub depth: usize,
     pub count: usize,

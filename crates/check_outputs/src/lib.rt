@@ -1,5 +1,7 @@
 // "accepted exactly when every output equals the graph's for each of the 2^I input settings; otherwise the lowest setting that differs is returned,
 // input k as bit k, and that setting's first wrong output". 64 assignments are evaluated at once: bit t of a word of block b is assignment 64 b + t.
+#![tactic(auto)]
+
 ghost use Rattle.base.specs.{◌≡◌, ◌∷◌, [], ◌<◌, ℕ, ◌+◌, ◌-◌, ◌*◌, ◌/◌, ◌%◌, ◌^◌, ◌≤◌, length, get_or};
 ghost use Rattle.model.specs.{bit};
 ghost use Rattle.base_words.specs.{slot_at};

@@ -1,5 +1,7 @@
 // An edited netlist read into an array of numbers, eight for each line that drives a net: where the line begins, its table, how many nets it uses, the
 // numbers of these nets, zeros behind them, and that of its own net.
+#![tactic(auto)]
+
 ghost use Rattle.base.specs.{◌≡◌, ◌∷◌, ◌++◌, ◌+◌, ◌≤◌, ◌*◌, ◌<◌, length, replicate};
 ghost use Rattle.model.specs.{text, decimal, out_name, is_line, preamble_of, gate_driver, name_driver, cells_of};
 ghost use Rattle.model.specs.Graph.{Graph};
@@ -16,7 +18,7 @@ use model::{Header, Library};
 // The lines that an edited netlist must have as they are printed: "BLIF as we print it up to `.end`". A line that is expected is printed and compared.
 
 // Where reading goes on; or the line there breaks its form or is missing.
-#[derive(Drop)]
+#[derive(Clone, Copy)]
 pub struct Reached {
     pub at: usize,
     pub broken: bool,
@@ -133,7 +135,7 @@ pub fn preamble(s: &[u8], work: &[u16], h: Header) -> Reached
 pub const DRIVERS: usize = 10923;
 
 // How far reading came: to which place, with how many drivers; or the line there breaks its form.
-#[derive(Drop)]
+#[derive(Clone, Copy)]
 pub struct Progress {
     pub at: usize,
     pub count: usize,

@@ -1,6 +1,8 @@
 // What drives each net of an edited netlist: the first two parts of 33, and a number for what stands at each pin. A driver is eight numbers, as
 // `check_reader` stores them. Names are numbers already, so a net is found by the remainder of its number: the drivers of one remainder are a
 // bucket.
+#![tactic(auto)]
+
 ghost use Rattle.base.specs.{◌≡◌, ◌+◌, ◌*◌, ◌/◌, ◌%◌, ◌≤◌, ◌<◌, length, get_or, set};
 ghost use Rattle.check_wires.specs.{Falling, own_at, head_of, Chained, Found, InputOf, Drivers, Looked, PinLooked, Once};
 ghost use Rattle.check_wires.specs.{Written, Referred};

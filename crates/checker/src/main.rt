@@ -1,5 +1,7 @@
 // The program: `netlist.blif` of the current folder checked against `graph.aag` with the cells of `cells.txt`; `accepted`, `differs` with the
 // assignment and the output, or one line of `refused`, number and place printed.
+#![tactic(auto)]
+
 ghost use Rattle.base.specs.{length};
 ghost use Rattle.checker.specs.BufferBounds.{Enough};
 

@@ -1,4 +1,6 @@
 // The cover: the choice for both phases of every variable, refusal 17, and the needed phases.
+#![tactic(auto)]
+
 ghost use Rattle.base.specs.{◌≡◌, true, false, ◌+◌, ◌*◌, ◌/◌, ◌<◌, ◌≤◌, eqb, length, List, ◌∷◌, []};
 ghost use Rattle.model.specs.{same, cells_of, absent, no_phase, earlier, choose, phase_table, match_nets, fed_nets, cut_limit};
 ghost use Rattle.model.specs.declared.Cell.{Cell};
@@ -119,7 +121,7 @@ fn times(work: &[u16], m: usize, cut: Cut) -> [u32; 16]
 }
 
 // Both phases of a variable.
-#[derive(Drop)]
+#[derive(Clone, Copy)]
 struct Both {
     positive: Phase,
     negative: Phase,
@@ -148,7 +150,7 @@ fn is_matched(matches: &[u32], f: u16) -> bool
 }
 
 // A best match, and the number of its cut.
-#[derive(Drop)]
+#[derive(Clone, Copy)]
 struct CutMatch {
     cut: usize,
     best: Best,
@@ -187,7 +189,7 @@ fn match_phase(matches: &[u32], k: usize, f: u16, t: &[u32; 16], former: CutMatc
 }
 
 // The best matches in both phases.
-#[derive(Drop)]
+#[derive(Clone, Copy)]
 struct CutMatches {
     positive: CutMatch,
     negative: CutMatch,

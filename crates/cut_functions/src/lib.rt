@@ -1,5 +1,7 @@
 // The function of a cut: the walk from the root down to the leaves, with each variable's table noted, so that none is walked twice. Where an operand of
 // the root has the very same cut its function is stored already, and the walk stops there.
+#![tactic(auto)]
+
 ghost use Rattle.base.specs.{◌≡◌, true, false, ◌∷◌, [], ℕ, ◌+◌, ◌*◌, ◌/◌, ◌≤◌, ◌<◌, take, get_or, set};
 ghost use Rattle.model.specs.{cut_limit};
 ghost use Rattle.base_words.specs.{HasCapacity, and_kind, kind_at, left_at, right_at, count_at, position_at, leaves_at, put_functions};

@@ -1,5 +1,7 @@
 // Cut lists: for each ordered variable in topological order its cuts, by the recursion that document 01 takes from source document 004.
 // Each branch of the merge's body is a small function with an equation for its contract, so that no arms meet in the loop.
+#![tactic(auto)]
+
 ghost use Rattle.base.specs.{◌≡◌, ◌∷◌, [], ℕ, ◌+◌, ◌-◌, ◌*◌, ◌/◌, ◌%◌, ◌^◌, ◌≤◌, ◌<◌, bit_or, length, drop, get_or};
 ghost use Rattle.model.specs.{cut_limit};
 ghost use Rattle.base_words.specs.{HasCapacity, left_at, right_at, leaves_of, Good, Sound, cuts_at, node_at};

@@ -1,4 +1,6 @@
 // Layer three: the cut lists of all ordered variables and the functions of their cuts, or refusal 16.
+#![tactic(auto)]
+
 ghost use Rattle.base.specs.{◌≡◌};
 ghost use Rattle.base_words.specs.{ordered_count};
 ghost use Rattle.cut_lists.specs.{listing};

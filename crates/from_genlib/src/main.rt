@@ -1,4 +1,6 @@
 // The program: `cells.genlib` of the current folder converted, our cell text or one line of `refused`, number and place printed.
+#![tactic(auto)]
+
 ghost use Rattle.base.specs.{◌≡◌, length};
 
 use model::Written;

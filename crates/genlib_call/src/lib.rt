@@ -1,5 +1,7 @@
 // A genlib text, converted: our cell text written into lent text memory, or the first refusal of 1, 22 to 24 and 18.
 // Two passes validate each group by the same function: the first measures, the second writes, so that "a refusal leaves it unchanged" and no group is stored.
+#![tactic(auto)]
+
 ghost use Rattle.base.specs.{◌≡◌, ◌+◌, ◌≤◌, ◌<◌, length};
 ghost use Rattle.model.specs.{tokens, pin_delay, delays_of, gate_from, read_group, read_genlib};
 ghost use Rattle.promises.specs.{Conversion};
@@ -15,14 +17,14 @@ use genlib_expression::Pins;
 use model::Written;
 
 // d0 to d3, if all are figures within their range.
-#[derive(Drop)]
+#[derive(Clone, Copy)]
 enum Delays {
     Four(u16, u16, u16, u16),
     Broken,
 }
 
 // A group's gate, or the number of its refusal.
-#[derive(Drop)]
+#[derive(Clone, Copy)]
 enum Validated {
     Cell(Gate),
     Refused(usize),

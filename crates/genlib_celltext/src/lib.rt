@@ -1,11 +1,13 @@
 // A gate of a genlib text as a line of our cell text: "cell pins table area d0 d1 d2 d3". How long it is, and its bytes.
+#![tactic(auto)]
+
 ghost use Rattle.base.specs.{◌≡◌, List, ◌∷◌, [], ◌++◌, ℕ, ◌+◌, ◌≤◌, ◌<◌, length};
 ghost use Rattle.model.specs.{each, hex_byte, hex_text, number_text, gate_text};
 ghost use Rattle.base_text.specs.{Wrote};
 ghost use Rattle.genlib_celltext.specs.{delays_of, gate_in, Stands};
 
 // What is written of a gate. Its name is the bytes of the genlib text from `from` to `to`.
-#[derive(Drop)]
+#[derive(Clone, Copy)]
 pub struct Gate {
     pub from: usize,
     pub to: usize,

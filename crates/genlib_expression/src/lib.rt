@@ -2,6 +2,8 @@
 // "The expression has any number of `!` before a factor and of `'` after it, `*`, `+`, brackets, CONST0 and CONST1; a sum is made of products, a
 // product of factors, and a bracketed factor of a sum again." Its form and its value are those of the crate `model`, which reads the list of a
 // line's tokens; here a place in the line stands for the tokens from there on.
+#![tactic(auto)]
+
 ghost use Rattle.base.specs.{◌≡◌, true, [], ℕ, ◌^◌, ◌≤◌, ◌<◌, length, get_or, drop};
 ghost use Rattle.model.specs.{bit, same, flip, tokens, is_word_byte, is_word, span, shallow, scan, formed, is_pin};
 ghost use Rattle.model.specs.{with_name, add_pins, pins_of, index_of, name_value, row_bits, negated_by_signs, close_bracket, factor_of, product_of, sum_of};
@@ -14,28 +16,28 @@ use base_text::Class;
 use model::Scan;
 
 // A token's place in its line.
-#[derive(Drop)]
+#[derive(Clone, Copy)]
 pub struct Token {
     pub from: usize,
     pub to: usize,
 }
 
 // Where each of the first four pins stands in the line first; `n` is their number, 5 where there are more.
-#[derive(Drop)]
+#[derive(Clone, Copy)]
 pub struct Pins {
     pub n: usize,
     pub at: [usize; 4],
 }
 
 // The values in rows 0 to 15 as a table, and the place behind what has them.
-#[derive(Drop)]
+#[derive(Clone, Copy)]
 enum Parsed {
     At(u16, usize),
     Broken,
 }
 
 // A value that signs may have turned, and the place behind them.
-#[derive(Drop)]
+#[derive(Clone, Copy)]
 struct Signed {
     value: bool,
     at: usize,

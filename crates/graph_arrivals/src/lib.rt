@@ -1,6 +1,8 @@
 // The arrivals' text, read: each listed input's arrival put into the lent words, or the first refusal of 25 and 26 with its place.
 // "first line `input arrival`, then an input's index from 0 and its arrival, each 0 to 65,535, spaced and ended as library lines are, without
 // leading zeros. Inputs not listed arrive at 0."
+#![tactic(auto)]
+
 ghost use Rattle.base.specs.{◌≡◌, [], ◌+◌, ◌≤◌, ◌<◌, drop};
 ghost use Rattle.model.specs.{lines_from, verdict_of, refusal_of, verdict_refusal, read_input_arrivals, read_arrivals};
 ghost use Rattle.base_words.specs.{HasCapacity, slot_at};
@@ -10,14 +12,14 @@ use base_text::{Cursor, Number};
 use model::{Header, Verdict};
 
 // A line that has its form: the index, the arrival, and the next line.
-#[derive(Drop)]
+#[derive(Clone, Copy)]
 pub enum Entry {
     Is(u16, u16, Cursor),
     Broken,
 }
 
 // The same, or the number of the line's refusal.
-#[derive(Drop)]
+#[derive(Clone, Copy)]
 pub enum Validated {
     Is(u16, u16, Cursor),
     Refused(usize),

@@ -1,5 +1,7 @@
 // AIGER's binary form behind its header, read into the lent words: O output lines, then A ANDs.
 // "Inputs are variables 1 to I and ANDs follow in sequence. Each AND is two differences, left minus first operand and first minus second."
+#![tactic(auto)]
+
 ghost use Rattle.base.specs.{◌≡◌, true, ◌+◌, ◌*◌, ◌≤◌, ◌<◌, length};
 ghost use Rattle.model.specs.{need, holds, verdict_of, verdict_refusal, refusal_of, less_by, read_header, read_graph};
 ghost use Rattle.graph_order.specs.{Fit};
@@ -14,7 +16,7 @@ use model::{Header, Verdict};
 // ---- differences
 
 // A number less a difference with the place behind that, or the number of a refusal at the difference's first byte.
-#[derive(Drop)]
+#[derive(Clone, Copy)]
 pub enum Less {
     Is(usize, usize),
     Refused(usize),
@@ -38,7 +40,7 @@ fn less_by(s: &[u8], at: usize, n: usize, first: bool) -> Less
 }
 
 // The literals of an AND, or a refusal's number and place.
-#[derive(Drop)]
+#[derive(Clone, Copy)]
 pub enum Gate {
     Is(Literals),
     Refused(usize, usize),

@@ -1,5 +1,7 @@
 // A graph's definitions put into the lent words: what both forms of a graph's text share. "In either form" a graph has I inputs, O outputs and A
 // ANDs, expected in this order; expected line k is the k-th of them.
+#![tactic(auto)]
+
 ghost use Rattle.base.specs.{◌≡◌, ◌+◌, ◌*◌, ◌≤◌, ◌<◌};
 ghost use Rattle.base_words.specs.{HasCapacity};
 ghost use Rattle.graph_order.specs.{Fit};
@@ -8,7 +10,7 @@ ghost use Rattle.graph_loading.specs.{expected_code, expected_count, literals_fi
 use model::Header;
 
 // The literals of an expected line, 0 where it has fewer than three, and the place behind it.
-#[derive(Drop)]
+#[derive(Clone, Copy)]
 pub struct Literals {
     pub first: usize,
     pub left: usize,
@@ -17,7 +19,7 @@ pub struct Literals {
 }
 
 // The place of the next line, or a refusal's number and place.
-#[derive(Drop)]
+#[derive(Clone, Copy)]
 pub enum LineResult {
     To(usize),
     Refused(usize, usize),

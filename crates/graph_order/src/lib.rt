@@ -1,4 +1,6 @@
 // The topological order, in the lent words: "variable 0 and the inputs first, then again and again the lowest-numbered AND whose operands are both placed."
+#![tactic(auto)]
+
 ghost use Rattle.base.specs.{◌≡◌, ◌+◌, ◌*◌, ◌≤◌, ◌<◌, get_or, set};
 ghost use Rattle.base_words.specs.{HasCapacity};
 ghost use Rattle.base_bitset.specs.{added};

@@ -1,5 +1,7 @@
 // AIGER, read: the header of either form, the expected lines of the ASCII form into the lent words, and the reader that a header's form asks for.
 // "`aag M I L O A`, then I input lines, O output lines and A lines `left right right`." "Read the `aig` form too, known by the header's first word."
+#![tactic(auto)]
+
 ghost use Rattle.base.specs.{◌≡◌, false, ◌+◌, ◌*◌, ◌≤◌, ◌<◌, length};
 ghost use Rattle.model.specs.{all, below, need, holds, verdict_of, refusal_of, verdict_refusal, read_header, header_answer, header_refusal};
 ghost use Rattle.model.specs.{header_values, header_numbers, in_limits, in_sequence, read_graph};
@@ -15,21 +17,21 @@ use graph_loading::{LineResult, Literals};
 use model::{Header, HeaderAnswer, Verdict};
 
 // Three numbers that end a line, with the cursor behind it.
-#[derive(Drop)]
+#[derive(Clone, Copy)]
 pub enum Three {
     Numbers(u16, u16, u16, Cursor),
     Broken,
 }
 
 // The header's first word with the space behind it: whether it is `aig`, and the cursor behind the space.
-#[derive(Drop)]
+#[derive(Clone, Copy)]
 pub enum Tagged {
     Word(bool, Cursor),
     Broken,
 }
 
 // What the header line says.
-#[derive(Drop)]
+#[derive(Clone, Copy)]
 pub enum HeaderForm {
     Is(Header),
     Broken,
@@ -172,14 +174,14 @@ pub fn header(s: &[u8]) -> HeaderAnswer
 
 // ---- an expected line
 
-#[derive(Drop)]
+#[derive(Clone, Copy)]
 pub enum LineRead {
     Read(Literals),
     Broken,
 }
 
 // A line that is free of 11 to 13, or the number of its refusal.
-#[derive(Drop)]
+#[derive(Clone, Copy)]
 pub enum Validated {
     Good(Literals),
     Bad(usize),

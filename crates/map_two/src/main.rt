@@ -1,5 +1,7 @@
 // The program for two channels: `cells.txt`, and of each channel a graph and the arrivals of its inputs, in the current folder; the first
 // channel's netlist or line of `refused`, number and place is printed, then the second's.
+#![tactic(auto)]
+
 ghost use Rattle.base.specs.{◌≡◌, length};
 
 use model::Two;

@@ -1,4 +1,6 @@
 // The whole call: three texts and lent memory in, a netlist or the first refusal out, "in checking order".
+#![tactic(auto)]
+
 ghost use Rattle.base.specs.{true, length};
 ghost use Rattle.promises.specs.{Mapping};
 ghost use Rattle.cells_matching.specs.{Blank};

@@ -1,8 +1,9 @@
 // The types that code and meaning share. What they mean stands in specs/.
+#![tactic(auto)]
 
 // A cell of the library: "cell pins table area d0 d1 d2 d3" and, in the longer form, `l0` to `l3`; in the shorter the lowest delays are the
 // delays. Its name is the first `len` bytes of `name`, and the bytes after them are 0.
-#[derive(Drop)]
+#[derive(Clone, Copy)]
 pub struct Cell {
     pub name: [u8; 8],
     pub len: usize,
@@ -14,21 +15,21 @@ pub struct Cell {
 }
 
 // "No cells and 32 cells are accepted." The first `n` are the library's, in the order of their lines.
-#[derive(Drop)]
+#[derive(Clone, Copy)]
 pub struct Library {
     pub n: usize,
     pub cells: [Cell; 32],
 }
 
 // A refusal's number and place, or none. Every layer answers with it.
-#[derive(Drop)]
+#[derive(Clone, Copy)]
 pub enum Verdict {
     Accepted,
     Refused(usize, usize),
 }
 
 // The cells stand beside the verdict. After a refusal there are none.
-#[derive(Drop)]
+#[derive(Clone, Copy)]
 pub struct LibraryAnswer {
     pub verdict: Verdict,
     pub library: Library,
@@ -36,7 +37,7 @@ pub struct LibraryAnswer {
 
 // The numbers of the header line `aag M I L O A` or `aig M I L O A`, the offset of what follows the line, and whether the graph is in the
 // binary form, "known by the header's first word".
-#[derive(Drop)]
+#[derive(Clone, Copy)]
 pub struct Header {
     pub size: usize,
     pub inputs: usize,
@@ -47,21 +48,21 @@ pub struct Header {
     pub binary: bool,
 }
 
-#[derive(Drop)]
+#[derive(Clone, Copy)]
 pub enum HeaderAnswer {
     Read(Header),
     Refused(usize, usize),
 }
 
 // A cut: so many leaves, ascending; what stands past them is no part of the cut.
-#[derive(Drop)]
+#[derive(Clone, Copy)]
 pub struct Cut {
     pub leaves: [u16; 4],
     pub count: usize,
 }
 
 // "a cell matched on a cut": the cut's number in its variable's list, the cell's line from 0, the order's number and the phase mask.
-#[derive(Drop)]
+#[derive(Clone, Copy)]
 pub struct Match {
     pub cut: usize,
     pub cell: usize,
@@ -70,7 +71,7 @@ pub struct Match {
 }
 
 // "In the state each phase is one of these sources with its data, or none." An inverter's data is its cell's line.
-#[derive(Drop)]
+#[derive(Clone, Copy)]
 pub enum Source {
     Input,
     Cell(Match),
@@ -79,14 +80,14 @@ pub enum Source {
 }
 
 // A phase's source with its arrival.
-#[derive(Drop)]
+#[derive(Clone, Copy)]
 pub struct Phase {
     pub source: Source,
     pub arrival: u32,
 }
 
 // "the three figures of its `# gates` line".
-#[derive(Drop)]
+#[derive(Clone, Copy)]
 pub struct Figures {
     pub gates: u32,
     pub area: u32,
@@ -94,21 +95,21 @@ pub struct Figures {
 }
 
 // What a call answers: the netlist's length and its figures, or a refusal's number and place.
-#[derive(Drop)]
+#[derive(Clone, Copy)]
 pub enum Answer {
     Mapped(usize, Figures),
     Refused(usize, usize),
 }
 
 // What a call that writes a text answers: the text's length, or a refusal's number and place.
-#[derive(Drop)]
+#[derive(Clone, Copy)]
 pub enum Written {
     Length(usize),
     Refused(usize, usize),
 }
 
 // The scan of a genlib expression: a factor is expected, or one has ended, where so many brackets are open; or the `;` has ended it.
-#[derive(Drop)]
+#[derive(Clone, Copy)]
 pub enum Scan {
     Expected(usize),
     After(usize),
@@ -117,7 +118,7 @@ pub enum Scan {
 }
 
 // What a call for two channels answers.
-#[derive(Drop)]
+#[derive(Clone, Copy)]
 pub struct Two {
     pub first: Answer,
     pub second: Answer,
@@ -125,7 +126,7 @@ pub struct Two {
 
 // The netlists counted so far: for each of the library's 32 lines the gates of its cell, their total area and in how many netlists it occurs, and how
 // many netlists were counted. "a tally handed on by these calls from an empty one".
-#[derive(Drop)]
+#[derive(Clone, Copy)]
 pub struct Tally {
     pub gates: [u64; 32],
     pub areas: [u64; 32],
@@ -134,7 +135,7 @@ pub struct Tally {
 }
 
 // What counting answers: the tally handed on stands beside the verdict. After a refusal it is the tally as it was.
-#[derive(Drop)]
+#[derive(Clone, Copy)]
 pub struct Counted {
     pub verdict: Verdict,
     pub tally: Tally,
@@ -142,7 +143,7 @@ pub struct Counted {
 
 // What a check of a netlist answers: it computes the graph; or the lowest assignment that differs and that assignment's first wrong output; or a
 // refusal's number and place.
-#[derive(Drop)]
+#[derive(Clone, Copy)]
 pub enum Checked {
     Accepted,
     Differs(usize, usize),

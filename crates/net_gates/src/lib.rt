@@ -1,4 +1,6 @@
 // What drives a phase: one gate, or two for a pair, each of a listed cell with its nets.
+#![tactic(auto)]
+
 ghost use Rattle.base.specs.{◌≡◌, [], map, ◌≤◌, ◌<◌, get_or};
 ghost use Rattle.base_truth.specs.{places_of};
 ghost use Rattle.net_gates.specs.{phase_net, four_nets, inner_nets, root_net, root_nets, no_instance, one_driver, two_driver, pair_driver};
@@ -8,7 +10,7 @@ use model::Cell;
 
 // A gate of the netlist: a listed cell, the nets of its first `count` pins in order, and its own net. A net's number is twice a phase's literal, and
 // one more for the net inside the pair that drives the phase.
-#[derive(Drop)]
+#[derive(Clone, Copy)]
 pub struct Instance {
     pub cell: Cell,
     pub nets: [u32; 4],
@@ -17,7 +19,7 @@ pub struct Instance {
 }
 
 // What drives a phase: one gate, the root, or two: "A pair prints as two gates". Nothing where the phase is not there.
-#[derive(Drop)]
+#[derive(Clone, Copy)]
 pub struct Driver {
     pub there: bool,
     pub pair: bool,

@@ -1,5 +1,7 @@
 // Minimum arrivals: the chosen gates timed once more, with the lowest delays, and the `# timing` lines that say both ends.
 // "The netlist is then followed by a line per output, as `# timing o0 30 35`: a low and a high arrival."
+#![tactic(auto)]
+
 ghost use Rattle.base.specs.{◌≡◌, ◌+◌, ◌*◌, ◌/◌, ◌≤◌, ◌<◌, List, length, drop};
 ghost use Rattle.model.specs.{cells_of, fed_nets};
 ghost use Rattle.model.specs.declared.Cell.{Cell};

@@ -1,6 +1,8 @@
 // Layer six: the needed phases become the lines of a netlist, and its figures are those of the lines.
 // "Needed phases, inputs' own positive nets apart, become gates by ascending variable, `p` first." A phase is its literal, 2v positive and
 // 2v+1 negative, so that ascending literals are this order.
+#![tactic(auto)]
+
 ghost use Rattle.base.specs.{◌≡◌, ◌∷◌, [], ◌+◌, ◌-◌, ◌*◌, ◌/◌, ◌≤◌, ◌<◌, max, length, take};
 ghost use Rattle.model.specs.{each, decimal, net_name, label, gate_line, out_name, wire_line};
 ghost use Rattle.model.specs.Graph.{Graph};
@@ -20,14 +22,14 @@ use net_gates::{Driver, Instance};
 
 // "A walk over the mapped gates holds the lent words and the next gate": `next` is the gate's phase, as a literal, past the last phase at the
 // end.
-#[derive(Drop)]
+#[derive(Clone, Copy)]
 struct Walk<'a> {
     words: &'a [u16],
     next: usize,
 }
 
 // The bytes, the number and the area of the gates so far.
-#[derive(Drop)]
+#[derive(Clone, Copy)]
 struct Tally {
     length: usize,
     gates: u32,
@@ -35,7 +37,7 @@ struct Tally {
 }
 
 // The netlist's length and "the three figures of its `# gates` line".
-#[derive(Drop)]
+#[derive(Clone, Copy)]
 pub struct Measured {
     pub length: usize,
     pub figures: Figures,

@@ -1,4 +1,6 @@
 // What the programs share: a file read, a line of a word and two numbers written, and what is said where a file cannot be read or nothing can be written.
+#![tactic(auto)]
+
 ghost use Rattle.base.specs.{◌≡◌, ◌+◌, ◌-◌, ◌≤◌, length};
 ghost use Rattle.program_files.specs.{end_from, Found_in, Loaded_in};
 
@@ -21,7 +23,7 @@ pub fn end(s: &[u8], from: usize) -> usize
 }
 
 // What a name leads to: so many bytes, at the start of the buffer; no file; or one that cannot be opened or read, which has been said on standard error.
-#[derive(Drop)]
+#[derive(Clone, Copy)]
 pub enum Found {
     Bytes(usize),
     Absent,
@@ -29,7 +31,7 @@ pub enum Found {
 }
 
 // The same where "an absent file counts as empty".
-#[derive(Drop)]
+#[derive(Clone, Copy)]
 pub enum Loaded {
     Bytes(usize),
     Unreadable,

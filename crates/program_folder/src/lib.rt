@@ -1,5 +1,7 @@
 // `cells.txt`, `graph.aag` and `arrivals.txt` of the current folder mapped, the netlist or one line of `refused`, number and place printed: with pairs of
 // cells or without, a program each.
+#![tactic(auto)]
+
 ghost use Rattle.base.specs.{◌≡◌, length};
 ghost use Rattle.promises.specs.{Fits};
 

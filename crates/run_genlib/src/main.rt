@@ -1,6 +1,8 @@
 // Each case of the standard input is two texts, each ended by byte 0: a number in decimal, which lends so many bytes, and a genlib text. The
 // lent bytes are points at first. For each case the two values of the answer are printed, and then all the lent bytes. cases.py writes the
 // cases, and what must be printed by a reader of its own.
+#![tactic(auto)]
+
 use base_text::Value;
 use libc::{STDIN_FILENO, STDOUT_FILENO};
 use model::Written;

@@ -1,6 +1,8 @@
 // Each text of the standard input, ended by byte 0, is read as a graph and its ANDs are ordered, with the same 80,000 words lent to every one, and one line
 // says what was found: `refused`, number and place; or `ordered`, the topological order, and the outputs' literals behind `outputs`. cases.py writes the texts,
 // and the lines by a reader of its own.
+#![tactic(auto)]
+
 ghost use Rattle.graph_order.specs.{Fit};
 
 use libc::STDIN_FILENO;

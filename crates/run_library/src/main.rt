@@ -1,6 +1,8 @@
 // Each text of the standard input, ended by byte 0, is read as a cell library, and one line says what was found: `refused`, number and place; or
 // `read`, under the longer names line `ranged`, then the number of cells and their values in the order of that line. cases.py writes the texts, and
 // the lines by a reader of its own.
+#![tactic(auto)]
+
 use libc::STDIN_FILENO;
 use model::{Cell, Library, Verdict};
 

@@ -1,6 +1,8 @@
 // Each case of the standard input is four parts, each ended by byte 0: four numbers a b c d, which lend 16 a + b words and 16 c + d bytes, a
 // library text, a graph text and an arrivals' text. For each the five values of the answer are printed, and then the netlist. The other mapper writes the
 // cases and what must be printed (tests/other/src/bin/cases.rs).
+#![tactic(auto)]
+
 ghost use Rattle.base.specs.{◌≤◌};
 
 use base_text::{Cursor, Number};

@@ -1,13 +1,15 @@
 // The program: the netlists `1.blif`, `2.blif` and so on of the current folder, up to the first absent one, counted by the library `cells.txt`; then the
 // report.
 // For a netlist that is refused, and for a report that is, one line of `refused`, number and place is printed in its place.
+#![tactic(auto)]
+
 ghost use Rattle.base.specs.{◌≡◌, length};
 
 use model::{Tally, Verdict, Written};
 use program_files::{Found, Loaded};
 
 // What the next name led to: a netlist, counted or refused; the end of the netlists; or a file that cannot be read.
-#[derive(Drop)]
+#[derive(Clone, Copy)]
 pub enum NextNetlist {
     Counted,
     End,
@@ -15,7 +17,7 @@ pub enum NextNetlist {
 }
 
 // The tally so far beside it.
-#[derive(Drop)]
+#[derive(Clone, Copy)]
 pub struct Next {
     pub found: NextNetlist,
     pub tally: Tally,

@@ -1,5 +1,7 @@
 // A tally lent as 97 numbers: the gates of the 32 cells, their areas, the netlists in which each occurs, and the netlists counted. A slice of
 // another length is refused as a figure over 2^40 is.
+#![tactic(auto)]
+
 ghost use Rattle.base.specs.{◌≡◌, ◌+◌, ◌≤◌, length, take, drop};
 ghost use Rattle.promises.specs.{NetlistCount, TallyReport, overfull, tally_of};
 ghost use Rattle.base_words.specs.{put_at};

@@ -1,5 +1,7 @@
 // Mapped netlists counted into a tally, and its report. "Stock planning reads up to 64 mapped netlists of one library, one after another, into a
 // tally handed on by these calls from an empty one."
+#![tactic(auto)]
+
 ghost use Rattle.base.specs.{◌≡◌, true, [], ◌∷◌, ℕ, ◌+◌, ◌*◌, ◌^◌, ◌≤◌, ◌<◌, leb, ltb, length, get_or};
 ghost use Rattle.model.specs.{one, all, fault, next, refusal_of, verdict_refusal, cells_of, in_width, expected_lines, nothing_left, preamble, wire_pairs};
 ghost use Rattle.model.specs.{timings, behind_gates, outputs_of, count_text, counted_answer};
@@ -11,7 +13,7 @@ use model::{Counted, Library, LibraryAnswer, Tally, Verdict};
 use tally_lines::Which;
 
 // A kind of line that is expected.
-#[derive(Drop)]
+#[derive(Clone, Copy)]
 pub enum Form {
     Model,
     Inputs,
@@ -24,21 +26,21 @@ pub enum Form {
 }
 
 // Where the next line begins, or where the line at fault does.
-#[derive(Drop)]
+#[derive(Clone, Copy)]
 pub struct Reached {
     pub ok: bool,
     pub at: usize,
 }
 
 // The cell of a gate line and where the next line begins, or another line.
-#[derive(Drop)]
+#[derive(Clone, Copy)]
 pub enum Gate {
     Is(usize, usize),
     Other,
 }
 
 // The gates of each cell, all gates, their area, and where the lines behind them begin.
-#[derive(Drop)]
+#[derive(Clone, Copy)]
 pub struct Counts {
     pub n: [u32; 32],
     pub gates: u32,
@@ -227,7 +229,7 @@ fn read_gates(s: &[u8], from: usize, lib: Library) -> Counts
 }
 
 // A netlist's counts, and where it was read up to: its end, or the line at fault.
-#[derive(Drop)]
+#[derive(Clone, Copy)]
 pub struct Netlist {
     pub ok: bool,
     pub at: usize,

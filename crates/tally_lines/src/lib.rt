@@ -1,6 +1,8 @@
 // The lines of a printed netlist: their fields, and the form of each kind of line. A line is lent without its end.
 // A reader goes from field to field by steps that lead past a field of its kind, to the place of the next; a place past the line says that no
 // field is left, or that one was not of its kind.
+#![tactic(auto)]
+
 ghost use Rattle.base.specs.{◌≡◌, map, ℕ, ◌+◌, ◌-◌, ◌≤◌, length, drop};
 ghost use Rattle.model.specs.{all, same, below, decimal, fields, cells_of, are_digits, is_label, is_phase_net, is_inner_net, is_gate_net};
 ghost use Rattle.model.specs.{is_bound, of_form, is_name_list, gate_form, gate_of, is_wire, is_figures, is_timing};
@@ -10,7 +12,7 @@ use base_text::Class;
 use model::{Cell, Library};
 
 // A kind of field: digits, a letter and digits, a net of an output's line, a pin or output of this letter with its net, this number.
-#[derive(Drop)]
+#[derive(Clone, Copy)]
 pub enum Kind {
     Digits,
     Label(u8),
@@ -20,7 +22,7 @@ pub enum Kind {
 }
 
 // The library's line of the cell that a gate line is of.
-#[derive(Drop)]
+#[derive(Clone, Copy)]
 pub enum Which {
     Line(usize),
     Nothing,

@@ -1,6 +1,8 @@
 // A tally's report: "a line per cell in library order, as `inv 3 3 2`: its gates, their total area and in how many netlists it occurs; then
 // `total` with gates, area and netlists counted". It is written on a page of its own first, so that a report that does not fit leaves the lent
 // memory as it was.
+#![tactic(auto)]
+
 ghost use Rattle.base.specs.{◌≡◌, ℕ, ◌+◌, ◌^◌, ◌≤◌, ◌<◌, length, take, get_or};
 ghost use Rattle.model.specs.{decimal, cells_of, sum, report_line, cell_line, total_line};
 ghost use Rattle.model.specs.{report_text, report_of};

@@ -1,1 +1,2 @@
 // Laws of covers: the choice is the earliest, is a cover, and is first by the order of preference; no code.
+#![tactic(auto)]

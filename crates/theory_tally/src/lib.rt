@@ -1,1 +1,2 @@
 // Laws of tallies and of the netlists counted into them. No code.
+#![tactic(auto)]
