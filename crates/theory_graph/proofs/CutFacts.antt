@@ -153,7 +153,7 @@ pub length-order : (g : Graph) → length (topological_order g) ≤ span g
 unfolding topological_order span
 length-order g = omega (arith, length-append g.inputs (order_from (length g.ands) g.ands (0 ∷ g.inputs)), length_place_f (length g.ands) g.ands (0 ∷ g.inputs))
 
-under_le : {g : Graph} {leaves : List ℕ} {n v : ℕ} (m : ℕ) → n ≤ m → Under g leaves n v → Under g leaves m v
+under_le : {g : Graph} {leaves : List ℕ} (m : ℕ) {n v : ℕ} → n ≤ m → Under g leaves n v → Under g leaves m v
 under_le zero h (leaf i) = absurd (not-suc-le-zero h)
 under_le zero h (nought e) = absurd (not-suc-le-zero h)
 under_le zero h (and e a b) = absurd (not-suc-le-zero h)

@@ -21,6 +21,7 @@ find-listed (b ∷ bs) once a m = by_bool (eqb a.var b.var) (λ e. cc (by_member
     (λ n. absurd (once.0 (Memᴰ-cast (sym ((rw e at (eqb→eq a.var b.var)) tt)) (map_in (λ (c : And). c.var) n)))))) (λ p. cc
     (by_member m (λ r. absurd (rw (ap (λ (c : And). eqb a.var c.var) r ∙ p) at (lib.Dec.eqb_refl a.var)))
     (find-listed bs once.1 a)))
+find-listed [] once a m = elim m [ ]
 
 module _ (g : Graph) (ok : Accepted g) where
   defined-once : Distinct (0 ∷ g.inputs ++ and_vars g)

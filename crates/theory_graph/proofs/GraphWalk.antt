@@ -49,3 +49,4 @@ module _ (g : Graph) (assignment w : ℕ → Bool) (is_value : Valuation g assig
   walk-value (suc n) v (and {l = l} {r = q} e a b) = leaf_walk w r 0 v leaves _ carry (λ h.
       ap (node_value (λ u. false) (walk n g leaves r) v) e ∙ ap₂ ◌&&◌ (literal_cong (walk n g leaves r) l (walk-value n (var_of l) a))
       (literal_cong (walk n g leaves r) q (walk-value n (var_of q) b)) ∙ sym (is_value v ∙ ap (node_value assignment w v) e))
+  walk-value Prim.Native.Nat.zero v x' = elim x' [ ]

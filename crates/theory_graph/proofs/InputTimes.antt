@@ -63,6 +63,7 @@ module _ (inputs : List ℕ) (once : Distinct inputs) where
       input-arrival-past inputs x es (get_or inputs e.index 0)
       (λ q. d.0 (Memᴰ-cast (sym (place-once inputs once e.index x.index (inside e.index (Memᴰ-tail i)) (inside x.index (Memᴰ-head refl)) q)) i))
       ∙ input-arrival-listed es (λ k n. inside k (Memᴰ-tail n)) d.1 e m
+  input-arrival-listed [] inside d e x3 = elim x3 [ ]
 
   -- "Inputs not listed arrive at 0."
   pub input-arrival-others : (es : List InputArrival) → ((k : ℕ) → Lists es k → k < length inputs) → (k : ℕ) → k < length inputs → ¬ Lists es k → input_arrival_of inputs es (get_or inputs k 0) ≡ 0

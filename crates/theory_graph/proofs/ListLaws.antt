@@ -21,6 +21,7 @@ module _ {A B : Type 0} where
   unfolding each
   each_in f {b = b} {xs = x ∷ xs} (Memᴰ-head e) n = Memᴰ-append_left (each f xs) (subst (λ (y : A). Memᴰ b (f y)) e n)
   each_in f {xs = x ∷ xs} (Memᴰ-tail m) n = Memᴰ-append_right (f x) (each_in f m n)
+  each_in f {a = a} {b = b} {xs = []} x5 n = elim x5 [ ]
 
   pub each_out : (f : A → List B) {b : B} (xs : List A) → Memᴰ b (each f xs) → (a : A) × Memᴰ a xs × Memᴰ b (f a)
   unfolding each
@@ -33,6 +34,7 @@ module _ {A : Type 0} (p : A → Bool) where
   unfolding keep
   keep_in {a} {xs = x ∷ xs} (Memᴰ-head e) t = by_bool (p x) (λ q. rw q (Memᴰ-head e)) (λ r. rw r (absurd (rw r at (rw e at t))))
   keep_in {a} {xs = x ∷ xs} (Memᴰ-tail m) t = by_bool (p x) (λ e. rw e (Memᴰ-tail (keep_in m t))) (λ q. rw q (keep_in m t))
+  keep_in {a = a} {xs = []} x5 t = elim x5 [ ]
 
   pub keep_out : {a : A} (xs : List A) → Memᴰ a (keep p xs) → Memᴰ a xs × T (p a)
   unfolding keep
@@ -111,6 +113,7 @@ pub elem_in : (v : ℕ) (xs : List ℕ) → Memᴰ v xs → elem v xs ≡ true
 unfolding elem any
 elem_in v (x ∷ xs) (Memᴰ-head e) = by_bool (eqb v x) (λ q. rw q) (λ p. rw p (absurd (rw p at (yes_eqb e))))
 elem_in v (x ∷ xs) (Memᴰ-tail m) = ap (◌||◌ (eqb v x)) (elem_in v xs m) ∙ or-true (eqb v x)
+elem_in v [] x' = elim x' [ ]
 
 pub same_refl : (xs : List ℕ) → T (same xs xs)
 unfolding same
@@ -147,6 +150,7 @@ pub all_of {ℓ} : {A : Type ℓ} (p : A → Bool) (xs : List A) → T (all p xs
 unfolding all
 all_of p (y ∷ ys) t x (Memᴰ-head e) = subst (λ z. T (p z)) (sym e) (and_yes (p y) (all p ys) t).0
 all_of p (y ∷ ys) t x (Memᴰ-tail m) = all_of p ys (and_yes (p y) (all p ys) t).1 x m
+all_of {A = A} p [] t x x4 = elim x4 [ ]
 
 pub is_true : (b : Bool) → T b → b ≡ true
 is_true true t = refl

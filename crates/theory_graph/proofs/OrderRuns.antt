@@ -14,6 +14,7 @@ no_twice-behind (x ∷ pre) vs h = no_twice-behind pre vs h.1
 pub twice-apart : (xs ys : List ℕ) (x : ℕ) → Distinct (xs ++ ys) → Memᴰ x xs → ¬ Memᴰ x ys
 twice-apart (z ∷ xs) ys x h (Memᴰ-head e) n = h.0 (Memᴰ-cast (sym e) (Memᴰ-append_right xs n))
 twice-apart (z ∷ xs) ys x h (Memᴰ-tail m) n = twice-apart xs ys x h.1 m n
+twice-apart [] ys x h x5 n = elim x5 [ ]
 
 -- Induction along a list: a number may use what holds of all that neither are it nor come after it.
 pub along : (Q : ℕ → Type 0) (vs : List ℕ) → ((u : ℕ) → ¬ Memᴰ u vs → Q u)

@@ -51,6 +51,7 @@ and-once (x ∷ xs) h a b (Memᴰ-head p) (Memᴰ-tail n) e =
 and-once (x ∷ xs) h a b (Memᴰ-tail m) (Memᴰ-head q) e =
     absurd (h.0 (Memᴰ-cast (sym (ap (λ (c : And). c.var) q) ∙ sym e) (map_in (λ (c : And). c.var) m)))
 and-once (x ∷ xs) h a b (Memᴰ-tail m) (Memᴰ-tail n) e = and-once xs h.1 a b m n e
+and-once [] h a b x4 _ e = elim x4 [ ]
 
 -- each AND of a list has its operands before it
 pub Closed : Graph → List ℕ → List ℕ → Type 0

@@ -64,3 +64,4 @@ module _ {A : Type 0} (cmp : A → A → Ordering) (found : (x y : A) → cmp x 
   unfolding union
   union_left a (x ∷ xs) ys (Memᴰ-head e) = Memᴰ-cast e (insert_new x (union cmp xs ys))
   union_left a (x ∷ xs) ys (Memᴰ-tail m) = insert_old cmp x a (union cmp xs ys) (union_left a xs ys m)
+  union_left a [] ys x' = elim x' [ ]
