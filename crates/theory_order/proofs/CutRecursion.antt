@@ -104,6 +104,7 @@ unfolding find_and
 find-line (x ∷ xs) h a (Memᴰ-head e) = cc (eq-eqb a.var x.var (ap (λ (b : And). b.var) e))
 find-line (x ∷ xs) h a (Memᴰ-tail m) =
     cc (ne_eqb a.var x.var (λ e. h.0 (Memᴰ-cast (sym e) (map_in (λ (b : And). b.var) m))), find-line xs h.1 a m)
+find-line [] h a x'' = elim x'' [ ]
 
 -- an AND is neither variable 0 nor an input
 and-apart : (g : Graph) → Accepted g → (v : ℕ) → Memᴰ v (and_vars g) → ¬ Memᴰ v (0 ∷ g.inputs)

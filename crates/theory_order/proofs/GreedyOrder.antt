@@ -17,6 +17,7 @@ pub data Greedy (g : Graph) : List ℕ → List ℕ → Type 0 where
 
 some-length : {a : And} (xs : List And) → Memᴰ a xs → ¬ (length xs ≤ 0)
 some-length (x ∷ xs) n k = omega arith
+some-length {a = a} [] n k = elim n [ ]
 
 module _ (g : Graph) where
   waits : (ordered : List ℕ) (w : ℕ) (f : Follows g ordered w) → ¬ Memᴰ w ordered → ¬ Memᴰ f.line.var ordered

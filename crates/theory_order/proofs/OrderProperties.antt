@@ -105,6 +105,7 @@ module _ (g : Graph) where
     where
       some-length : (xs : List And) → Memᴰ a xs → ¬ (length xs ≤ 0)
       some-length (x ∷ xs) n k = omega arith
+      some-length [] n k = elim n [ ]
   order-ends (suc fuel) ordered h a m l r =
       let here : (u : ℕ) → Memᴰ u (ordered ++ []) → Memᴰ u ordered = λ u. subst (λ (xs : List ℕ). Memᴰ u xs)
       (append-nil ordered) in

@@ -27,6 +27,7 @@ module _ {A : Type 0} where
   pub split_at : {v : A} (xs : List A) → Memᴰ v xs → (pre : List A) × (post : List A) × (xs ≡ pre ++ (v ∷ post))
   split_at (x ∷ xs) (Memᴰ-head e) = ([], xs, ap (λ (y : A). y ∷ xs) (sym e))
   split_at (x ∷ xs) (Memᴰ-tail m) = let r = split_at xs m in (x ∷ r.0, r.1, ap (λ (ys : List A). x ∷ ys) r.2)
+  split_at {v = v} [] x' = elim x' [ ]
 
   pub nil_split : (pre : List A) (v : A) (post : List A) → ¬ ([] ≡ pre ++ (v ∷ post))
   nil_split [] v post e = Memᴰ-not-nil (subst (λ (xs : List A). Memᴰ v xs) (sym e) (Memᴰ-head refl))
@@ -103,6 +104,7 @@ module _ {A : Type 0} (p q : A → Bool) (narrower : (a : A) → T (q a) → T (
   keep_less {a} (x ∷ xs) (Memᴰ-tail m) t f = by_bool (p x)
       (λ e. rw e (by_bool (q x) (λ r. rw r (omega (arith, keep_less xs m t f))) (λ z. rw z (omega (arith, keep_less xs m t f)))))
       (λ w. rw w (by_bool (q x) (λ u. rw u (absurd ((rw u at (rw w at (narrower x))) tt))) (λ v. rw v (keep_less xs m t f))))
+  keep_less {a = a} [] x3 t f = elim x3 [ ]
 
 -- nothing stands in the list, or nothing below what is given
 abbrev Bound : Option ℕ → List ℕ → Type 0
