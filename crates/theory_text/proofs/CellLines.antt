@@ -75,6 +75,7 @@ line-cell ranged k before (x ∷ ls) cs e l m = go m (line-cell ranged (suc k) (
     go (Memᴰ-head q) later =
         (s.first, subst (λ (xs : List Cell). Memᴰ s.first xs) s.is_list (Memᴰ-head refl), ap (λ (y : Line). cell_of_bytes ranged y.bytes) q ∙ s.is_first)
     go (Memᴰ-tail i) later = let r = later i in (r.0, rw (← s.is_list) (Memᴰ-tail r.1), r.2)
+line-cell ranged k before [] cs e l m = elim m [ ]
 
 -- the lines behind the names line
 lines-read : (ls : List Line) (cells : List Cell) → read_library_lines ls ≡ holds cells → read_cells (ranged_lines ls) 0 [] (behind_first ls) ≡ holds cells

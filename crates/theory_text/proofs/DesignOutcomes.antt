@@ -44,6 +44,7 @@ outputs_present phase k (x ∷ ls) e l m = go (absent (phase x).source) refl e m
     go true a q n later = absurd (cons≢nil q)
     go false a q (Memᴰ-head s) later = ap (λ (y : ℕ). absent (phase y).source) s ∙ a
     go false a q (Memᴰ-tail n) later = later q n
+outputs_present phase k [] e l m = elim m [ ]
 
 module _ (listed cells : List Cell) (g : Graph) (t : List ℕ) (f : Figures) where
   from-choice : map_graph listed cells g ≡ mapped t f → FromChoice listed cells g t f

@@ -126,6 +126,8 @@ module _ (P : ℕ → ℕ → ℕ → Type 0) where
   unfolding next
   fares_next R S (holds a) (holds b) f g (both_hold h) k = k a b h
   fares_next R S (fault n k₁) (fault m j) f g (both_fault p) k = both_fault p
+  fares_next {A = A} {B = B} {C = C} {D = D} R S (holds a) (fault m j) f g x4 k = elim x4 [ ]
+  fares_next {A = A} {B = B} {C = C} {D = D} R S (fault n k₁) (holds b) f g x4 k = elim x4 [ ]
 
   -- one reading fares alike with itself
   fares_self : {A : Type 0} (r : Read A) → Faults (λ n k. P n k k) r → Fares ◌≡◌ P r r
@@ -135,11 +137,15 @@ module _ (P : ℕ → ℕ → ℕ → Type 0) where
   fares_holds : {A : Type 0} (r q : Read A) → Fares ◌≡◌ P r q → (a : A) → r ≡ holds a → q ≡ holds a
   fares_holds (holds x) (holds y) (both_hold h) a e = ap holds (sym h) ∙ e
   fares_holds (fault n k) (fault m j) (both_fault p) a e = absurd (fault_never e)
+  fares_holds {A = A} (holds x) (fault m j) x5 a e = elim x5 [ ]
+  fares_holds {A = A} (fault n k) (holds y) x4 a e = elim x4 [ ]
 
   fares_fault : {A : Type 0} (r q : Read A) → Fares ◌≡◌ P r q → (n k : ℕ) → r ≡ fault n k → (j : ℕ) × (q ≡ fault n j) × P n k j
   fares_fault (holds x) (holds y) (both_hold h) n k e = (in_holds (λ m i. (j : ℕ) × (holds y ≡ fault m j) × P m i j) x).has n k e
   fares_fault {A} (fault m i) (fault m₂ j) (both_fault p) n k e =
       (in_fault {A = A} (λ m₁ i₁. (j₁ : ℕ) × (◌≡◌ {A = Read A} (fault m j) (fault m₁ j₁)) × P m₁ i₁ j₁) m i (j, refl, p)).has n k e
+  fares_fault {A = A} (holds x) (fault m₂ j) x5 n k e = elim x5 [ ]
+  fares_fault {A = A} (fault m i) (holds y) x4 n k e = elim x4 [ ]
 
 -- ---- the library
 
@@ -177,6 +183,8 @@ module _ (At : ℕ → ℕ → Type 0) (P : ℕ → ℕ → ℕ → Type 0) (put
           (fares_unless P ◌≡◌ (no_lower c.mins c.delays) (no_lower c.mins c.delays) 27 l.offset m.offset _ _ refl (put 27 refl l.offset m.offset a)
           (fares_next P ◌≡◌ ◌≡◌ (read_cells ranged (suc k) (c ∷ before) ls) (read_cells ranged (suc k) (c ∷ before) ms) (λ cs. holds (c ∷ cs)) (λ cs. holds (c ∷ cs)) f
           (λ cs ds r. both_hold (ap (λ (xs : List Cell). c ∷ xs) r)))))
+  same-cells ranged end bound k before [] (m ∷ ms) x'' = elim x'' [ ]
+  same-cells ranged end bound k before (l ∷ ls) [] x3 = elim x3 [ ]
 
   same_lines : At 0 0 → (end bound : ℕ) (ls ms : List Line) → Paired At end bound ls ms → Fares ◌≡◌ P (read_library_lines ls) (read_library_lines ms)
   unfolding read_library_lines shown
@@ -185,6 +193,8 @@ module _ (At : ℕ → ℕ → Type 0) (P : ℕ → ℕ → ℕ → Type 0) (put
       (ended m && (is_shorter m || is_longer m)) 2 0 0 _ _ (unfold is_shorter is_longer in ap (λ (p : List ℕ × Bool). p.1 &&
       (same p.0 (text "cell pins table area d0 d1 d2 d3") || same p.0 (text "cell pins table area d0 d1 d2 d3 l0 l1 l2 l3"))) e)
       (put 2 refl 0 0 z) (rw (← longer-shown l m e) (same-cells (is_longer l) end bound 0 [] ls ms more))
+  same_lines z end bound [] (m ∷ ms) x'' = elim x'' [ ]
+  same_lines z end bound (l ∷ ls) [] x3 = elim x3 [ ]
 
 -- whether the delays are ranges, by what is shown of the lines
 same-ranged : (s t : List ℕ) → Alike s t → is_ranged s ≡ is_ranged t
@@ -271,6 +281,8 @@ module _ (At : ℕ → ℕ → Type 0) (P : ℕ → ℕ → ℕ → Type 0) (put
           (fares_unless P (SameItems At) (is_new ns) (is_new ns) 13 l.offset m.offset _ _ refl (put 13 refl l.offset m.offset a)
           (fares_next P (SameItems At) (SameItems At) (read_expected (closed false) end size (known ns) ks ls) (read_expected (closed false) bound size (known ns) ks ms) _ _ f
           (λ is js r. both_hold (another k l.offset m.offset ns a r))))
+  same-expected end bound size before (k ∷ ks) [] (m ∷ ms) e = elim e [ ]
+  same-expected end bound size before (k ∷ ks) (l ∷ ls) [] e = elim e [ ]
 
   same-uses : (known : List ℕ) {is js : List Item} → SameItems At is js → Fares (SameItems At) P (check_uses known is) (check_uses known js)
   unfolding check_uses uses
@@ -356,6 +368,8 @@ module _ (At : ℕ → ℕ → Type 0) (P : ℕ → ℕ → ℕ → Type 0) (put
           rw (header_by_lem l ls f) (rw (header_by_lem m ms (ap (λ (w : List ℕ). same w (text "aig")) (sym (word l m ls ms e)) ∙ f)
           ∙ ap (λ (p : List ℕ × Bool). header_by p (next_of m)) (sym e))
           (same_first (shown l) (next_of l) (next_of m) (rw (lines-behind s l ls x) (rw (lines-behind t m ms y) more))))
+      go [] x (m ∷ ms) y x8 f = elim x8 [ ]
+      go (l ∷ ls) x [] y x7 f = elim x7 [ ]
 
   -- ---- the graph
   same_graph : (h k : Header) → Headers At s t h k → Fares ◌≡◌ P (read_graph s h) (read_graph t k)
@@ -400,6 +414,8 @@ module _ (At : ℕ → ℕ → Type 0) (P : ℕ → ℕ → ℕ → Type 0) (put
           (put 26 refl l.offset m.offset a)
           (fares_next P ◌≡◌ ◌≡◌ (read_input_arrivals inputs (get_or ns 0 0 ∷ before) ls) (read_input_arrivals inputs (get_or ns 0 0 ∷ before) ms) (λ es. holds (input_arrival ns ∷ es)) (λ es. holds (input_arrival ns ∷ es)) f
           (λ es fs r. both_hold (ap (λ (xs : List InputArrival). input_arrival ns ∷ xs) r)))
+  same-input-arrival end bound inputs before [] (m ∷ ms) x'' = elim x'' [ ]
+  same-input-arrival end bound inputs before (l ∷ ls) [] x3 = elim x3 [ ]
 
   same-input-arrival-lines : (end bound inputs : ℕ) (ls ms : List Line) → Paired At end bound ls ms → Fares ◌≡◌ P (read_input_arrival_lines inputs ls) (read_input_arrival_lines inputs ms)
   unfolding read_input_arrival_lines shown
@@ -407,6 +423,8 @@ module _ (At : ℕ → ℕ → Type 0) (P : ℕ → ℕ → ℕ → Type 0) (put
   same-input-arrival-lines end bound inputs (l ∷ ls) (m ∷ ms) (a_line e a more) =
       fares_unless P ◌≡◌ (ended l && same l.bytes (text "input arrival")) (ended m && same m.bytes (text "input arrival")) 25 l.offset m.offset _ _
       (ap (λ (p : List ℕ × Bool). p.1 && same p.0 (text "input arrival")) e) (put 25 refl l.offset m.offset a) (same-input-arrival end bound inputs [] ls ms more)
+  same-input-arrival-lines end bound inputs [] (m ∷ ms) x'' = elim x'' [ ]
+  same-input-arrival-lines end bound inputs (l ∷ ls) [] x3 = elim x3 [ ]
 
 -- ---- the texts of two calls
 

@@ -25,6 +25,7 @@ library-rest c cs t = and_yes (all (λ (d : Cell). not (same (name_of c) (name_o
 pub library-cell : (cells : List Cell) → T (library_fits cells) → (c : Cell) → Memᴰ c cells → T (cell_fits c)
 library-cell (d ∷ cs) t c (Memᴰ-head e) = subst (λ (x : Cell). T (cell_fits x)) (sym e) (library-first d cs t)
 library-cell (d ∷ cs) t c (Memᴰ-tail m) = library-cell cs (library-rest d cs t).1 c m
+library-cell [] t c x'' = elim x'' [ ]
 
 -- what a cell's form says
 pub record CellForm (c : Cell) : Type 0 where
@@ -49,6 +50,7 @@ named-cell (d ∷ cs) t c (Memᴰ-head e) = by_bool (same (name_of d) (name_of c
 named-cell (d ∷ cs) t c (Memᴰ-tail m) = by_bool (same (name_of d) (name_of c))
     (λ e. rw e (absurd (rw e at (all_of (λ (x : Cell). not (same (name_of d) (name_of x))) cs (library-rest d cs t).0 c m))))
     (λ q. rw q (named-cell cs (library-rest d cs t).1 c m))
+named-cell [] t c x'' = elim x'' [ ]
 
 -- ---- the line of a gate whose cell is listed, with as many nets as the cell has pins
 
