@@ -32,6 +32,7 @@ pub choose_beats : (w : Phase) (t : ℕ) (ws : List Phase) → Memᴰ w ws → B
 unfolding choose
 choose_beats w t (x ∷ ws) (Memᴰ-head e) h = earlier-first x (choose ws) t (subst (λ (y : Phase). Beats y t) e h)
 choose_beats w t (x ∷ ws) (Memᴰ-tail m) h = earlier-second x (choose ws) t (choose_beats w t ws m h)
+choose_beats w t [] x'' h = elim x'' [ ]
 
 -- the two phases of a variable, each with the other's inverters
 pub joined-phase : (cells : List Cell) (own : Bool → Phase) (b : Bool)

@@ -62,6 +62,7 @@ pub choose-least : (ws : List Phase) → Ascending ws → (w : Phase) → Memᴰ
 unfolding choose
 choose-least (x ∷ ws) asc w (Memᴰ-head e) h = subst (Least (earlier x (choose ws))) (sym e) (first-least x (choose ws) (ap (λ (y : Phase). absent y.source) (sym e) ∙ h))
 choose-least (x ∷ ws) asc w (Memᴰ-tail m) h = second-least x (choose ws) w (choose-least ws asc.1 w m h) (λ p. asc.0 w m p h)
+choose-least [] asc w x3 h = elim x3 [ ]
 
 -- ---- what the choice tries ascends in rank
 

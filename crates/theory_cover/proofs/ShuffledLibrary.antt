@@ -26,6 +26,7 @@ line_of_lem c (d ∷ cells) (Memᴰ-head e) = record { line = 0; here = omega ar
 line_of_lem c (d ∷ cells) (Memᴰ-tail m) =
     let r = line_of_lem c cells m in
     record { line = suc r.line; here = let h : r.line < length cells = r.here in omega arith; is = r.is }
+line_of_lem c [] x' = elim x' [ ]
 
 past_end_lem : (cells : List Cell) (k : ℕ) → length cells ≤ k → get_or cells k no_cell ≡ no_cell
 past_end_lem [] k h = refl
