@@ -81,6 +81,7 @@ known_more before es e known v = (there, back)
     front : (xs : List InputArrival) → Memᴰ v (indexes xs) → Memᴰ v (indexes (xs ++ (e ∷ [])))
     front (x ∷ xs) (Memᴰ-head q) = Memᴰ-head q
     front (x ∷ xs) (Memᴰ-tail m) = Memᴰ-tail (front xs m)
+    front [] x' = elim x' [ ]
 
     last : (xs : List InputArrival) → v ≡ e.index → Memᴰ v (indexes (xs ++ (e ∷ [])))
     last [] q = Memᴰ-head q

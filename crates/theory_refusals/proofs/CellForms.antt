@@ -121,6 +121,8 @@ form_made true w p t (a ∷ ds) (n ∷ []) table count named q tab few = let z :
 form_made false w p t (a ∷ ds) (n ∷ []) table count named q tab few = let z : ⊥ = omega (arith, numbers-count q) in absurd z
 form_made true w p t [] ns table count named q tab few = let z : ⊥ = omega arith in absurd z
 form_made false w p t [] ns table count named q tab few = let z : ⊥ = omega arith in absurd z
+form_made false w p t (a ∷ ds) [] table count named q tab few = elim q [ ]
+form_made true w p t (a ∷ ds) [] table count named q tab few = elim q [ ]
 
 fields_form : (ranged : Bool) (w : List ℕ) (c : Cell) → cell_of_fields ranged (fields w) ≡ some c → CellFields ranged w c
 fields_form ranged w c e =

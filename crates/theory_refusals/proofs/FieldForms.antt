@@ -158,6 +158,7 @@ unfolding is_name
 name_back (b ∷ bs) (name l bytes short) =
     yes_and (is_letter b) (all is_name_byte bs && leb (length bs) 7) (letter-back b l)
     (yes_and (all is_name_byte bs) (leb (length bs) 7) (all_in is_name_byte bs (λ x m. byte_back x (bytes x m))) (yes_leb {a = length bs} {b = 7} (omega arith)))
+name_back [] x' = elim x' [ ]
 
 -- bytes at or above 48 are none below it
 high-free : (s : ℕ) → s < 48 → (w : List ℕ) → ((x : ℕ) → Memᴰ x w → 48 ≤ x) → Free s w

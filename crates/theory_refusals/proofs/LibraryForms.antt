@@ -93,6 +93,7 @@ new_form c cs t r =
 in_reverse : (cs : List Cell) (d : Cell) → Memᴰ d cs → Memᴰ d (reverse cs)
 in_reverse (c ∷ cs) d (Memᴰ-head e) = subst (λ (xs : List Cell). Memᴰ d xs) (sym (reverse-cons c cs)) (Memᴰ-append_right (reverse cs) (Memᴰ-head e))
 in_reverse (c ∷ cs) d (Memᴰ-tail m) = subst (λ (xs : List Cell). Memᴰ d xs) (sym (reverse-cons c cs)) (Memᴰ-append_left (c ∷ []) (in_reverse cs d m))
+in_reverse [] d x' = elim x' [ ]
 
 out_reverse : (cs : List Cell) (d : Cell) → Memᴰ d (reverse cs) → Memᴰ d cs
 out_reverse [] d m = m

@@ -120,7 +120,9 @@ module _ (c : Call) where
 
   cut-is : (d : Design) (x : ToDesign c d) → OrderOfAll d.graph → map_texts c ≡ within c.bytes (followed d.ranged d.cells d.graph (map_cut d.listed d.cells d.graph (over_limit d.graph)))
   unfolding map_graph map_ordered
-  cut-is d x o = cc (outcome-is c d (read d x), ap lowest (ordered d x o))
+  cut-is d x o =
+      outcome-is c d (read d x)
+      ∙ ap (λ (vs : List ℕ). within c.bytes (followed d.ranged d.cells d.graph (map_ordered d.listed d.cells d.graph (lowest vs)))) (ordered d x o)
 
   sixteen : (d : Design) → ToDesign c d → OrderOfAll d.graph → (v : ℕ) → (map_texts c ≡ refused 16 v) ↔ FirstOverLimit d.graph v
   sixteen d x o v =

@@ -52,6 +52,7 @@ known_out (j ∷ is) v i (Memᴰ-head q) d e = by_bool (defines j.kind)
     defined and_defines = tt
 known_out (j ∷ is) v i (Memᴰ-tail m) d e = by_bool (defines j.kind) (λ q. rw q (Memᴰ-tail (known_out is v i m d e)))
     (λ p. rw p (known_out is v i m d e))
+known_out [] v i x3 d e = elim x3 [ ]
 
 -- ---- the test of a line
 
