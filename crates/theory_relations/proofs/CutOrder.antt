@@ -42,11 +42,15 @@ smaller-more (alike {x = x} {xs = xs} {ys = ys} s) = go (compare x x) (eq-eqb x 
     go Ordering-eq e r = r
     go Ordering-gt e r = absurd (false≢true e)
 
+-- four lists and two equations in place of two lists, so that the two relations have no index in common
+smaller-apart : {c d e f : List ℕ} → Smaller c d → Smaller e f → d ≡ e → ¬ (c ≡ f)
+smaller-apart (here {x = x} {y = y} h) (here {x = z} {y = w} k) p q = let r : y ≡ z = cc in let s : x ≡ w = cc in omega arith
+smaller-apart (here {x = x} {y = y} h) (alike {x = z} s) p q = let r : y ≡ z = cc in let t : x ≡ z = cc in omega arith
+smaller-apart (alike {x = x} s) (here {x = z} {y = w} k) p q = let r : x ≡ z = cc in let t : x ≡ w = cc in omega arith
+smaller-apart (alike {ys = d} s) (alike {xs = e} r) p q = smaller-apart s r (let t : d ≡ e = cc in t) cc
+
 smaller-once : {c d : List ℕ} → Smaller c d → ¬ Smaller d c
-smaller-once (here h) (here k) = omega arith
-smaller-once (here h) (alike s) = omega arith
-smaller-once (alike s) (here k) = omega arith
-smaller-once (alike s) (alike r) = smaller-once s r
+smaller-once s r = smaller-apart s r refl refl
 
 -- ---- cuts
 
@@ -80,6 +84,7 @@ number_less once (x ∷ xs) h first first r = absurd (once x x r r)
 number_less once (x ∷ xs) h first (later b) r = omega arith
 number_less once (x ∷ xs) h (later {x = y} a) first r = absurd (once y x r (h.0 y (at_in a)))
 number_less once (x ∷ xs) h (later a) (later b) r = let k = number_less once xs h.1 a b r in omega arith
+number_less {A = A} {R = R} once [] h {i = i} {j = j} {y = y} x6 _ r = elim x6 [ ]
 
 pub cut-number : (g : Graph) → Accepted g → (v : ℕ) {i j : ℕ} {c d : List ℕ} → At (cuts_of g v) i c → At (cuts_of g v) j d → Before c d → i < j
 cut-number g ok v = number_less (λ c d. before-once) (cuts_of g v) (cuts_in_order g ok v)

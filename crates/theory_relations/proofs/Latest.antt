@@ -14,6 +14,7 @@ unfolding fed_nets bit
 fed-at zero places mask cut h a = absurd (not-suc-le-zero h)
 fed-at (suc n) (p ∷ ps) mask cut h first = first
 fed-at (suc n) (p ∷ ps) mask cut h (later a) = later (fed-at n ps (mask / 2) cut (le_of_suc-le-suc h) a)
+fed-at (suc n) [] mask cut {j = j} {p = p} h a = elim a [ ]
 
 pub fed_out : (n : ℕ) (places : List ℕ) (mask : ℕ) (cut : List ℕ) (j x : ℕ) → At (fed_nets n places mask cut) j x
     → (p : ℕ) × (j < n) × At places j p × (x ≡ literal (bit mask j) (get_or cut p 0))
@@ -23,6 +24,8 @@ fed_out (suc n) (p ∷ ps) mask cut (suc j) x (later a) =
     let o = fed_out n ps (mask / 2) cut j x a in
     let h = o.1 in
     (o.0, omega arith, later o.2, o.3)
+fed_out zero places mask cut j x x3 = elim x3 [ ]
+fed_out (suc n) [] mask cut j x x6 = elim x6 [ ]
 
 -- ---- arrivals
 
@@ -32,6 +35,7 @@ latest-over (t ∷ ts) [] first = omega arith
 latest-over (t ∷ ts) [] (later a) = let h = latest-over ts [] a in omega arith
 latest-over (t ∷ ts) (d ∷ ds) first = omega arith
 latest-over (t ∷ ts) (d ∷ ds) (later a) = let h = latest-over ts ds a in omega arith
+latest-over [] ds {j = j} {t = t} x' = elim x' [ ]
 
 -- the larger of a number and what is one of a list's or 0
 step : (ts ds : List ℕ) (t d : ℕ) → ((ts ≡ []) × (latest ts ds ≡ 0)) ⊎ ((j : ℕ) × (u : ℕ) × At ts j u × (latest ts ds ≡ u + get_or ds j 0))
@@ -57,6 +61,7 @@ pub largest-over : (ts : List ℕ) {t : ℕ} → Memᴰ t ts → t ≤ largest t
 unfolding largest
 largest-over (t ∷ ts) (Memᴰ-head e) = omega arith
 largest-over (t ∷ ts) (Memᴰ-tail m) = let h = largest-over ts m in omega arith
+largest-over [] {t = t} x' = elim x' [ ]
 
 pub largest-one : (ts : List ℕ) → ((ts ≡ []) × (largest ts ≡ 0)) ⊎ Memᴰ (largest ts) ts
 unfolding largest

@@ -33,6 +33,7 @@ kept : (t text : List ℕ) (i b : ℕ) → length t ≤ i → At text i b → At
 kept [] text i b h a = a
 kept (x ∷ t) (y ∷ text) zero b h first = absurd (not-suc-le-zero h)
 kept (x ∷ t) (y ∷ text) (suc i) b h (later a) = later (kept t text i b (le_of_suc-le-suc h) a)
+kept (x ∷ t) [] i b h a = elim a [ ]
 
 pub memory-left : (o : Outcome) (bytes : ℕ) → Fits (answer_of o) bytes → Left o bytes
 unfolding answer_of returned_by text_after work_after

@@ -163,6 +163,8 @@ module _ (listed cells : List Cell) (lib : Sound listed cells) (g : Graph) (ok :
       let o = fed_data l n f in
       (o.0, subst (λ (xs : List ℕ). At xs o.0 x) (sym (feeds-same l m n e)) o.1, ap (λ (ds : List ℕ). get_or ds o.0 0) (delays-same l m n e) ∙ o.2)
   fed_to l same_inverter (by_opposite a b) = (0, first, rw (at_get no_cell a) (at_get 0 b))
+  fed_to l same_own {x = x} {d = d} f = elim f [ ]
+  fed_to l same_none {x = x} {d = d} f = elim f [ ]
 
   pub fed-from : (l : ℕ) {s : Numbered} {r : Source} → Same l s r → Allowed listed cells g l r → (j x : ℕ) → At (feeds cells (cuts_of g) l s) j x
       → FedBy cells l r x (get_or (cell_of cells s).delays j 0)
@@ -173,6 +175,9 @@ module _ (listed cells : List Cell) (lib : Sound listed cells) (g : Graph) (ok :
   fed-from l (same_inverter {k = k}) (by_inverter a p t) j x first =
       let low = (lib.front k (at-below a)).0 in
       by_opposite (get_at cells k no_cell low) (get_at (get_or cells k no_cell).delays 0 0 (omega (arith, lib.four k low)))
+  fed-from l same_own _ j x b = elim b [ ]
+  fed-from l same_none _ j x b = elim b [ ]
+  fed-from l (same_inverter {k = k}) (by_inverter {c = c} a p t) _ x (Rattle.promises.specs.Covers.later {i = i} x28) = elim x28 [ ]
 
   -- ---- arrivals
 

@@ -55,6 +55,7 @@ module _ (g : Graph) (ok : Accepted g) (leaves : List ℕ) (r : ℕ) where
       (λ h. rw e (rw (constant_zero g v e) (at_constant (rw (constant_zero g v e) at h))))
   walk-holds (suc n) v (and {l = l} {r = q} e a b) = by_leaf (Walk g leaves r v) leaves 0 r v _ (λ k at. (rw zero-add (at_leaf at)))
       (λ h. rw e (and-walk v l q (node-and g v l q e) h (walk-holds n (var_of l) a) (walk-holds n (var_of q) b)))
+  walk-holds Prim.Native.Nat.zero v x' = elim x' [ ]
 
   -- and no other
   walk_is : Distinct leaves → {v : ℕ} {b : Bool} → Walk g leaves r v b → (n : ℕ) → Under g leaves n v → walk n g leaves r v ≡ b
@@ -70,6 +71,9 @@ module _ (g : Graph) (ok : Accepted g) (leaves : List ℕ) (r : ℕ) where
       by_leaf (λ (b : Bool). b ≡ (flip (negated a.left) p && flip (negated a.right) q)) leaves 0 r a.var _ (λ k at. absurd (h (at_in at)))
       (λ k. rw (and-node g ok a m) (ap₂ (λ (u w : Bool). flip (negated a.left) u && flip (negated a.right) w)
       (walk_is once x n (subst (λ (l : ℕ). Under g leaves n (var_of l)) left s)) (walk_is once y n (subst (λ (l : ℕ). Under g leaves n (var_of l)) right t))))
+  walk_is once (at_leaf {i = i} {v = v} at) Prim.Native.Nat.zero u = elim u [ ]
+  walk_is once (at_constant h) Prim.Native.Nat.zero u = elim u [ ]
+  walk_is once (at_and {a = a} {x = p} {y = q} m h x y) Prim.Native.Nat.zero u = elim u [ ]
 
 -- "A cut's function": a cut has it, and no other
 pub walk_iff : (g : Graph) → Accepted g → (v : ℕ) (c : List ℕ) → IsCut g v c → (r : ℕ) (b : Bool) → Walk g c r v b ↔ (walk (span g) g c r v ≡ b)
