@@ -22,6 +22,7 @@ in_any : (t : List ℕ) (xs : List (List ℕ)) → Memᴰ t xs → T (any (same 
 unfolding any
 in_any t (x ∷ xs) (Memᴰ-head e) = yes_or (same t x) (any (same t) xs) (inl (subst (λ (y : List ℕ). T (same t y)) e (same_refl t)))
 in_any t (x ∷ xs) (Memᴰ-tail m) = yes_or (same t x) (any (same t) xs) (inr (in_any t xs m))
+in_any t [] x' = elim x' [ ]
 
 -- ---- a token more
 

@@ -64,9 +64,9 @@ groups_none : (at : ℕ) (t : List ℕ) → groups (lines_from at [] t) ≡ [] �
 groups_none at [] e = refl
 groups_none at (b ∷ t) e = absurd (nil≢cons (sym e ∙ (block_reads at (a_block b t)).1.are_groups))
 
-held : {s : List ℕ} {ds : List Gate} (t : List ℕ) {gs : List Group} {cs : List Gate} → GroupsHold gs cs → GatesIn s ds → groups (lines_from (length s) [] t) ≡ gs → GatesIn (s ++ t) (ds ++ cs)
-held {s} {ds} t no_group d e = rw (groups_none (length s) t e) (rw (append-nil s) (rw (append-nil ds) d))
-held {s} {ds} t (a_group {c = c} {cs} x y) d e =
+held : (t : List ℕ) {s : List ℕ} {ds : List Gate} {gs : List Group} {cs : List Gate} → GroupsHold gs cs → GatesIn s ds → groups (lines_from (length s) [] t) ≡ gs → GatesIn (s ++ t) (ds ++ cs)
+held t {s} {ds} no_group d e = rw (groups_none (length s) t e) (rw (append-nil s) (rw (append-nil ds) d))
+held t {s} {ds} (a_group {c = c} {cs} x y) d e =
     let o = onward d t x e in
     subst (λ (z : List ℕ). GatesIn z (ds ++ (c ∷ cs))) o.is_all (subst (GatesIn (o.front ++ o.rest)) (append_assoc ds (c ∷ []) cs) (held o.rest y o.gates o.are_groups))
 
@@ -74,13 +74,13 @@ held {s} {ds} t (a_group {c = c} {cs} x y) d e =
 abbrev Start : List ℕ → List ℕ → Type 0
 Start s t = (s ≡ []) ⊎ Border t
 
-refused : {s : List ℕ} {ds : List Gate} (t : List ℕ) {gs : List Group} {n k : ℕ} → GroupsFault gs n k → GatesIn s ds → Start s t → groups (lines_from (length s) [] t) ≡ gs → GenlibFault (s ++ t) n k
-refused {s} [] (this_one f) d b e = absurd (nil≢cons (sym (groups-end (length s)) ∙ e))
-refused {s} {ds} (b ∷ t) {n = n} {k} (this_one {g} f) d start e =
+refused : (t : List ℕ) {s : List ℕ} {ds : List Gate} {gs : List Group} {n k : ℕ} → GroupsFault gs n k → GatesIn s ds → Start s t → groups (lines_from (length s) [] t) ≡ gs → GenlibFault (s ++ t) n k
+refused [] {s} (this_one f) d b e = absurd (nil≢cons (sym (groups-end (length s)) ∙ e))
+refused (b ∷ t) {s} {ds} {n = n} {k} (this_one {g} f) d start e =
     let q = block_reads (length s) (a_block b t) in
     let z = fault-block (a_block b t) q.1 (rw (head-eq_of_cons-eq (sym e ∙ q.1.are_groups)) at f) in
     rw z.0 (at_block d (λ y. cons≢nil y) (⊎_elim inl (⊎_elim (λ q. absurd (cons≢nil q)) inr) start) (a_block b t) z.1)
-refused {s} {ds} t {n = n} {k} (later_one x f) d start e =
+refused t {s} {ds} {n = n} {k} (later_one x f) d start e =
     let o = onward d t x e in subst (λ (y : List ℕ). GenlibFault y n k) o.is_all (refused o.rest f o.gates (inr o.border) o.are_groups)
 
 -- ---- from the bytes to the groups

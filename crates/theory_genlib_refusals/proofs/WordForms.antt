@@ -38,6 +38,7 @@ name-word (b ∷ w) t =
 pub word-name : (w : List ℕ) → Named w → T (is_word w)
 unfolding is_word is_empty all
 word-name (b ∷ w) (run h f) = yes_and (is_name_byte b) (all is_name_byte w) (byte_back b h) (all_in is_name_byte w (λ x m. byte_back x (f x m)))
+word-name [] x' = elim x' [ ]
 
 other : (w v : List ℕ) → T (not (same w v)) → ¬ (w ≡ v)
 other w v t e = T_not (same w v) t (subst (λ (x : List ℕ). T (same w x)) e (same_refl w))
