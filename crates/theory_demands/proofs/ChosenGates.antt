@@ -53,6 +53,7 @@ module _ {X : Type 0} (d : X) (val : Net → X) where
       (λ q. cc (by_member m (λ p. absurd (true≢false
       (sym (is_true (same (label k) (label n)) (subst (λ (x : Net). T (same (label x) (label n))) p (same_refl (label n)))) ∙ q)))
       (by_name_lem ns n)))
+  by_name_lem [] n m = elim m [ ]
 
 -- the chosen source of a phase
 abbrev pub source_of : List Cell → Graph → ℕ → Source

@@ -89,6 +89,7 @@ pub input-at : (g : Graph) (at : List ℕ → ℕ) (vs : List ℕ) → map at (m
     → at (net_name (literal false v)) ≡ g.input_arrival v
 input-at g at (x ∷ vs) e v (Memᴰ-head q) = subst (λ (y : ℕ). at (net_name (literal false y)) ≡ g.input_arrival y) (sym q) (head-eq_of_cons-eq e)
 input-at g at (x ∷ vs) e v (Memᴰ-tail m) = input-at g at vs (tail-eq_of_cons-eq e) v m
+input-at g at [] e v x'' = elim x'' [ ]
 
 module _ (listed cells : List Cell) (fit : Fitting listed cells) (g : Graph) (ok : Accepted g)
     (present-outputs : (l : ℕ) → Memᴰ l g.outputs → absent (chosen cells g l).source ≡ false) where

@@ -51,6 +51,7 @@ module _ (cells : List Cell) (g : Graph) (phase : ℕ → Phase) where
       spread-keeps ls (grow y acc) x (⊎_elim (λ h. (subst (λ (b : Bool). Memᴰ x (cond b (fed_of y ++ acc) acc))
       (sym (elem_in y acc (Memᴰ-cast (sym e) h))) (Memᴰ-append_left acc (subst (λ (z : ℕ). Memᴰ x (fed_of z)) e n))))
       (λ r. absurd (top.0 r.0 r.1 (Memᴰ-cast (sym e) r.2))) (spread-only (y ∷ ls) acc l m))
+  spread-closed [] acc top l x6 m x n = elim x6 [ ]
 
   -- what is listed is needed
   spread-needed : (outs ls acc : List ℕ) → ((x : ℕ) → Memᴰ x acc → Needed cells g outs (λ l. (phase l).source) x)
@@ -63,6 +64,7 @@ module _ (cells : List Cell) (g : Graph) (phase : ℕ → Phase) where
 reverse_in : (xs : List ℕ) (x : ℕ) → Memᴰ x xs → Memᴰ x (reverse xs)
 reverse_in (y ∷ ys) x (Memᴰ-head e) = subst (λ (zs : List ℕ). Memᴰ x zs) (sym (reverse-cons y ys)) (Memᴰ-append_right (reverse ys) (Memᴰ-head e))
 reverse_in (y ∷ ys) x (Memᴰ-tail m) = subst (λ (zs : List ℕ). Memᴰ x zs) (sym (reverse-cons y ys)) (Memᴰ-append_left (y ∷ []) (reverse_in ys x m))
+reverse_in [] x x3 = elim x3 [ ]
 
 straight-plain : (s : Source) → Straight s → is_inverted s ≡ false
 unfolding is_inverted

@@ -24,6 +24,7 @@ module _ (listed cells : List Cell) (fit : Fitting listed cells) (g : Graph) (ok
       → w (net_name (literal false v)) ≡ assignment v
   input-at w assignment (x ∷ vs) e v (Memᴰ-head q) = subst (λ (y : ℕ). w (net_name (literal false y)) ≡ assignment y) (sym q) (head-eq_of_cons-eq e)
   input-at w assignment (x ∷ vs) e v (Memᴰ-tail m) = input-at w assignment vs (tail-eq_of_cons-eq e) v m
+  input-at w assignment [] e v x'' = elim x'' [ ]
 
   -- a source's cell at the AIGER values of its pins has the AIGER value of its phase
   right : (assignment : ℕ → Bool) (l : ℕ) → NeedsOf cells g l → is_input_source (source_of cells g l) ≡ false

@@ -27,6 +27,7 @@ unfolding no_lower
 no_lower_lem [] ds h j = omega arith
 no_lower_lem (l ∷ ls) (d ∷ ds) h zero = leb_yes (and_yes (leb l d) (no_lower ls ds) h).0
 no_lower_lem (l ∷ ls) (d ∷ ds) h (suc j) = no_lower_lem ls ds (and_yes (leb l d) (no_lower ls ds) h).1 j
+no_lower_lem (l ∷ ls) [] h j = elim h [ ]
 
 -- ---- a list of delays, one for each of some nets
 
@@ -118,6 +119,7 @@ module _ (low high : ℕ → ℕ) where
   saying_within at k (l ∷ ls) e h x (Memᴰ-head q) = rw q (let s : at (out_name k) ≡ at (net_name l) = head-eq_of_cons-eq e in let b = h l
       (Memᴰ-head refl) in (le_trans b.0 (le_of_eq (sym s)), le_trans (le_of_eq s) b.1))
   saying_within at k (l ∷ ls) e h x (Memᴰ-tail m) = saying_within at (suc k) ls (tail-eq_of_cons-eq e) (λ y i. h y (Memᴰ-tail i)) x m
+  saying_within at k [] e h x x5 = elim x5 [ ]
 
 module _ (listed cells : List Cell) (fit : Fitting listed cells) (low-high : (c : Cell) → Memᴰ c listed → T (no_lower c.mins c.delays))
     (four-mins : (c : Cell) → Memᴰ c listed → length c.mins ≡ 4) (g : Graph) (ok : Accepted g) (present-outputs : (l : ℕ) → Memᴰ l g.outputs → absent (chosen cells g l).source ≡ false) where

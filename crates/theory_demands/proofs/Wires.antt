@@ -74,6 +74,7 @@ wire_out i (l ∷ ls) x (Memᴰ-tail m) =
       here = omega (arith, r.here);
       is = r.is ∙ ap (λ (n : ℕ). record { source = net_name (get_or ls r.at 0); target = out_name n }) (suc-add i r.at ∙ sym (add-suc i r.at));
     }
+wire_out i [] x x3 = elim x3 [ ]
 
 -- ---- what is read at an output's own name
 

@@ -54,7 +54,8 @@ module _ (t : List ℕ) (bytes : ℕ) (e : Gates t) where
     refuses = λ n k. (
       (λ q. (in_fault {A = List ℕ} (CallFault t bytes) 1 0
           (one (leb_no (lib.Dec.not_T (leb (length t) 65536) (λ z. f (leb_yes z)))))).has n k q),
-      (λ x. elim x as (λ i j _. ◌≡◌ {A = Read (List ℕ)} (fault 1 0) (fault i j)) [ one l ↦ refl | of_gates s g ↦ absurd (f s) | eighteen e r b ↦ absurd (f e) ]),
+      (λ x. elim x as (λ i j _. ◌≡◌ {A = Read (List ℕ)} (fault 1 0) (fault i j))
+          [ one l ↦ refl | of_gates s g ↦ absurd (f s) | eighteen e r b ↦ absurd (f e) ]),
     );
   }
 

@@ -64,7 +64,8 @@ groups_none : (at : ℕ) (t : List ℕ) → groups (lines_from at [] t) ≡ [] �
 groups_none at [] e = refl
 groups_none at (b ∷ t) e = absurd (nil≢cons (sym e ∙ (block_reads at (a_block b t)).1.are_groups))
 
-held : (t : List ℕ) {s : List ℕ} {ds : List Gate} {gs : List Group} {cs : List Gate} → GroupsHold gs cs → GatesIn s ds → groups (lines_from (length s) [] t) ≡ gs → GatesIn (s ++ t) (ds ++ cs)
+held : (t : List ℕ) {s : List ℕ} {ds : List Gate} {gs : List Group} {cs : List Gate} → GroupsHold gs cs → GatesIn s ds
+    → groups (lines_from (length s) [] t) ≡ gs → GatesIn (s ++ t) (ds ++ cs)
 held t {s} {ds} no_group d e = rw (groups_none (length s) t e) (rw (append-nil s) (rw (append-nil ds) d))
 held t {s} {ds} (a_group {c = c} {cs} x y) d e =
     let o = onward d t x e in
@@ -74,7 +75,8 @@ held t {s} {ds} (a_group {c = c} {cs} x y) d e =
 abbrev Start : List ℕ → List ℕ → Type 0
 Start s t = (s ≡ []) ⊎ Border t
 
-refused : (t : List ℕ) {s : List ℕ} {ds : List Gate} {gs : List Group} {n k : ℕ} → GroupsFault gs n k → GatesIn s ds → Start s t → groups (lines_from (length s) [] t) ≡ gs → GenlibFault (s ++ t) n k
+refused : (t : List ℕ) {s : List ℕ} {ds : List Gate} {gs : List Group} {n k : ℕ} → GroupsFault gs n k → GatesIn s ds → Start s t
+    → groups (lines_from (length s) [] t) ≡ gs → GenlibFault (s ++ t) n k
 refused [] {s} (this_one f) d b e = absurd (nil≢cons (sym (groups-end (length s)) ∙ e))
 refused (b ∷ t) {s} {ds} {n = n} {k} (this_one {g} f) d start e =
     let q = block_reads (length s) (a_block b t) in
