@@ -87,3 +87,4 @@ module _ (c : Cell) (l : List ℕ) (yes : of_form (gate_form c) (fields l) ≡ t
             ∙ ap some (let z : suc k + (later i f).index ≡ k + suc (later i f).index = omega arith in z);
         is_cell = (later i f).is_cell;
       }
+  gate-found k [] m e = elim m [ ]
