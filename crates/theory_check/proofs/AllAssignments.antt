@@ -34,6 +34,7 @@ assignment_numbered us once s k h = assignment_at s 0 us once k h ∙ ap (bit s)
 index_of_lem : (u : ℕ) (xs : List ℕ) → Memᴰ u xs → (i : ℕ) × (i < length xs) × (get_or xs i 0 ≡ u)
 index_of_lem u (x ∷ xs) (Memᴰ-head e) = (0, omega arith, sym e)
 index_of_lem u (x ∷ xs) (Memᴰ-tail m) = let r = index_of_lem u xs m in (suc r.0, omega (arith, r.1), r.2)
+index_of_lem u [] x' = elim x' [ ]
 
 get_d_map : (f : ℕ → Bool) (xs : List ℕ) (i : ℕ) → i < length xs → get_or (map f xs) i false ≡ f (get_or xs i 0)
 get_d_map f [] i h = absurd (not-suc-le-zero h)

@@ -198,6 +198,7 @@ unfolding any
 stray_back nets (u ∷ us) n (Memᴰ-head e) f =
     yes_or (not (among u nets)) (any (λ (x : List ℕ). not (among x nets)) us) (inl (not_T (among u nets) (λ t. f (subst (λ (x : List ℕ). Memᴰ x nets) (sym e) (among_out u nets t)))))
 stray_back nets (u ∷ us) n (Memᴰ-tail m) f = yes_or (not (among u nets)) (any (λ (x : List ℕ). not (among x nets)) us) (inr (stray_back nets us n m f))
+stray_back nets [] n x'' f = elim x'' [ ]
 
 abbrev stray : List (List ℕ) → List Driver → Driver → Bool
 stray inputs ds d = any (λ (n : List ℕ). not (among n (inputs ++ nets_of ds))) d.uses

@@ -118,6 +118,7 @@ named_back (d ∷ cs) t c (Memᴰ-head e) = cc (is_true (same (name_of d) (name_
 named_back (d ∷ cs) t c (Memᴰ-tail m) =
     let o = others d cs t in
     ap (λ (b : Bool). cond b (some d) (cell_named cs (name_of c))) (is_false (same (name_of d) (name_of c)) (all_of (λ (x : Cell). not (same (name_of d) (name_of x))) cs o.1 c m)) ∙ named_back cs o.2 c m
+named_back [] t c x'' = elim x'' [ ]
 
 pub cell_free : (s : ℕ) → s < 48 → (c : Cell) → T (cell_fits c) → Free s (name_of c)
 unfolding cell_fits

@@ -19,6 +19,7 @@ unfolding added
 added-has (n ∷ ns) seen x (Memᴰ-head e) = added-keeps ns (cond (among n seen) seen (n ∷ seen)) x (by_bool (among n seen)
     (λ q. rw q (Memᴰ-cast e ((rw q at (among_out n seen)) tt))) (λ p. rw p (Memᴰ-head e)))
 added-has (n ∷ ns) seen x (Memᴰ-tail m) = added-has ns (cond (among n seen) seen (n ∷ seen)) x m
+added-has [] seen x x3 = elim x3 [ ]
 
 added-only : (ns seen : List (List ℕ)) (x : List ℕ) → Memᴰ x (added ns seen) → Memᴰ x ns ⊎ Memᴰ x seen
 unfolding added
@@ -54,6 +55,7 @@ keep_same p q (x ∷ ds) h le d m e = go (p x) refl (q x) refl le m (keep_same p
     go false f true s r n more few = absurd (omega arith)
     go false f false s r (Memᴰ-head u) more few = absurd (true≢false (sym e ∙ ap q u ∙ s))
     go false f false s r (Memᴰ-tail n) more few = more r d n e
+keep_same p q [] h le d m e = elim m [ ]
 
 keep-most : (p : Driver → Bool) (es : List Driver) → length (keep p es) ≤ length es
 unfolding keep

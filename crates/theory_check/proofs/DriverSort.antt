@@ -23,6 +23,7 @@ without x (y ∷ ys) (Memᴰ-tail m) = more (without x ys m)
       shorter = ap suc w.shorter;
       keeps = λ z n. (by_member n (λ q. inr (Memᴰ-head q)) (λ i. ⊎_elim inl (λ e. inr (Memᴰ-tail e)) (w.keeps z i)));
     }
+without {A = A} x [] x'' = elim x'' [ ]
 
 -- ---- cycles
 
@@ -120,6 +121,7 @@ pub among_out : (n : List ℕ) (ns : List (List ℕ)) → T (among n ns) → Mem
 unfolding among any
 among_out n (m ∷ ns) t = by_bool (same n m) (λ e. Memᴰ-head ((rw e at (same-eq n m)) tt))
     (λ q. Memᴰ-tail (among_out n ns (rw q at t)))
+among_out n [] t = elim t [ ]
 
 -- a use that is not known
 unknown : (known us : List (List ℕ)) → all (λ (n : List ℕ). among n known) us ≡ false → (n : List ℕ) × Memᴰ n us × (among n known ≡ false)
@@ -188,6 +190,7 @@ pub among_in : (n : List ℕ) (ns : List (List ℕ)) → Memᴰ n ns → among n
 unfolding among any
 among_in n (m ∷ ns) (Memᴰ-head e) = ap (λ (b : Bool). b || any (same n) ns) (is_true (same n m) (subst (λ (x : List ℕ). T (same n x)) e (same_refl n)))
 among_in n (m ∷ ns) (Memᴰ-tail i) = by_bool (same n m) (λ e. cc) (λ q. cc (among_in n ns i))
+among_in n [] x' = elim x' [ ]
 
 -- the drivers of an order, and that it is one
 pub record IsOrder (known : List (List ℕ)) (left order : List Driver) : Type 0 where

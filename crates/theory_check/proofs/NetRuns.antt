@@ -53,6 +53,7 @@ runs_follow names known (x ∷ ds) o once apart d (Memᴰ-head e) =
     ))
 runs_follow names known (x ∷ ds) o once apart d (Memᴰ-tail m) =
     runs_follow (x.net ∷ names) ((x.net, value x.table (row_of (map (net_value known) x.uses))) ∷ known) ds o.1 once.1 (next-apart names x ds once apart) d m
+runs_follow names known [] o once apart d x4 = elim x4 [ ]
 
 -- any values that follow the drivers are these
 pub runs_only : (w : List ℕ → Bool) (names : List (List ℕ)) (known : List (List ℕ × Bool)) (ds : List Driver) → Ordered names ds → Distinct (nets_of ds) → Apart names ds
@@ -109,3 +110,4 @@ inputs-set s ns us e a b = input_bits s 0 ns a ∙ ap (bits_from s 0) e ∙ sym 
 pub map_agree : (f h : List ℕ → Bool) (ns : List (List ℕ)) → map f ns ≡ map h ns → (n : List ℕ) → Memᴰ n ns → f n ≡ h n
 map_agree f h (x ∷ ns) e n (Memᴰ-head q) = ap f q ∙ head-eq_of_cons-eq e ∙ sym (ap h q)
 map_agree f h (x ∷ ns) e n (Memᴰ-tail m) = map_agree f h ns (tail-eq_of_cons-eq e) n m
+map_agree f h [] e n x'' = elim x'' [ ]

@@ -36,12 +36,14 @@ none_such : (p : Driver → Bool) (ds : List Driver) → first_line p ds ≡ non
 unfolding first_line
 none_such p (x ∷ ds) e d m = by_bool (p x) (λ q. absurd (true≢false (unfold is_some in ap is_some (rw q at e))))
     (λ r. elim m [ Memᴰ-head u ↦ ap p u ∙ r | Memᴰ-tail n ↦ none_such p ds (rw r at e) d n ])
+none_such p [] e d m = elim m [ ]
 
 any_none : (nets us : List (List ℕ)) → any (λ (n : List ℕ). not (among n nets)) us ≡ false → (n : List ℕ) → Memᴰ n us → Memᴰ n nets
 unfolding any
 any_none nets (u ∷ us) e n m = by_bool (among u nets) (λ q.
     elim m [ Memᴰ-head s ↦ Memᴰ-cast s (among_out u nets (subst T (sym q) tt)) | Memᴰ-tail i ↦ any_none nets us (rw q at e) n i ])
     (λ p. absurd (true≢false (rw p at e)))
+any_none nets [] e n m = elim m [ ]
 
 -- no two drivers of one net
 pub one-driver : (ds : List Driver) → Distinct (nets_of ds) → (d e : Driver) → Memᴰ d ds → Memᴰ e ds → d.net ≡ e.net → d ≡ e
@@ -49,6 +51,7 @@ one-driver (x ∷ ds) once d e (Memᴰ-head p) (Memᴰ-head q) s = p ∙ sym q
 one-driver (x ∷ ds) once d e (Memᴰ-head p) (Memᴰ-tail n) s = absurd (once.0 (Memᴰ-cast (sym (ap (λ (y : Driver). y.net) p) ∙ s) (map_in (λ (y : Driver). y.net) n)))
 one-driver (x ∷ ds) once d e (Memᴰ-tail m) (Memᴰ-head q) s = absurd (once.0 (Memᴰ-cast (sym (ap (λ (y : Driver). y.net) q) ∙ sym s) (map_in (λ (y : Driver). y.net) m)))
 one-driver (x ∷ ds) once d e (Memᴰ-tail m) (Memᴰ-tail n) s = one-driver ds once.1 d e m n s
+one-driver [] once d e x4 _ s = elim x4 [ ]
 
 pub unless-none : {A : Type 0} (o : Option ℕ) (n : ℕ) (r : Read A) (a : A) → unless_at o n r ≡ holds a → (o ≡ none) × (r ≡ holds a)
 unfolding unless_at

@@ -52,19 +52,23 @@ unfolding each
 gates-shown [] = refl
 gates-shown (t ∷ ts) = ap₂ (λ (a b : List ℕ). a ++ b) (gate-shown t) (gates-shown ts)
 
-wire-shown : (k : ℕ) (ls : List ℕ) → wire_lines k ls ≡ names_text k (map net_name ls)
-unfolding wire_lines wire_line names_text text each
-wire-shown k [] = refl
-wire-shown k (l ∷ ls) =
-    let rest = names_text (suc k) (map net_name ls) in
+wire_shown_before : (k l : ℕ) (more rest : List ℕ) → more ≡ rest
+    → wire_line k l ++ more ≡ worded (text ".names") (net_name l ∷ out_name k ∷ []) ++ (10 ∷ text "1 1" ++ (10 ∷ rest))
+unfolding wire_line text each
+wire_shown_before k l more rest e =
     cc (
-      wire-shown (suc k) ls,
+      e,
       append_assoc (net_name l) (32 ∷ out_name k ++ text "\n1 1\n") rest,
       append_assoc
           (out_name k) (text "\n1 1\n") rest,
       append-nil (out_name k),
       append_assoc (net_name l) (32 ∷ out_name k ++ []) (text "\n1 1\n" ++ rest),
     )
+
+wire-shown : (k : ℕ) (ls : List ℕ) → wire_lines k ls ≡ names_text k (map net_name ls)
+unfolding wire_lines names_text
+wire-shown k [] = refl
+wire-shown k (l ∷ ls) = wire_shown_before k l (wire_lines (suc k) ls) (names_text (suc k) (map net_name ls)) (wire-shown (suc k) ls)
 
 -- ---- read
 

@@ -19,7 +19,7 @@ use Rattle.theory_demands.proofs.{needed-driven, well_formed}
 use Rattle.theory_demands.proofs.ChosenGates.{Gates}
 use Rattle.theory_check.proofs.DriverSort.{nets_of, FeedsNet, directly, through, NoCycle, join-feeds, among_in, among_out}
 use Rattle.theory_check.proofs.Cycles.{found-cycle}
-use Rattle.theory_check.proofs.PrintedLines.{AreNets, Shown, Fine, driver_at, gates_at, wire_driver, names_at}
+use Rattle.theory_check.proofs.PrintedLines.{AreNets, Shown, Fine, shown_line, driver_at, gates_at, wire_driver, behind_wire, names_at}
 
 -- ---- a net's name is in its form
 
@@ -88,27 +88,30 @@ net_form l h = label_form (of_phase l) h
 gates_out : (at : ℕ) (xs : List Shown) (d : Driver) → Memᴰ d (gates_at at xs) → (x : Shown) × Memᴰ x xs × ((k : ℕ) × (d ≡ driver_at k x))
 unfolding gates_at
 gates_out at (x ∷ xs) d (Memᴰ-head e) = (x, Memᴰ-head refl, (at, e))
-gates_out at (x ∷ xs) d (Memᴰ-tail m) = let r = gates_out _ xs d m in (r.0, Memᴰ-tail r.1, r.2)
+gates_out at (x ∷ xs) d (Memᴰ-tail m) = let r = gates_out (at + suc (length (shown_line x))) xs d m in (r.0, Memᴰ-tail r.1, r.2)
+gates_out at [] d x' = elim x' [ ]
 
 gates_have : (at : ℕ) (xs : List Shown) (x : Shown) → Memᴰ x xs → (k : ℕ) × Memᴰ (driver_at k x) (gates_at at xs)
 unfolding gates_at
 gates_have at (y ∷ xs) x (Memᴰ-head e) = (at, Memᴰ-head (ap (driver_at at) e))
-gates_have at (y ∷ xs) x (Memᴰ-tail m) = let r = gates_have _ xs x m in (r.0, Memᴰ-tail r.1)
+gates_have at (y ∷ xs) x (Memᴰ-tail m) = let r = gates_have (at + suc (length (shown_line y))) xs x m in (r.0, Memᴰ-tail r.1)
+gates_have at [] x x3 = elim x3 [ ]
 
 names_out : (at k : ℕ) (ns : List (List ℕ)) (d : Driver) → Memᴰ d (names_at at k ns) → (n : List ℕ) × Memᴰ n ns × ((i j : ℕ) × (d ≡ wire_driver i j n))
 unfolding names_at
 names_out at k (n ∷ ns) d (Memᴰ-head e) = (n, Memᴰ-head refl, (at, k, e))
-names_out at k (n ∷ ns) d (Memᴰ-tail m) = let r = names_out _ (suc k) ns d m in (r.0, Memᴰ-tail r.1, r.2)
+names_out at k (n ∷ ns) d (Memᴰ-tail m) = let r = names_out (behind_wire at k n) (suc k) ns d m in (r.0, Memᴰ-tail r.1, r.2)
+names_out at k [] d x' = elim x' [ ]
 
 gates-nets : (at : ℕ) (xs : List Shown) → nets_of (gates_at at xs) ≡ map (λ (x : Shown). x.net) xs
 unfolding gates_at
 gates-nets at [] = refl
-gates-nets at (x ∷ xs) = ap (λ (ns : List (List ℕ)). x.net ∷ ns) (gates-nets _ xs)
+gates-nets at (x ∷ xs) = ap (λ (ns : List (List ℕ)). x.net ∷ ns) (gates-nets (at + suc (length (shown_line x))) xs)
 
 names-nets : (at k : ℕ) (ns : List (List ℕ)) → nets_of (names_at at k ns) ≡ map out_name (from k (length ns))
 unfolding names_at from
 names-nets at k [] = refl
-names-nets at k (n ∷ ns) = ap (λ (xs : List (List ℕ)). out_name k ∷ xs) (names-nets _ (suc k) ns)
+names-nets at k (n ∷ ns) = ap (λ (xs : List (List ℕ)). out_name k ∷ xs) (names-nets (behind_wire at k n) (suc k) ns)
 
 nets_append : (ds es : List Driver) → nets_of (ds ++ es) ≡ nets_of ds ++ nets_of es
 nets_append [] es = refl
@@ -125,13 +128,15 @@ wires_hand : (w : List ℕ → Bool) (at k : ℕ) (ls : List ℕ) → ((d : Driv
 unfolding names_at wires_from
 wires_hand w at k (l ∷ ls) h x (Memᴰ-head e) =
     subst (λ (y : Wire). w y.target ≡ w y.source) (sym e) (h (wire_driver at k (net_name l)) (Memᴰ-head refl) ∙ wire-value (w (net_name l)))
-wires_hand w at k (l ∷ ls) h x (Memᴰ-tail m) = wires_hand w _ (suc k) ls (λ d i. h d (Memᴰ-tail i)) x m
+wires_hand w at k (l ∷ ls) h x (Memᴰ-tail m) = wires_hand w (behind_wire at k (net_name l)) (suc k) ls (λ d i. h d (Memᴰ-tail i)) x m
+wires_hand w at k [] h x x4 = elim x4 [ ]
 
 -- ---- 33 finds nothing where each net is driven once, every net used is driven, and there is no cycle
 
 front-apart : (ns ms : List (List ℕ)) → Distinct (ns ++ ms) → (n : List ℕ) → Memᴰ n ns → ¬ Memᴰ n ms
 front-apart (x ∷ ns) ms d n (Memᴰ-head e) i = d.0 (Memᴰ-append_right ns (Memᴰ-cast (sym e) i))
 front-apart (x ∷ ns) ms d n (Memᴰ-tail m) i = front-apart ns ms d.1 n m i
+front-apart [] ms d n x3 i = elim x3 [ ]
 
 back-distinct : (ns ms : List (List ℕ)) → Distinct (ns ++ ms) → Distinct ms
 back-distinct [] ms d = d
