@@ -107,6 +107,7 @@ module _ (low high : ℕ → ℕ) where
       let b = h l (Memᴰ-head refl) in
       rw q (le_trans b.0 (le_of_eq (sym s)), le_trans (le_of_eq s) b.1)
   said_within at k (l ∷ ls) e h x (Memᴰ-tail m) = said_within at (suc k) ls (tail-eq_of_cons-eq e) (λ y i. h y (Memᴰ-tail i)) x m
+  said_within at k [] e h x x5 = elim x5 [ ]
 
 module _ {nets : ℕ} {capacity : HasCapacity} {cells : List Cell} {g : Graph} {ms : List Move} {is : List ℕ} {o : Outcome} (k : Certified nets capacity cells g ms is o) (fit : T (library_fits cells))
     (has : (assignment : ℕ → Bool) → (v : ℕ → Bool) × GraphValues g assignment v) (low-high : (c : Cell) → Memᴰ c cells → T (no_lower c.mins c.delays)) where

@@ -41,6 +41,7 @@ module _ {X : Type 0} (d : X) (cells : List Cell) (rule : Made → List X → X)
       ∙ ap (rule x) (map_same (λ (p : ℕ). find d p known) (λ (p : ℕ). find d p (after xs next)) (pins_of cells x) (λ p m. sym
       (stays xs next p (apart cells (net_of x ∷ names) xs o.2 p (Memᴰ-tail (o.0 p m))) ∙ find_past p (net_of x) v known (λ q. o.1 (Memᴰ-cast (sym q) (o.0 p m)))))))
   follows names (x ∷ xs) o known y (Memᴰ-tail m) = follows (net_of x ∷ names) xs o.2 ((net_of x, rule x (map (λ (p : ℕ). find d p known) (pins_of cells x))) ∷ known) y m
+  follows names [] o known y x'' = elim x'' [ ]
 
   -- ---- by the nets' names
 
@@ -76,6 +77,7 @@ module _ {X : Type 0} (d : X) (cells : List Cell) (rule : Made → List X → X)
         later : ¬ (u ≡ x) → Memᴰ u (x ∷ vs) → Memᴰ u vs
         later q (Memᴰ-head e) = absurd (q e)
         later q (Memᴰ-tail i) = i
+    given-at [] u m = elim m [ ]
 
     pub the_input : (u : ℕ) → Memᴰ u g.inputs → the (net_name (literal false u)) ≡ given u
     the_input u m =

@@ -55,6 +55,7 @@ pins_of_lem cells names (y ∷ ys) o x (Memᴰ-tail i) p m = at (pins_of_lem cel
     at (inl (Memᴰ-head e)) = inr (Memᴰ-head e)
     at (inl (Memᴰ-tail j)) = inl j
     at (inr j) = inr (Memᴰ-tail j)
+pins_of_lem cells names [] o x x5 p m = elim x5 [ ]
 
 -- ---- marks
 

@@ -35,6 +35,7 @@ pub input-at : {X : Type 0} (f : List ℕ → X) (given : ℕ → X) (vs : List 
     → (u : ℕ) → Memᴰ u vs → f (net_name (literal false u)) ≡ given u
 input-at f given (x ∷ vs) e u (Memᴰ-head q) = subst (λ (y : ℕ). f (net_name (literal false y)) ≡ given y) (sym q) (head-eq_of_cons-eq e)
 input-at f given (x ∷ vs) e u (Memᴰ-tail m) = input-at f given vs (tail-eq_of_cons-eq e) u m
+input-at {X = X} f given [] e u x'' = elim x'' [ ]
 
 module _ {nets : ℕ} {capacity : HasCapacity} {cells : List Cell} {g : Graph} {ms : List Move} {is : List ℕ} {o : Outcome} (k : Certified nets capacity cells g ms is o) (fit : T (library_fits cells)) where
   -- a gate's line binds its cell, its pins and its net

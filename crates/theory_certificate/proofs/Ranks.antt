@@ -16,6 +16,7 @@ ordered-low places k (x ∷ vs) t v (Memᴰ-head q) =
     omega arith
 ordered-low places k (x ∷ vs) t v (Memᴰ-tail m) =
     let h : suc k ≤ get_or places v 0 = ordered-low places (suc k) vs (and_yes (eqb (get_or places x 0) k) (ordered places (suc k) vs) t).1 v m in omega arith
+ordered-low places k [] t v x'' = elim x'' [ ]
 
 ordered-once : (places : List ℕ) (k : ℕ) (vs : List ℕ) → T (ordered places k vs) → Distinct vs
 unfolding ordered
@@ -41,6 +42,7 @@ rises-at ranks (x ∷ xs) t a m =
     at : Memᴰ a (x ∷ xs) → get_or ranks (var_of x.left) 0 < get_or ranks x.var 0 → get_or ranks (var_of x.right) 0 < get_or ranks x.var 0 → (Memᴰ a xs → Rises a) → Rises a
     at (Memᴰ-head e) l r later = subst Rises (sym e) (l, r)
     at (Memᴰ-tail i) l r later = later i
+rises-at ranks [] t a m = elim m [ ]
 
 find-line : (xs : List And) → Distinct (map (λ (a : And). a.var) xs) → (a : And) → Memᴰ a xs → find_and a.var xs ≡ both a.left a.right
 unfolding find_and
@@ -50,6 +52,7 @@ find-line (x ∷ xs) once a (Memᴰ-head e) =
 find-line (x ∷ xs) once a (Memᴰ-tail m) = by_bool (eqb a.var x.var)
     (λ q. absurd (once.0 (Memᴰ-cast (sym ((rw q at (eqb→eq a.var x.var)) tt)) (map_in (λ (b : And). b.var) m))))
     (λ q. rw q (find-line xs once.1 a m))
+find-line [] once a x'' = elim x'' [ ]
 
 behind-once : {A : Type 0} (xs ys : List A) → Distinct (xs ++ ys) → Distinct ys
 behind-once [] ys once = once

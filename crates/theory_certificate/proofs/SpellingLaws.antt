@@ -172,6 +172,7 @@ and_line a = numbers_text (2 * a.var) (a.left ∷ a.right ∷ [])
 map-high : {A : Type 0} (f : A → List ℕ) → ((x : A) → High 32 (f x)) → (xs : List A) → AllHigh (map f xs)
 map-high f h (x ∷ xs) l (Memᴰ-head e) = subst (High 32) (sym e) (h x)
 map-high f h (x ∷ xs) l (Memᴰ-tail m) = map-high f h xs l m
+map-high {A = A} f h [] l x' = elim x' [ ]
 
 both_high : (ls ms : List (List ℕ)) → AllHigh ls → AllHigh ms → AllHigh (ls ++ ms)
 both_high [] ms a b l m = b l m
