@@ -1,5 +1,5 @@
 -- `cells_pairs::put_cell_records` meets its contract: how many cells are listed, each, then the pairs' numbers. 833 bytes hold 32 cells and 224 pairs, and fewer cells with more pairs.
-use Rattle.base.specs.{refl, sym, ap, List, [], ◌∷◌, ◌++◌, append-nil, ℕ, ◌+◌, ◌≤◌, arith, needs, length, length-append}
+use Rattle.base.specs.{refl, sym, ap, List, [], ◌∷◌, ◌++◌, append-nil, ℕ, ◌+◌, ◌≤◌, arith, rules, length, length-append}
 use Rattle.model.specs.{each, cells_of}
 use Rattle.model.specs.declared.Library.{Library}
 use Rattle.base_text.proofs.{Partly, begin, step, capacity, finish}
@@ -14,32 +14,32 @@ fits lib ids ok records h =
     omega (arith, length-append (listed_bytes (cells_of lib)) (each id_bytes ids), listed-length (cells_of lib), ids-length ids, ok.joinable.whole, ok.joinable.few, ok.few)
 
 -- the number of cells is written
-one : (c : tie.After-put-byte)
+one : (c : tie.After-put_byte-first)
     → let s = c.before.before.before.before.before in
-    Partly s.args.records.now c.put_byte.new.0 0 c.put_byte.result (cell_records_of (cells_of s.args.lib) s.args.ids.now) (each cell_bytes (cells_of s.args.lib) ++ each id_bytes s.args.ids.now)
+    Partly s.args.records.now c.put_byte-first.new.out 0 c.put_byte-first.result (cell_records_of (cells_of s.args.lib) s.args.ids.now) (each cell_bytes (cells_of s.args.lib) ++ each id_bytes s.args.ids.now)
 one c =
     let s = c.before.before.before.before.before in
     let rest = each cell_bytes (cells_of s.args.lib) ++ each id_bytes s.args.ids.now in
-    step (fits s.args.lib s.args.ids.now s.requires.0 s.args.records.now s.requires.1) (begin s.args.records.now 0 (ap (λ (n : ℕ). n ∷ rest) s.requires.0.joinable.whole)) c.put_byte.new.0 c.put_byte.result
-    (s.args.lib.n ∷ []) rest refl c.put_byte.ensures
+    step (fits s.args.lib s.args.ids.now s.requires.0 s.args.records.now s.requires.1) (begin s.args.records.now 0 (ap (λ (n : ℕ). n ∷ rest) s.requires.0.joinable.whole)) c.put_byte-first.new.out c.put_byte-first.result
+    (s.args.lib.n ∷ []) rest refl c.put_byte-first.ensures
 
 -- and the cells
-two : (c : tie.After-put-cells)
+two : (c : tie.After-put_cells-at)
     → let s = c.before.before.before.before.before.before.before.before.before in
-    Partly s.args.records.now c.put-cells.new.0 0 c.put-cells.result (cell_records_of (cells_of s.args.lib) s.args.ids.now) (each id_bytes s.args.ids.now)
+    Partly s.args.records.now c.put_cells-at.new.records 0 c.put_cells-at.result (cell_records_of (cells_of s.args.lib) s.args.ids.now) (each id_bytes s.args.ids.now)
 two c =
     let q = c.before.before.before.before in
     let s = q.before.before.before.before.before in
-    step (fits s.args.lib s.args.ids.now s.requires.0 s.args.records.now s.requires.1) (one q) c.put-cells.new.0 c.put-cells.result (each cell_bytes (cells_of s.args.lib)) (each id_bytes s.args.ids.now) refl
-    c.put-cells.ensures
+    step (fits s.args.lib s.args.ids.now s.requires.0 s.args.records.now s.requires.1) (one q) c.put_cells-at.new.records c.put_cells-at.result (each cell_bytes (cells_of s.args.lib)) (each id_bytes s.args.ids.now) refl
+    c.put_cells-at.ensures
 
-put-cells-requires : tie.Need-put-cells-requires
+put-cells-requires : tie.Need-put_cells-at-requires
 put-cells-requires c κs =
     let q = c.before.before.before in
     let s = q.before.before.before.before.before in
     (s.requires.0.joinable, capacity (fits s.args.lib s.args.ids.now s.requires.0 s.args.records.now s.requires.1) (one q) (each cell_bytes (cells_of s.args.lib)) (each id_bytes s.args.ids.now) refl)
 
-put-pair-ids-requires : tie.Need-put-pair-ids-requires
+put-pair-ids-requires : tie.Need-put_pair_ids-requires
 put-pair-ids-requires c κs =
     let q = c.before.before.before in
     let s = q.before.before.before.before.before.before.before.before.before in
@@ -50,8 +50,8 @@ returns : tie.Need-returns
 returns c =
     let q = c.before.before.before.before.before.before in
     let s = q.before.before.before.before.before.before.before.before.before in
-    finish (fits s.args.lib s.args.ids.now s.requires.0 s.args.records.now s.requires.1) (two q) c.before.before.put-pair-ids.ensures
+    finish (fits s.args.lib s.args.ids.now s.requires.0 s.args.records.now s.requires.1) (two q) c.put_pair_ids.ensures
 
-pub put-cell-records-spec : {M : Type 1} → statement M
-put-cell-records-spec = tie.close (tie.spec
-    (λ c. search needs) (λ c κs. search needs) put-cells-requires put-pair-ids-requires (λ c. search needs) returns)
+pub put_cell_records_spec : {M : Type 1} → statement M
+put_cell_records_spec = tie.close (tie.spec
+    (λ c. search rules) (λ c κs. search rules) put-cells-requires put-pair-ids-requires (λ c. search rules) returns)

@@ -7,45 +7,45 @@ use Rattle.check_reader.proofs.OutputNames.{names-next, names-none, out_is}
 use Rattle.check_reader.proofs.put_outputs.Statement.{statement}
 use Rattle.check_reader.proofs.put_outputs.Tie as tie
 
-abbrev invariant-loop : tie.invariant-loop
-invariant-loop n out₀ at next₀ i₀ out next i = (i ≤ n) × Partly out₀ out at next (names_from out_name 0 n) (names_from out_name i (n - i))
+abbrev invariant-loop : tie.invariant-loop-i
+invariant-loop n out₀ at next₀ i₀ out next i passed = (i ≤ n) × Partly out₀ out at next (names_from out_name 0 n) (names_from out_name i (n - i))
 
-abbrev decreases-loop : tie.decreases-loop
-decreases-loop n out₀ at next₀ i₀ out next i = n - i
+abbrev decreases-loop : tie.decreases-loop-i
+decreases-loop n out₀ at next₀ i₀ out next i passed = n - i
 
 -- the names behind number i
 abbrev later : ℕ → ℕ → List ℕ
 later n i = names_from out_name (i + 1) (n - (i + 1))
 
 -- the next name, and those behind it
-next-name : (c : tie.In-loop invariant-loop decreases-loop) → names_from out_name c.before.loop.i (c.before.before.before.args.n - c.before.loop.i) ≡ (32 ∷ 111 ∷ decimal c.before.loop.i) ++ later c.before.before.before.args.n c.before.loop.i
+next-name : (c : tie.In-loop-i invariant-loop decreases-loop) → names_from out_name c.loop-i.i (c.args.n - c.loop-i.i) ≡ (32 ∷ 111 ∷ decimal c.loop-i.i) ++ later c.args.n c.loop-i.i
 next-name c =
-    let n = c.before.before.before.args.n in let i = c.before.loop.i in
-    names-next out_name n i c.loop-test.true ∙ ap (λ (w : List ℕ). (32 ∷ w) ++ later n i) (out_is i)
+    let n = c.args.n in let i = c.loop-i.i in
+    names-next out_name n i c.loop-i-test.true ∙ ap (λ (w : List ℕ). (32 ∷ w) ++ later n i) (out_is i)
 
-loop-holds : tie.Need-loop-init invariant-loop decreases-loop
+loop-holds : tie.Need-loop-i-init invariant-loop decreases-loop
 loop-holds c =
-    let a = c.before.args in
+    let a = c.args in
     let e : a.n ≡ a.n - 0 = omega arith in
     (omega arith, begin a.out.now a.at (ap (names_from out_name 0) e))
 
-cast-put-word : tie.Need-overflow-cast-put-word invariant-loop decreases-loop
-cast-put-word c = let t = c.before in omega (arith, t.before.before.before.requires.0, t.loop-test.true)
+cast-put-word : tie.Need-overflow_cast-i invariant-loop decreases-loop
+cast-put-word c = let t = c.before in omega (arith, t.requires.0, t.loop-i-test.true)
 
-put-word-requires : tie.Need-put-word-requires invariant-loop decreases-loop
+put-word-requires : tie.Need-put_word-next-requires invariant-loop decreases-loop
 put-word-requires c κs =
     let t = c.before in let s = t.before.before.before in
-    capacity s.requires.1 t.before.loop.invariant.1 (32 ∷ 111 ∷ decimal t.before.loop.i) (later s.args.n t.before.loop.i) (next-name t)
+    capacity s.requires.1 t.loop-i.invariant.1 (32 ∷ 111 ∷ decimal t.loop-i.i) (later s.args.n t.loop-i.i) (next-name t)
 
-loop-again : tie.Need-loop-preserved invariant-loop decreases-loop
+loop-again : tie.Need-loop-i-preserved invariant-loop decreases-loop
 loop-again c =
     let p = c.before.before in let t = p.before.before in let s = t.before.before.before in
-    (omega arith, step s.requires.1 t.before.loop.invariant.1 p.put_word.new.0 p.put_word.result (32 ∷ 111 ∷ decimal t.before.loop.i) (later s.args.n t.before.loop.i) (next-name t) p.put_word.ensures)
+    (omega arith, step s.requires.1 t.loop-i.invariant.1 p.put_word-next.new.out p.put_word-next.result (32 ∷ 111 ∷ decimal t.loop-i.i) (later s.args.n t.loop-i.i) (next-name t) p.put_word-next.ensures)
 
 returns : tie.Need-returns invariant-loop decreases-loop
-returns c = end c.before.before.before.requires.1 c.before.loop.invariant.1 (names-none out_name c.before.before.before.args.n c.before.loop.i c.loop-test.false)
+returns c = end c.requires.1 c.loop-i.invariant.1 (names-none out_name c.args.n c.loop-i.i c.loop-i-test.false)
 
-pub put-outputs-spec : {M : Type 1} → statement M
-put-outputs-spec = tie.close (tie.spec
+pub put_outputs_spec : {M : Type 1} → statement M
+put_outputs_spec = tie.close (tie.spec
     invariant-loop decreases-loop loop-holds cast-put-word put-word-requires (λ c. omega arith) (λ c. omega arith) loop-again
-    (λ c. kept c.before.before.before.requires.1 c.before.loop.invariant.1) returns)
+    (λ c. kept c.requires.1 c.loop-i.invariant.1) returns)

@@ -1,5 +1,5 @@
 -- `from_genlib::convert_file` is safe: the length that `convert` answers is within text memory.
-use Rattle.base.specs.{ℕ, ◌≤◌, arith, ◌≡◌, refl, sym, ◌∙◌, List, length, length-take, needs}
+use Rattle.base.specs.{ℕ, ◌≤◌, arith, ◌≡◌, refl, sym, ◌∙◌, List, length, length-take, rules}
 use Rattle.model.specs.{Read, holds, fault, written_answer}
 use Rattle.model.specs.declared.Written.{Written}
 use Rattle.promises.specs.{TextWritten}
@@ -13,20 +13,20 @@ unfolding written_answer
 answered (holds t) w = w.success t refl
 answered (fault n k) w = w.refusal n k refl
 
-abbrev at-convert : tie.After-known-told → tie.After-convert
+abbrev at-convert : tie.In-Length → tie.After-convert
 at-convert c = c.before.before.before.before.before
 
-within : (c : tie.After-known-told) → c.before.n.given.0.0 ≤ length (at-convert c).before.before.before.before.args.text.now
-within c = length-within (at-convert c).before.before.before.before.args.genlib.now _ _ (sym c.before.n.given.1 ∙ answered _ (at-convert c).convert.ensures.memory)
+within : (c : tie.In-Length) → c.in-Length.n ≤ length (at-convert c).before.before.before.before.args.text.now
+within c = length-within (at-convert c).before.before.before.before.args.genlib.now _ _ (sym c.in-Length.is ∙ answered _ (at-convert c).convert.ensures.memory)
 
-slice-reshare-prefix-put : tie.Need-slice-reshare-prefix-put
+slice-reshare-prefix-put : tie.Need-slice_bounds-put-end
 slice-reshare-prefix-put c = let h = within c in omega arith
 
-slice-aggregate-put : tie.Need-slice-aggregate-put
-slice-aggregate-put c = let h = within c.before in omega (arith, length-take c.before.before.n.given.0.0 (at-convert c.before).convert.new.1.0)
+slice-aggregate-put : tie.Need-slice_bounds-put-end-in-Length
+slice-aggregate-put c = let h = within c.before in omega (arith, length-take c.in-Length.n (at-convert c.before).convert.new.1.0)
 
-pub convert-file-spec : {M : Type 1} → statement M
-convert-file-spec = tie.close (tie.spec
-    (λ c κs. search needs) (λ c. search needs) slice-reshare-prefix-put slice-aggregate-put (λ c κs. search needs) (λ c. search needs)
-    (λ c κs. search needs) (λ c. search needs) (λ c κs. search needs) (λ c. search needs) (λ c κs. search needs) (λ c. search needs)
-    (λ c. search needs) (λ c. search needs) (λ c. search needs))
+pub convert_file_spec : {M : Type 1} → statement M
+convert_file_spec = tie.close (tie.spec
+    (λ c κs. search rules) (λ c. search rules) slice-reshare-prefix-put slice-aggregate-put (λ c κs. search rules) (λ c. search rules)
+    (λ c κs. search rules) (λ c. search rules) (λ c κs. search rules) (λ c. search rules) (λ c κs. search rules) (λ c. search rules)
+    (λ c. search rules) (λ c. search rules) (λ c. search rules))

@@ -1,5 +1,5 @@
 -- `genlib_call::convert` meets its contract: 1, 22 to 24, 18, or the text.
-use Rattle.base.specs.{◌≡◌, sym, ◌∙◌, arith, ℕ, List, length, needs}
+use Rattle.base.specs.{◌≡◌, sym, ◌∙◌, arith, ℕ, List, length, rules}
 use Rattle.model.specs.{read_genlib, genlib_text, written_answer, written_after}
 use Rattle.model.specs.declared.Written.{Written}
 use Rattle.model.specs.declared.Written.TheVariants.{Length}
@@ -18,23 +18,23 @@ converted genlib text answer left a b =
     record { memory = text-written (genlib_text genlib (length text)) text answer left a b; cells = demand_genlib genlib (length text); refusals = demand_genlib_refusals genlib (length text) }
 
 -- the length that was measured
-abbrev start : tie.After-known-told → tie.Start
+abbrev start : tie.In-Length → tie.Start
 start c = c.before.before.before.before.before.before.before
 
-long : (c : tie.After-known-told) → measured 33 (read_genlib (start c).args.genlib.now) ≡ Length c.before.n.given.0.0
-long c = sym c.before.before.before.measure.ensures ∙ c.before.n.given.1
+long : (c : tie.In-Length) → measured 33 (read_genlib (start c).args.genlib.now) ≡ Length c.in-Length.n
+long c = sym c.measure.ensures ∙ c.in-Length.is
 
-returns : tie.Need-returns
+returns : tie.Need-returns-then-genlib-gt65536
 returns c =
-    let a = c.before.before.before.args in
-    let r = refuses _ 1 0 a.text.now (too_long a.genlib.now (length a.text.now) c.if1.true) in
+    let a = c.args in
+    let r = refuses _ 1 0 a.text.now (too_long a.genlib.now (length a.text.now) c.if-genlib-gt65536.true) in
     converted a.genlib.now a.text.now _ _ r.0 r.1
 
-returns-2 : tie.Need-returns-2
+returns-2 : tie.Need-returns-then-text-n
 returns-2 c =
     let k = c.before in
     let a = (start k).args in
-    let r = refuses _ 18 _ a.text.now (over a.genlib.now (length a.text.now) k.before.before.before.before.if1.false _ (long k) c.if2.true) in
+    let r = refuses _ 18 _ a.text.now (over a.genlib.now (length a.text.now) k.if-genlib-gt65536.false _ (long k) c.if-text-n.true) in
     converted a.genlib.now a.text.now _ _ r.0 r.1
 
 write-requires : tie.Need-write-requires
@@ -42,27 +42,27 @@ write-requires c κs =
     let e = c.before in
     let k = e.before in
     let a = (start k).args in
-    let short = k.before.before.before.before.if1.false in
-    (short, omega (arith, e.if2.false, text-long a.genlib.now (length a.text.now) short _ (long k)))
+    let short = k.if-genlib-gt65536.false in
+    (short, omega (arith, e.if-text-n.false, text-long a.genlib.now (length a.text.now) short _ (long k)))
 
-returns-3 : tie.Need-returns-3
+returns-3 : tie.Need-returns-else-text-n
 returns-3 c =
     let p = c.before.before in
     let e = p.before.before in
     let k = e.before in
     let a = (start k).args in
-    let short = k.before.before.before.before.if1.false in
-    let r = writes _ (text_for a.genlib.now) a.text.now p.write.new.1.0 p.write.result (fine a.genlib.now (length a.text.now) short _ (long k) e.if2.false) p.write.ensures in
+    let short = k.if-genlib-gt65536.false in
+    let r = writes _ (text_for a.genlib.now) a.text.now p.write.new.out p.write.result (fine a.genlib.now (length a.text.now) short _ (long k) e.if-text-n.false) p.write.ensures in
     converted a.genlib.now a.text.now _ _ r.0 r.1
 
-returns-4 : tie.Need-returns-4
+returns-4 : tie.Need-returns-in-Refused
 returns-4 c =
     let m = c.before.before.before in
-    let a = m.before.before.before.before.args in
-    let n = c.before.number.given in
-    let r = refuses _ n.0.0 n.0.1.0 a.text.now (refused a.genlib.now (length a.text.now) m.before.if1.false _ _ (sym m.measure.ensures ∙ n.1)) in
+    let a = m.args in
+    let n = c.number-1.given in
+    let r = refuses _ n.0.0 n.0.1.0 a.text.now (refused a.genlib.now (length a.text.now) m.if-genlib-gt65536.false _ _ (sym m.measure.ensures ∙ n.1)) in
     converted a.genlib.now a.text.now _ _ r.0 r.1
 
-pub convert-spec : {M : Type 1} → statement M
-convert-spec = tie.close (tie.spec
-    returns (λ c κs. search needs) (λ c. search needs) returns-2 write-requires (λ c. search needs) (λ c. search needs) returns-3 returns-4)
+pub convert_spec : {M : Type 1} → statement M
+convert_spec = tie.close (tie.spec
+    returns (λ c κs. search rules) (λ c. search rules) returns-2 write-requires (λ c. search rules) (λ c. search rules) returns-3 returns-4)

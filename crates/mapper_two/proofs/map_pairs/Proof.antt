@@ -1,5 +1,5 @@
 -- `mapper_two::map_pairs` meets its contract: the numbers written are those of all pairs, or 30 comes.
-use Rattle.base.specs.{arith, ℕ, ◌≡◌, sym, ap, subst, ◌∙◌, true, List, length, take, needs}
+use Rattle.base.specs.{arith, ℕ, ◌≡◌, sym, ap, subst, ◌∙◌, true, List, length, take, rules}
 use Rattle.model.specs.{cells_of, channel_of}
 use Rattle.cells_pairs.specs.{pair_ids}
 use Rattle.cells_pairs.proofs.{by_length, with_all, ids-few}
@@ -11,19 +11,19 @@ use Rattle.mapper_two.proofs.map_pairs.Statement.{statement}
 use Rattle.mapper_two.proofs.map_pairs.Tie as tie
 
 -- the numbers written first in the array
-ids_are : (f : tie.After-form) → let a = f.before.before.before.before.before.before.before.before.before.args in take f.form.result f.form.new.0 ≡ pair_ids (cells_of a.lib)
-ids_are f = let a = f.before.before.before.before.before.before.before.before.before.args in ap (take f.form.result) f.form.ensures.leaves ∙ formed_are _ (pair_ids (cells_of a.lib)) f.form.result f.form.ensures.ends
+ids_are : (f : tie.After-form-n) → let a = f.args in take f.form-n.result f.form-n.new.ids ≡ pair_ids (cells_of a.lib)
+ids_are f = let a = f.args in ap (take f.form-n.result) f.form-n.ensures.leaves ∙ formed_are _ (pair_ids (cells_of a.lib)) f.form-n.result f.form-n.ensures.ends
 
-form-requires : tie.Need-form-requires
+form-requires : tie.Need-form-n-requires
 form-requires c κs = let s = c.before.before.before.before.before.before.before.before in (joinable_of s.args.lib s.requires, ids-few s.args.lib (joinable_of s.args.lib s.requires))
 
-add-if1 : tie.Need-overflow-add-if1
+add-if1 : tie.Need-overflow_add-lib
 add-if1 c =
     let f = c.before.before in
     let s = f.before.before.before.before.before.before.before.before.before in
-    omega (arith, f.form.ensures.ends, ids-few s.args.lib (joinable_of s.args.lib s.requires), s.requires.in_bounds.few)
+    omega (arith, f.form-n.ensures.ends, ids-few s.args.lib (joinable_of s.args.lib s.requires), s.requires.in_bounds.few)
 
-returns : tie.Need-returns
+returns : tie.Need-returns-then-lib-n-gt256
 returns c =
     let f = c.before.before.before.before in
     let s = f.before.before.before.before.before.before.before.before.before in
@@ -32,21 +32,21 @@ returns c =
     let y = channel_of a.g2.now a.a2.now a.t2.now in
     let many = by_length (cells_of a.lib) (pair_ids (cells_of a.lib)) in
     two-early true a.ranged a.lib (pair_ids (cells_of a.lib)) (with_all a.lib (joinable_of a.lib s.requires)) x y a.work.now a.t1.now a.t2.now _
-    (omega (arith, many, f.form.ensures.ends, s.requires.in_bounds.whole, c.before.if1.true)) c.both.ensures
+    (omega (arith, many, f.form-n.ensures.ends, s.requires.in_bounds.whole, c.if-lib-n-gt256.true)) c.both.ensures
 
-slice-aggregate-ids : tie.Need-slice-aggregate-ids
-slice-aggregate-ids c = let f = c.before.before.before.before in omega (arith, ap length (ids_are f), f.form.ensures.ends)
+slice-aggregate-ids : tie.Need-slice_bounds-ids-end
+slice-aggregate-ids c = let f = c.before.before.before.before in omega (arith, ap length (ids_are f), f.form-n.ensures.ends)
 
-map-headers-requires : tie.Need-map-headers-requires
+map-headers-requires : tie.Need-map_headers-requires
 map-headers-requires c κs =
     let n = c.before.before.before.before in
     let i = n.before.before in
     let f = i.before.before.before in
     let s = f.before.before.before.before.before.before.before.before.before in
-    let ok = subst (LibraryOk s.args.lib) (sym (ids_are f)) (joined_ok s.args.lib s.requires (omega (arith, f.form.ensures.ends, i.if1.false))) in
-    (ok, blank-joined s.args.lib _ ok n.empty-paired-match-table.ensures)
+    let ok = subst (LibraryOk s.args.lib) (sym (ids_are f)) (joined_ok s.args.lib s.requires (omega (arith, f.form-n.ensures.ends, i.if-lib-n-gt256.false))) in
+    (ok, blank-joined s.args.lib _ ok n.empty_paired_match_table-matches.ensures)
 
-returns-2 : tie.Need-returns-2
+returns-2 : tie.Need-returns
 returns-2 c =
     let h = c.before.before.before.before.before.before.before in
     let i = h.before.before.before.before.before.before.before in
@@ -55,11 +55,12 @@ returns-2 c =
     let a = s.args in
     let x = channel_of a.g1.now a.a1.now a.t1.now in
     let y = channel_of a.g2.now a.a2.now a.t2.now in
-    let ok = joined_ok a.lib s.requires (omega (arith, f.form.ensures.ends, i.if1.false)) in
+    let ok = joined_ok a.lib s.requires (omega (arith, f.form-n.ensures.ends, i.if-lib-n-gt256.false)) in
     two-done true a.ranged a.lib (pair_ids (cells_of a.lib)) (with_all a.lib (joinable_of a.lib s.requires)) x y a.work.now a.t1.now a.t2.now _
     (all-few a.lib (pair_ids (cells_of a.lib)) ok) _ _ _
-    (subst (λ (ids : List ℕ). PairLeft a.ranged a.lib ids x y (first_for (length a.work.now) x y) a.work.now a.t1.now a.t2.now h.map-headers.result h.map-headers.new.1.1.1.1.1.1.1.1.0 h.map-headers.new.1.1.1.1.1.1.1.1.1.0 h.map-headers.new.1.1.1.1.1.1.1.1.1.1.0) (ids_are f) h.map-headers.ensures)
+    (subst (λ (ids : List ℕ). PairLeft a.ranged a.lib ids x y (first_for (length a.work.now) x y) a.work.now a.t1.now a.t2.now h.map_headers.result h.map_headers.new.work h.map_headers.new.t1 h.map_headers.new.t2) (ids_are f) h.map_headers.ensures)
 
-pub map-pairs-spec : {M : Type 1} → statement M
-map-pairs-spec = tie.close (tie.spec
-    (λ c. search needs) form-requires add-if1 (λ c κs. search needs) returns (λ c. search needs) slice-aggregate-ids (λ c κs. search needs) (λ c. search needs) map-headers-requires (λ c. search needs) (λ c. search needs) (λ c. search needs) returns-2)
+pub map_pairs_spec : {M : Type 1} → statement M
+map_pairs_spec = tie.close (tie.spec
+    (λ c. search rules) form-requires add-if1 (λ c κs. search rules) returns (λ c. search rules) slice-aggregate-ids (λ c κs. search rules)
+    (λ c. search rules) map-headers-requires (λ c. search rules) (λ c. search rules) (λ c. search rules) returns-2)

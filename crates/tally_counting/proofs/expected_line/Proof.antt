@@ -1,24 +1,24 @@
 -- `tally_counting::expected_line` meets its contract: by the line at the place.
-use Rattle.base.specs.{arith, sym, ◌∙◌, ⊎_elim, ◌-◌, ◌≤◌, ◌∷◌, [], length, not-true, not-false, needs}
+use Rattle.base.specs.{arith, sym, ◌∙◌, ⊎_elim, ◌-◌, ◌≤◌, ◌∷◌, [], length, not-true, not-false, rules}
 use Rattle.model.specs.{expected_lines}
 use Rattle.tally_counting.specs.{form_test}
 use Rattle.tally_counting.proofs.ExpectedNetlistLines.{ten-line, span_bounds, part-short, expected-yes, expected_no, expected_out, read-on, read_off}
 use Rattle.tally_counting.proofs.expected_line.Statement.{statement}
 use Rattle.tally_counting.proofs.expected_line.Tie as tie
 
-returns : tie.Need-returns
+returns : tie.Need-returns-then-not-r
 returns c =
-    let a = c.before.before.before.args in
-    (sym (read_off a.s.now a.r (expected_lines (length a.s.now) (form_test a.form ∷ [])) (not-true _ c.if1.true)), omega arith)
+    let a = c.args in
+    (sym (read_off a.s.now a.r (expected_lines (length a.s.now) (form_test a.form ∷ [])) (not-true _ c.if-not-r.true)), omega arith)
 
 -- the line at the place
-line : (c : tie.After-line) → let a = c.before.before.before.before.args in (a.r.at ≤ c.line.result.stop) × (c.line.result.stop ≤ length a.s.now)
-line c = let a = c.before.before.before.before.args in span_bounds a.s.now a.r.at (omega arith) c.line.result c.line.ensures
+line : (c : tie.After-line-l) → let a = c.args in (a.r.at ≤ c.line-l.result.stop) × (c.line-l.result.stop ≤ length a.s.now)
+line c = let a = c.args in span_bounds a.s.now a.r.at (omega arith) c.line-l.result c.line-l.ensures
 
-add-if2 : tie.Need-overflow-add-if2
+add-if2 : tie.Need-overflow_add-stop
 add-if2 c = let b = line c in omega arith
 
-sub-has-form : tie.Need-overflow-sub-has-form
+sub-has-form : tie.Need-slice_bounds-has_form-count
 sub-has-form c = let b = line c.before in omega arith
 
 part-has-form-start : tie.Need-slice-bounds-has-form-start
@@ -27,39 +27,39 @@ part-has-form-start c = let b = line c.before in omega arith
 part-has-form-end : tie.Need-slice-bounds-has-form-end
 part-has-form-end c = let b = line c.before in omega arith
 
-has-form-requires : tie.Need-has-form-requires
+has-form-requires : tie.Need-has_form-requires
 has-form-requires c κs =
     let l = c.before.before in
-    let a = l.before.before.before.before.args in
-    omega (arith, part-short (l.line.result.stop - a.r.at) a.r.at a.s.now)
+    let a = l.args in
+    omega (arith, part-short (l.line-l.result.stop - a.r.at) a.r.at a.s.now)
 
-returns-2 : tie.Need-returns-2
+returns-2 : tie.Need-returns-then-next-stop
 returns-2 c =
     let l = c.before in
-    let a = l.before.before.before.before.args in
+    let a = l.args in
     let s = a.s.now in
     let at = a.r.at in
     let f = form_test a.form in
-    let on = sym (read-on s a.r (expected_lines (length s) (f ∷ [])) (not-false _ l.before.if1.false)) in
+    let on = sym (read-on s a.r (expected_lines (length s) (f ∷ [])) (not-false _ l.if-not-r.false)) in
     ⊎_elim
-    (λ y. (expected_out s at (omega arith) l.line.result l.line.ensures f y.taken ∙ on, omega arith))
-    (λ y. (expected_no s at (omega arith) l.line.result l.line.ensures f (ten-line s at (omega arith) l.line.result l.line.ensures y.0.left) (sym y.2.ensures ∙ not-true _ y.3.taken) ∙ on, omega arith))
-    c.if2.branch
+    (λ y. (expected_out s at (omega arith) l.line-l.result l.line-l.ensures f y.taken ∙ on, omega arith))
+    (λ y. (expected_no s at (omega arith) l.line-l.result l.line-l.ensures f (ten-line s at (omega arith) l.line-l.result l.line-l.ensures y.0.left) (sym y.2.ensures ∙ not-true _ y.3.taken) ∙ on, omega arith))
+    c.then-next-stop.branch
 
-returns-3 : tie.Need-returns-3
+returns-3 : tie.Need-returns
 returns-3 c =
     let t = c.before.before.before in
     let l = t.before in
-    let a = l.before.before.before.before.args in
+    let a = l.args in
     let s = a.s.now in
     let at = a.r.at in
     let f = form_test a.form in
-    let ten = ten-line s at (omega arith) l.line.result l.line.ensures t.if2.false in (
-      expected-yes s at (omega arith) l.line.result l.line.ensures f ten (sym c.before.has-form.ensures ∙ not-false _ c.if3.false)
-          ∙ sym (read-on s a.r (expected_lines (length s) (f ∷ [])) (not-false _ l.before.if1.false)),
+    let ten = ten-line s at (omega arith) l.line-l.result l.line-l.ensures t.if-next-stop.false in (
+      expected-yes s at (omega arith) l.line-l.result l.line-l.ensures f ten (sym c.has_form.ensures ∙ not-false _ c.if-not-has_form.false)
+          ∙ sym (read-on s a.r (expected_lines (length s) (f ∷ [])) (not-false _ l.if-not-r.false)),
       ten.within,
     )
 
-pub expected-line-spec : {M : Type 1} → statement M
-expected-line-spec = tie.close (tie.spec
-    returns (λ c κs. search needs) add-if2 sub-has-form part-has-form-start part-has-form-end has-form-requires returns-2 returns-3)
+pub expected_line_spec : {M : Type 1} → statement M
+expected_line_spec = tie.close (tie.spec
+    returns (λ c κs. search rules) add-if2 sub-has-form part-has-form-start part-has-form-end has-form-requires returns-2 returns-3)

@@ -1,5 +1,5 @@
 -- `tally_report::put_figure` meets its contract: a space, and the number behind it.
-use Rattle.base.specs.{refl, sym, ◌∷◌, [], append-nil, arith, needs}
+use Rattle.base.specs.{refl, sym, ◌∷◌, [], append-nil, arith, rules}
 use Rattle.model.specs.{decimal}
 use Rattle.base_text.proofs.{Partly, begin, step, capacity, finish, as_wrote}
 use Rattle.tally_report.specs.{figure_text}
@@ -8,15 +8,15 @@ use Rattle.tally_report.proofs.put_figure.Statement.{statement}
 use Rattle.tally_report.proofs.put_figure.Tie as tie
 
 -- the space is written
-abbrev at-start : tie.After-put-byte → tie.Start
+abbrev at-start : tie.After-put_byte-a → tie.Start
 at-start c = c.before.before.before
 
-one : (c : tie.After-put-byte) → Partly (at-start c).args.out.now c.put_byte.new.0 (at-start c).args.at c.put_byte.result (figure_text (at-start c).args.n) (decimal (at-start c).args.n)
+one : (c : tie.After-put_byte-a) → Partly (at-start c).args.out.now c.put_byte-a.new.out (at-start c).args.at c.put_byte-a.result (figure_text (at-start c).args.n) (decimal (at-start c).args.n)
 one c =
     let s = at-start c in
-    step s.pre (begin s.args.out.now s.args.at (figure-is s.args.n)) c.put_byte.new.0 c.put_byte.result (32 ∷ []) (decimal s.args.n) refl c.put_byte.ensures
+    step s.pre (begin s.args.out.now s.args.at (figure-is s.args.n)) c.put_byte-a.new.out c.put_byte-a.result (32 ∷ []) (decimal s.args.n) refl c.put_byte-a.ensures
 
-put-digits-requires : tie.Need-put-digits-requires
+put-digits-requires : tie.Need-put_digits-requires
 put-digits-requires c κs =
     let p = c.before.before.before in let n = (at-start p).args.n in
     capacity (at-start p).requires (one p) (decimal n) [] (sym (append-nil (decimal n)))
@@ -24,9 +24,8 @@ put-digits-requires c κs =
 returns : tie.Need-returns
 returns c =
     let p = c.before.before.before.before.before.before in
-    finish (at-start p).requires (one p) (as_wrote c.before.before.put-digits.ensures)
+    finish (at-start p).requires (one p) (as_wrote c.put_digits.ensures)
 
-pub put-figure-spec : {M : Type 1} → statement M
-put-figure-spec = tie.close (tie.spec
-    (λ c κs. omega (arith, c.before.before.requires, figure-length c.before.before.args.n)) put-digits-requires (λ c. search needs)
-    returns)
+pub put_figure_spec : {M : Type 1} → statement M
+put_figure_spec = tie.close (tie.spec
+    (λ c κs. omega (arith, c.requires, figure-length c.args.n)) put-digits-requires (λ c. search rules) returns)

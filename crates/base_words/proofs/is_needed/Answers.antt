@@ -1,0 +1,12 @@
+-- `base_words::is_needed` meets its contract: by the literal's phase.
+use Rattle.base.specs.{eq-eqb, ne_eqb}
+use Rattle.base_words.specs.{is_needed}
+use Rattle.base_words.proofs.is_needed.Goals as goal
+
+pub returns-then-l-eq1 : goal.returns-then-l-eq1
+unfolding is_needed
+returns-then-l-eq1 c = rw (eq-eqb _ _ c.if-l-eq1.true, c.needed-x.ensures)
+
+pub returns-else-l-eq1 : goal.returns-else-l-eq1
+unfolding is_needed
+returns-else-l-eq1 c = rw (ne_eqb _ _ c.if-l-eq1.false, c.needed-x.ensures)

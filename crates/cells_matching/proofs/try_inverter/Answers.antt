@@ -1,0 +1,24 @@
+-- `cells_matching::try_inverter` meets its contract, by the three tests.
+use Rattle.base.specs.{sym, ◌∙◌}
+use Rattle.cells_matching.proofs.InverterChoice.{tried-inverter, tried-pins, tried-table, tried_nameless}
+use Rattle.cells_matching.proofs.try_inverter.Goals as goal
+
+pub returns-then-c-gt0 : goal.returns-then-c-gt0
+returns-then-c-gt0 c =
+    let a = c.args in
+    c.sooner.ensures ∙ sym (tried-inverter a.best a.c a.line c.if-c-eq1.true c.if-c-eq1-2.true c.if-c-gt0.true)
+
+pub returns-else-c-gt0 : goal.returns-else-c-gt0
+returns-else-c-gt0 c =
+    let a = c.args in
+    sym (tried_nameless a.best a.c a.line c.if-c-eq1.true c.if-c-eq1-2.true c.if-c-gt0.false)
+
+pub returns-else-c-eq1-2 : goal.returns-else-c-eq1-2
+returns-else-c-eq1-2 c =
+    let a = c.args in
+    sym (tried-table a.best a.c a.line c.if-c-eq1.true c.if-c-eq1-2.false)
+
+pub returns-else-c-eq1 : goal.returns-else-c-eq1
+returns-else-c-eq1 c =
+    let a = c.args in
+    sym (tried-pins a.best a.c a.line c.if-c-eq1.false)

@@ -1,0 +1,20 @@
+-- `genlib_expression::step_depth` meets its contract, by its ways.
+use Rattle.base.specs.{ne_eqb, arith}
+use Rattle.genlib_expression.specs.{opened_by}
+use Rattle.genlib_expression.proofs.step_depth.Goals as goal
+
+pub returns-in-40 : goal.returns-in-40
+unfolding opened_by
+returns-in-40 c = rw c.in-40.is
+
+pub returns-then-depth-gt0 : goal.returns-then-depth-gt0
+unfolding opened_by
+returns-then-depth-gt0 c = rw c.in-41.is
+
+pub returns-else-depth-gt0 : goal.returns-else-depth-gt0
+unfolding opened_by
+returns-else-depth-gt0 c = rw c.in-41.is (omega arith)
+
+pub returns-in_default : goal.returns-in_default
+unfolding opened_by
+returns-in_default c = let b = c.args.b in rw (ne_eqb b 40 c.in_default.in_default-own.rest.0.1, ne_eqb b 41 c.in_default.in_default-own.rest.1)

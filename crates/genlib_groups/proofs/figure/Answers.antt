@@ -1,0 +1,79 @@
+-- `genlib_groups::figure` meets its contract, by its digits and three decimals.
+use Rattle.base.specs.{◌≡◌, refl, sym, ap, ◌∙◌, arith, ℕ, ◌+◌, ◌-◌, ◌*◌, min, List, [], ◌∷◌, ◌++◌, append_assoc, ⊎_elim, ltb-true, ltb-false, not-true, not-false}
+use Rattle.base.specs.{take, get_or}
+use Rattle.model.specs.{as_digits, is_digit, in_thousandths}
+use Rattle.base_text.specs.{span_end}
+use Rattle.genlib_groups.proofs.GenlibFigures.{whole_is, three, decimal_byte, figure-broken, figure-long, figure-fits, figure_large}
+use Rattle.genlib_groups.proofs.GenlibFigures.{cap_digit}
+use Rattle.genlib_groups.proofs.figure.Goals as goal
+
+-- three digits more behind the whole
+number_is : (w : List ℕ) (end : ℕ) → end ≡ span_end is_digit w 0 → (n x y z a b d : ℕ)
+    → n ≡ min 65536 (as_digits 0 (take end w))
+    → x ≡ get_or w (end + 1) 48 → y ≡ get_or w (end + 2) 48 → z ≡ get_or w (end + 3) 48
+    → a ≡ min 65536 (n * 10 + (x - 48)) → b ≡ min 65536 (a * 10 + (y - 48)) → d ≡ min 65536 (b * 10 + (z - 48)) → d ≡ min 65536 (in_thousandths w)
+number_is w end e n x y z a b d en ex ey ez ea eb ed =
+    let t = take end w in
+    let fa : a ≡ min 65536 (as_digits 0 (t ++ (x ∷ []))) = ea ∙ cap_digit 0 t x n en in
+    let fb : b ≡ min 65536 (as_digits 0 ((t ++ (x ∷ [])) ++ (y ∷ []))) = eb ∙ cap_digit 0 (t ++ (x ∷ [])) y a fa in
+    let fd : d ≡ min 65536 (as_digits 0 (((t ++ (x ∷ [])) ++ (y ∷ [])) ++ (z ∷ []))) = ed ∙ cap_digit 0 ((t ++ (x ∷ [])) ++ (y ∷ [])) z b fb in
+    let g : (((t ++ (x ∷ [])) ++ (y ∷ [])) ++ (z ∷ [])) ≡ t ++ (get_or w (end + 1) 48 ∷ get_or w (end + 2) 48 ∷ get_or w (end + 3) 48 ∷ []) = simp append_assoc (cc) in
+    fd ∙ ap (λ (l : List ℕ). min 65536 (as_digits 0 l)) g ∙ ap (min 65536) (sym (three w end e))
+
+pub overflow_add-end : goal.overflow_add-end
+overflow_add-end c = omega (arith, (whole_is c.args.w.now _ c.span_end-end.ensures).0)
+
+pub returns-then-not-is_figure : goal.returns-then-not-is_figure
+returns-then-not-is_figure c =
+    let f = c.is_figure.ensures in
+    let e = c.span_end-end.ensures in
+    ⊎_elim
+    (λ y. figure-broken _ _ refl (sym f ∙ not-true _ y.taken))
+    (λ y. figure-long _ _ e (sym f ∙ not-false _ y.0.left) (ltb-true _ _ y.1.taken))
+    c.then-not-is_figure.branch
+
+pub whole-requires : goal.whole-requires
+whole-requires c =
+    let k = whole_is c.args.w.now _ c.span_end-end.ensures in (k.0, k.2)
+
+pub overflow_add-end-2 : goal.overflow_add-end-2
+overflow_add-end-2 c =
+    omega (arith, (whole_is c.args.w.now _ c.span_end-end.ensures).0)
+
+pub add_digit-a-requires : goal.add_digit-a-requires
+add_digit-a-requires c =
+    let b = decimal_byte _ _ c.span_end-end.ensures (sym c.is_figure.ensures ∙ not-false _ c.if-not-is_figure.false) 0 (c.span_end-end.result + 1) (omega arith) in
+    (omega (arith, c.whole.ensures), omega (arith, c.decimal.ensures, b.0), omega (arith, c.decimal.ensures, b.1))
+
+pub overflow_add-end-3 : goal.overflow_add-end-3
+overflow_add-end-3 c =
+    omega (arith, (whole_is c.args.w.now _ c.span_end-end.ensures).0)
+
+pub add_digit-b-requires : goal.add_digit-b-requires
+add_digit-b-requires c =
+    let b = decimal_byte _ _ c.span_end-end.ensures (sym c.is_figure.ensures ∙ not-false _ c.if-not-is_figure.false) 1 (c.span_end-end.result + 2) (omega arith) in
+    (omega (arith, c.add_digit-a.ensures), omega (arith, c.decimal-2.ensures, b.0), omega (arith, c.decimal-2.ensures, b.1))
+
+pub overflow_add-end-4 : goal.overflow_add-end-4
+overflow_add-end-4 c =
+    omega (arith, (whole_is c.args.w.now _ c.span_end-end.ensures).0)
+
+pub add_digit-c-requires : goal.add_digit-c-requires
+add_digit-c-requires c =
+    let b = decimal_byte _ _ c.span_end-end.ensures (sym c.is_figure.ensures ∙ not-false _ c.if-not-is_figure.false) 2 (c.span_end-end.result + 3) (omega arith) in
+    (omega (arith, c.add_digit-b.ensures), omega (arith, c.decimal-3.ensures, b.0), omega (arith, c.decimal-3.ensures, b.1))
+
+pub overflow_cast-result : goal.overflow_cast-result
+overflow_cast-result c = omega (arith, c.if-c-le65535.true)
+
+pub returns-then-c-le65535 : goal.returns-then-c-le65535
+returns-then-c-le65535 c =
+    let e = c.span_end-end.ensures in
+    let n = number_is _ _ e _ _ _ _ _ _ _ c.whole.ensures c.decimal.ensures c.decimal-2.ensures c.decimal-3.ensures c.add_digit-a.ensures c.add_digit-b.ensures c.add_digit-c.ensures in
+    figure-fits _ _ e (sym c.is_figure.ensures ∙ not-false _ c.if-not-is_figure.false) (ltb-false _ _ c.if-w-end.false) _ n c.if-c-le65535.true
+
+pub returns-else-c-le65535 : goal.returns-else-c-le65535
+returns-else-c-le65535 c =
+    let e = c.span_end-end.ensures in
+    let n = number_is _ _ e _ _ _ _ _ _ _ c.whole.ensures c.decimal.ensures c.decimal-2.ensures c.decimal-3.ensures c.add_digit-a.ensures c.add_digit-b.ensures c.add_digit-c.ensures in
+    figure_large _ _ e (sym c.is_figure.ensures ∙ not-false _ c.if-not-is_figure.false) (ltb-false _ _ c.if-w-end.false) _ n c.if-c-le65535.false

@@ -1,0 +1,50 @@
+-- `genlib_groups::is_gate` meets its contract, by its tests.
+use Rattle.base.specs.{◌≡◌, sym, ap, ◌∙◌, ⊎_elim, Bool, true, false, List, ℕ, not-true, not-false}
+use Rattle.model.specs.{text, same, is_word, is_figure, is_gate_line, gate_head, formed}
+use Rattle.genlib_groups.proofs.is_gate.Goals as goal
+
+-- what was said of a token's bytes
+told : (p : List ℕ → Bool) (u : List ℕ) (t : List ℕ) (r b : Bool) → t ≡ u → r ≡ p t → r ≡ b → p u ≡ b
+told p u t r b e f g = ap p (sym e) ∙ sym f ∙ g
+
+pub returns-then-not-same_bytes : goal.returns-then-not-same_bytes
+unfolding is_gate_line gate_head text
+returns-then-not-same_bytes c =
+    let n = c.nth_bytes in
+    let gate : (b : Bool) → c.same_bytes.result ≡ b → _ = λ b. told (λ x. same x (text "GATE")) _ _ _ b n.ensures c.same_bytes.ensures in
+    ⊎_elim
+    (λ y. sym (rw (gate false (not-true _ y.taken))))
+    (⊎_elim
+    (λ y. sym (rw (gate true (not-false _ y.0.left), told is_word _ _ _ false y.1.ensures y.2.ensures (not-true _ y.3.taken))))
+    (⊎_elim
+    (λ y. sym (rw (gate true (not-false _ y.0.left), told is_word _ _ _ true y.1.ensures y.2.ensures (not-false _ y.3.left), told is_figure _ _ _ false y.4.ensures y.5.ensures (not-true _ y.6.taken))))
+    (λ y. sym (rw (gate true (not-false _ y.0.left), told is_word _ _ _ true y.1.ensures y.2.ensures (not-false _ y.3.left), told is_figure _ _ _ true y.4.ensures y.5.ensures (not-false _ y.6.left), told is_word _ _ _ false y.7.ensures y.8.ensures (not-true _ y.9.taken))))))
+    c.then-not-same_bytes.branch
+
+pub is_formed-requires : goal.is_formed-requires
+is_formed-requires c =
+    c.nth-n.ensures.within
+
+pub returns-then-is_sign : goal.returns-then-is_sign
+unfolding is_gate_line gate_head text
+returns-then-is_sign c =
+    rw (
+      told (λ x. same x (text "GATE")) _ _ _ true c.nth_bytes.ensures c.same_bytes.ensures (not-false _ c.if-not-same_bytes.false),
+      told is_word _ _ _ true c.nth_bytes-else-not-same_bytes.ensures c.is_word.ensures (not-false _ c.if-not-is_word.false),
+      told is_figure _ _ _ true c.nth_bytes-else-not-is_word.ensures c.is_figure.ensures (not-false _ c.if-not-is_figure.false),
+      told is_word _ _ _ true c.nth_bytes-else-not-is_figure.ensures c.is_word-else-not-is_figure.ensures (not-false _ c.if-not-is_word-2.false),
+      sym c.is_sign.ensures ∙ c.if-is_sign.true,
+    )
+    (c.is_formed.ensures ∙ ap formed c.nth-n.ensures.rest)
+
+pub returns-else-is_sign : goal.returns-else-is_sign
+unfolding is_gate_line gate_head text
+returns-else-is_sign c =
+    c.if-is_sign.false
+    ∙ sym (rw (
+      told (λ x. same x (text "GATE")) _ _ _ true c.nth_bytes.ensures c.same_bytes.ensures (not-false _ c.if-not-same_bytes.false),
+      told is_word _ _ _ true c.nth_bytes-else-not-same_bytes.ensures c.is_word.ensures (not-false _ c.if-not-is_word.false),
+      told is_figure _ _ _ true c.nth_bytes-else-not-is_word.ensures c.is_figure.ensures (not-false _ c.if-not-is_figure.false),
+      told is_word _ _ _ true c.nth_bytes-else-not-is_figure.ensures c.is_word-else-not-is_figure.ensures (not-false _ c.if-not-is_word-2.false),
+      sym c.is_sign.ensures ∙ c.if-is_sign.false,
+    ))

@@ -1,0 +1,29 @@
+-- `graph_binary::load_binary` meets its contract, by the laws of its three passes.
+use Rattle.base.specs.{rules}
+use Rattle.graph_order.proofs.{fit_length, fit-capacity}
+use Rattle.graph_binary.proofs.BinaryLoads.{header-fit, load-done, load_stop}
+use Rattle.graph_binary.proofs.load_binary.Goals as goal
+
+pub open_words-requires : goal.open_words-requires
+open_words-requires c =
+    fit-capacity _ _ (header-fit c.args.s.now c.args.h c.args.work.now c.requires.0 c.requires.2)
+
+pub store_inputs-requires : goal.store_inputs-requires
+store_inputs-requires c =
+    fit_length _ _ _ (header-fit c.args.s.now c.args.h c.args.work.now c.requires.0 c.requires.2) (search rules)
+
+pub read_outputs-requires : goal.read_outputs-requires
+read_outputs-requires c =
+    fit_length _ _ _ (header-fit c.args.s.now c.args.h c.args.work.now c.requires.0 c.requires.2) (search rules)
+
+pub read_gates-requires : goal.read_gates-requires
+read_gates-requires c =
+    fit_length _ _ _ (header-fit c.args.s.now c.args.h c.args.work.now c.requires.0 c.requires.2) (search rules)
+
+pub returns-in-To : goal.returns-in-To
+returns-in-To c =
+    load-done c.args.s.now c.args.h c.requires.1 c.args.work.now (header-fit c.args.s.now c.args.h c.args.work.now c.requires.0 c.requires.2) c.requires.0 _ _ _ _ c.open_words.ensures c.store_inputs.ensures c.read_outputs.ensures.answer c.read_outputs.ensures.left _ c.in-To.is _ _ c.read_gates.ensures.answer c.read_gates.ensures.left
+
+pub returns-in-Refused : goal.returns-in-Refused
+returns-in-Refused c =
+    load_stop c.args.s.now c.args.h c.requires.1 c.args.work.now (header-fit c.args.s.now c.args.h c.args.work.now c.requires.0 c.requires.2) c.requires.0 _ _ _ _ c.open_words.ensures c.store_inputs.ensures c.read_outputs.ensures.answer c.read_outputs.ensures.left _ _ c.in-Refused.is
