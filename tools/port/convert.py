@@ -431,9 +431,24 @@ def convert(folder, fn, crate, path):
         b = HEAD.sub(lambda m: table[m[1]] + (m[2] or "") if m[1] in table and m[1] != "_" else m[0], mm[3])
         goal = f"{kind}-{loop}"
         inv_out.append("\n".join([x for x in it[0] if x.startswith("--")] + [f"abbrev pub {goal} : goal.{goal}"]) + "\n" + mm[1] + f"{goal} l ={b}")
+    # a lemma or definition that the invariants name stands with them
+    shared, more_found = [], True
+    while more_found:
+        more_found = False
+        seen = set(re.findall(ID, "\n".join(inv_out + ["\n".join([it[1]] + it[4]) for it in shared])))
+        for it in helpers:
+            if it not in shared and it[3] in seen:
+                shared.append(it)
+                more_found = True
+    for it in reversed([it for it in helpers if it in shared]):
+        opened = re.search(r"(?m)^unfolding .*(?<![\w-])" + re.escape(it[3]) + r"(?![\w-])", text)
+        sig = re.sub(r"^((?:abbrev )*)(?:unfoldable )?(?:pub )?", lambda m: ("unfoldable " if opened and not m[1] else "") + m[1] + "pub ", it[1], count=1)
+        inv_out.insert(0, "\n".join([x for x in it[0] if x.startswith("--")] + [sig] + it[4]))
+    if shared:
+        uses.append(f"use {module}.Invariants.{{{', '.join(it[3] for it in shared)}}}")
     # Answers.antt
     ans_out, answered = [], set()
-    for it in helpers:
+    for it in [it for it in helpers if it not in shared]:
         ans_out.append("\n".join([x for x in it[0] if x.startswith("--")] + [it[1]] + it[4]))
     rename = {}
     for name, it in named.items():
@@ -479,10 +494,13 @@ def convert(folder, fn, crate, path):
                 b = r
         u = "".join(x + "\n" for x in unfolding)
         ans_out.append(f"pub {goal} : goal.{goal}\n{u}{goal} {more([la[1], *la[2].split()])} ={b}")
+    for a, b in fn.args.items():
+        if a.startswith("args."):
+            ans_out = [re.sub(r"\." + re.escape(a[5:]) + r"(?![\w'-])", "." + b[5:], x) for x in ans_out]
     os.remove(p)
     if inv_out:
         open(os.path.join(folder, "Invariants.antt"), "w", encoding="utf-8").write(
-            "\n".join(comment + used(uses, "\n".join(inv_out)) + [f"use {module}.Given as goal", ""]) + "\n" + "\n\n".join(inv_out) + "\n"
+            "\n".join(comment + used([l for l in uses if ".Invariants." not in l], "\n".join(inv_out)) + [f"use {module}.Given as goal", ""]) + "\n" + "\n\n".join(inv_out) + "\n"
         )
     if ans_out:
         open(os.path.join(folder, "Answers.antt"), "w", encoding="utf-8").write(

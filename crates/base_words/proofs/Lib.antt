@@ -1,6 +1,6 @@
 -- `WordStores`: the laws of `put_at`. `WordRanges`: a record after words were put. `ColumnAddresses`: the layout fits together.
 -- `StoredCuts`: cuts in words; what was stored is there, and nothing else changed. `CutFunctions`: so for their functions. `MinArrivals`: so for the minimum arrivals. `PhaseWords`: so for nodes, phases and the needed ones.
--- `CutColumns`: the cuts as they stood one after the other, and that each is found under its old number. `Reborrows`: a slice of words lent again for a call.
+-- `CutColumns`: the cuts as they stood one after the other, and that each is found under its old number.
 pub mod WordStores
 pub mod WordRanges
 pub mod ColumnAddresses
@@ -9,7 +9,6 @@ pub mod CutFunctions
 pub mod MinArrivals
 pub mod CutColumns
 pub mod PhaseWords
-pub mod Reborrows
 pub use WordStores.{get_put, get_put-above, get_put-below, length-put, put_append, put-more, put-none, put_one, put_taken, put-zeros}
 pub use WordRanges.{part_apart, part-put, put_whole, word-apart, word-put, zero-put}
 pub use ColumnAddresses.{capacity_for, capacity-need}
@@ -22,4 +21,3 @@ pub use MinArrivals.{min-arrival-apart, min-arrival-before, min-arrival-behind, 
 pub use CutColumns.{former-length, former-zeros}
 unfoldable pub use CutColumns.{former}
 pub use PhaseWords.{length-phase, needed_other, needed-put, node-apart, node-length, phase-apart, phase-none, phase-put}
-pub use Reborrows.{LentAgain, comes_back_lem, lends_again}

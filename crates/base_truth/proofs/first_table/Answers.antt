@@ -5,10 +5,8 @@ use Rattle.model.specs.{one, from, below, value, row_map, pin_row, tabulate}
 use Rattle.base_truth.specs.{places_of, variant_table}
 use Rattle.base_truth.proofs.RowDescent.{rows_from, down, rows-small, rows_whole}
 use Rattle.base_truth.proofs.VariantTables.{pin-row, places-four}
+use Rattle.base_truth.proofs.first_table.Invariants.{cell}
 use Rattle.base_truth.proofs.first_table.Goals as goal
-
-cell : ℕ → ℕ → ℕ → ℕ → Bool
-cell pins table order r = value table (pin_row pins (places_of order) 0 r)
 
 get-map : (f : ℕ → ℕ) (n i r : ℕ) → r < n → get_or (map f (from i n)) r 0 ≡ f (i + r)
 unfolding from

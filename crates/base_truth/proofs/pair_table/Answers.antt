@@ -4,14 +4,8 @@ use Rattle.model.specs.{one, bit, below, pair_pins, pair_value, pair_table}
 use Rattle.model.specs.declared.Cell.{Cell}
 use Rattle.base_truth.proofs.RowDescent.{rows_from, down, rows-small, rows_none, rows_whole}
 use Rattle.base_truth.proofs.PairTables.{pair_row}
+use Rattle.base_truth.proofs.pair_table.Invariants.{at_row, rows}
 use Rattle.base_truth.proofs.pair_table.Goals as goal
-
--- the pair's value in a row
-at_row : Cell → ℕ → Cell → ℕ → Bool
-at_row root pin inner r = pair_value root pin inner (map (bit r) (below (pair_pins root inner)))
-
-rows : Cell → Cell → ℕ
-rows root inner = 2 ^ (root.pins + inner.pins - 1)
 
 rows_are : (root inner : Cell) → root.pins + inner.pins ≤ 5 → 1 * 2 ^ (root.pins + inner.pins - 1) % 2 ^ 16 ≡ rows root inner
 unfolding rows

@@ -14,7 +14,7 @@ pub returns : goal.returns
 returns c =
     let a = c.args in (
       c.masked.ensures.0
-          ∙ ap (literal (bit a.mask a.j)) (c.leaf.ensures.0 ∙ ap (λ (i : ℕ). get_or a.t1 i 0) c.place-i.ensures),
+          ∙ ap (literal (bit a.mask a.j)) (c.leaf.ensures.0 ∙ ap (λ (i : ℕ). get_or a.leaves i 0) c.place-i.ensures),
       c.masked.ensures.1,
     )
 

@@ -17,9 +17,9 @@ pub returns : goal.returns
 returns c =
     let a = c.args in
     let n = c.if-len-lt8.n in
-    let eight : length a.t1 ≡ 8 = search rules in
+    let eight : length a.name ≡ 8 = search rules in
     c.same_bytes.ensures
     ∙ ap (same a.w.now)
-    (⊎_elim (λ y. let e : n ≡ a.len = omega arith in ap (λ (k : ℕ). take k a.t1) e)
-    (λ y. take_all n a.t1 (omega arith) ∙ sym (take_all a.len a.t1 (omega arith)))
+    (⊎_elim (λ y. let e : n ≡ a.len = omega arith in ap (λ (k : ℕ). take k a.name) e)
+    (λ y. take_all n a.name (omega arith) ∙ sym (take_all a.len a.name (omega arith)))
     c.if-len-lt8.branch)

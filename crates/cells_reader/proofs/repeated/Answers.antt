@@ -9,19 +9,19 @@ pub returns-then-name_is : goal.returns-then-name_is
 unfolding name_of
 returns-then-name_is c =
     let a = c.args in
-    sym (repeated_more a.w.now a.t1.cells (c.loop-i.i + 1) a.t1.n (omega arith) (repeated_step a.w.now a.t1.cells c.loop-i.i ∙ rw (sym c.name_is.ensures ∙ c.if-name_is.true)))
+    sym (repeated_more a.w.now a.lib.cells (c.loop-i.i + 1) a.lib.n (omega arith) (repeated_step a.w.now a.lib.cells c.loop-i.i ∙ rw (sym c.name_is.ensures ∙ c.if-name_is.true)))
 
 pub loop-i-preserved : goal.loop-i-preserved
 unfolding name_of
 loop-i-preserved c =
     let a = c.args in
-    (omega arith, omega arith, repeated_step a.w.now a.t1.cells c.loop-i.i ∙ rw (sym c.name_is.ensures ∙ c.if-name_is.false) c.loop-i.invariant.2)
+    (omega arith, omega arith, repeated_step a.w.now a.lib.cells c.loop-i.i ∙ rw (sym c.name_is.ensures ∙ c.if-name_is.false) c.loop-i.invariant.2)
 
 pub returns : goal.returns
 returns c =
     let a = c.args in
-    let e : c.loop-i.i ≡ a.t1.n = omega arith in
-    sym (ap (is_repeated a.w.now a.t1.cells) (sym e) ∙ c.loop-i.invariant.2)
+    let e : c.loop-i.i ≡ a.lib.n = omega arith in
+    sym (ap (is_repeated a.w.now a.lib.cells) (sym e) ∙ c.loop-i.invariant.2)
 
 pub loop-i-init : goal.loop-i-init
 loop-i-init c = (omega arith, omega arith, repeated_none _ _)

@@ -8,19 +8,19 @@ pub returns-then-name_is : goal.returns-then-name_is
 unfolding name_of
 returns-then-name_is c =
     let a = c.args in
-    sym (c.loop-i.invariant.2 ∙ index-found a.w.now a.t1 c.loop-i.i c.loop-i-test.true (omega arith) c.requires.1 (sym c.name_is.ensures ∙ c.if-name_is.true))
+    sym (c.loop-i.invariant.2 ∙ index-found a.w.now a.lib c.loop-i.i c.loop-i-test.true (omega arith) c.requires.1 (sym c.name_is.ensures ∙ c.if-name_is.true))
 
 pub loop-i-preserved : goal.loop-i-preserved
 unfolding name_of
 loop-i-preserved c =
     let a = c.args in
-    (omega arith, omega arith, c.loop-i.invariant.2 ∙ index-next a.w.now a.t1 c.loop-i.i c.loop-i-test.true (omega arith) c.requires.1 (sym c.name_is.ensures ∙ c.if-name_is.false))
+    (omega arith, omega arith, c.loop-i.invariant.2 ∙ index-next a.w.now a.lib c.loop-i.i c.loop-i-test.true (omega arith) c.requires.1 (sym c.name_is.ensures ∙ c.if-name_is.false))
 
 pub returns : goal.returns
 returns c =
     let a = c.args in
-    let long : length a.t1.cells ≡ 32 = c.requires.1 in
-    sym (c.loop-i.invariant.2 ∙ index-end a.w.now a.t1 c.loop-i.i (omega arith) (omega arith))
+    let long : length a.lib.cells ≡ 32 = c.requires.1 in
+    sym (c.loop-i.invariant.2 ∙ index-end a.w.now a.lib c.loop-i.i (omega arith) (omega arith))
 
 pub loop-i-init : goal.loop-i-init
 loop-i-init c = (omega arith, c.requires.0, index-start _ _)

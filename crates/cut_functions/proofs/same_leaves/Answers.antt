@@ -7,9 +7,9 @@ use Rattle.cut_functions.proofs.same_leaves.Goals as goal
 pub returns : goal.returns
 returns c = λ e.
     let a = c.args in
-    let la : length a.t1 ≡ 4 = search rules in
-    let lb : length a.t2 ≡ 4 = search rules in
-    four_same a.t1 a.t2 la lb c.if-a-b.false c.if-a-b-2.false c.if-a-b-3.false (eqb-true _ _ e)
+    let la : length a.a ≡ 4 = search rules in
+    let lb : length a.b ≡ 4 = search rules in
+    four_same a.a a.b la lb c.if-a-b.false c.if-a-b-2.false c.if-a-b-3.false (eqb-true _ _ e)
 
 pub returns-then-a-b : goal.returns-then-a-b
 returns-then-a-b c e = absurd (never e refl)

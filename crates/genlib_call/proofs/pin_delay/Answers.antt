@@ -11,10 +11,10 @@ returns-then-j-p c =
     let h = c.if-j-p.true in
     let a = c.args in
     let w = a.w.now in
-    c.delay_named.ensures ∙ ap value_in (sym (pin-there (lines_behind a.s.now a.from) (names_at w a.t4) a.j (name_at w a.t4 a.j) (omega (arith, length-names w a.t4)) (name_of_lem w a.t4 a.j h)))
+    c.delay_named.ensures ∙ ap value_in (sym (pin-there (lines_behind a.s.now a.from) (names_at w a.p) a.j (name_at w a.p a.j) (omega (arith, length-names w a.p)) (name_of_lem w a.p a.j h)))
 
 pub returns-else-j-p : goal.returns-else-j-p
 returns-else-j-p c =
     let a = c.args in
     let w = a.w.now in
-    sym (ap value_in (pin-absent (lines_behind a.s.now a.from) (names_at w a.t4) a.j (omega (arith, length-names w a.t4, c.if-j-p.false))))
+    sym (ap value_in (pin-absent (lines_behind a.s.now a.from) (names_at w a.p) a.j (omega (arith, length-names w a.p, c.if-j-p.false))))

@@ -9,14 +9,14 @@ pub returns-then-index-n : goal.returns-then-index-n
 returns-then-index-n c =
     let i = c.index.ensures.0 in
     let a = c.args in
-    (c.requires.1, record { few = λ h. sym (with_known _ _ _ _ i c.if-index-n.true); many = λ h. absurd (omega (arith, c.requires.0)) }, known a.w.now a.t4 a.from a.t.now _ i c.if-index-n.true)
+    (c.requires.1, record { few = λ h. sym (with_known _ _ _ _ i c.if-index-n.true); many = λ h. absurd (omega (arith, c.requires.0)) }, known a.w.now a.p a.from a.t.now _ i c.if-index-n.true)
 
 pub returns-then-n-lt4 : goal.returns-then-n-lt4
 returns-then-n-lt4 c =
     let i = c.index.ensures.0 in
     let a = c.args in
     let w = a.w.now in
-    let p = a.t4 in (
+    let p = a.p in (
       length-set p.at p.n _ ∙ c.requires.1,
       record {
         few = λ h. names-pushed w p _ c.if-n-lt4.true c.requires.1
@@ -31,7 +31,7 @@ returns-else-n-lt4 c =
     let i = c.index.ensures.0 in
     let a = c.args in
     let w = a.w.now in
-    let p = a.t4 in
+    let p = a.p in
     let n = ap length (with_new w p _ _ i c.if-index-n.false) in
     let five : p.n + 1 ≡ 5 = omega (arith, c.requires.0, c.if-n-lt4.false) in (
       c.requires.1,

@@ -7,16 +7,16 @@ use Rattle.tally_call.proofs.put_column.Goals as goal
 pub loop-i-preserved : goal.loop-i-preserved
 loop-i-preserved c =
     let a = c.args in let p = c.loop-i in
-    let long : length a.t3 ≡ 32 = search rules in (
+    let long : length a.xs ≡ 32 = search rules in (
       omega arith,
-      length-set p.out (a.at + p.i) (get_or a.t3 p.i 0) ∙ p.invariant.1,
-      ap (λ (x : List ℕ). set x (a.at + p.i) (get_or a.t3 p.i 0)) p.invariant.2 ∙ put_taken a.out.now a.at a.t3 p.i (omega arith) (omega arith),
+      length-set p.out (a.at + p.i) (get_or a.xs p.i 0) ∙ p.invariant.1,
+      ap (λ (x : List ℕ). set x (a.at + p.i) (get_or a.xs p.i 0)) p.invariant.2 ∙ put_taken a.out.now a.at a.xs p.i (omega arith) (omega arith),
     )
 
 pub returns : goal.returns
 returns c =
-    let a = c.args in let p = c.loop-i in let long : length a.t3 ≡ 32 = search rules in
-    (p.invariant.2 ∙ ap (put_at a.out.now a.at) (take_all p.i a.t3 (omega arith)), long)
+    let a = c.args in let p = c.loop-i in let long : length a.xs ≡ 32 = search rules in
+    (p.invariant.2 ∙ ap (put_at a.out.now a.at) (take_all p.i a.xs (omega arith)), long)
 
 pub loop-i-init : goal.loop-i-init
 loop-i-init c = (omega arith, refl, sym (put-none c.args.out.now c.args.at))

@@ -7,7 +7,7 @@ use Rattle.tally_counting.proofs.read_gates.Goals as goal
 pub loop-k-init : goal.loop-k-init
 loop-k-init c =
     let a = c.args in
-    subst (SoFar a.t3 a.s.now a.from) (sym c.no_gates-c.ensures) (so_far-first a.t3 a.s.now a.from (omega arith))
+    subst (SoFar a.lib a.s.now a.from) (sym c.no_gates-c.ensures) (so_far-first a.lib a.s.now a.from (omega arith))
 
 pub offset_bounds-lib-k : goal.offset_bounds-lib-k
 offset_bounds-lib-k c =

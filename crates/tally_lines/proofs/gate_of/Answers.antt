@@ -9,7 +9,7 @@ use Rattle.tally_lines.proofs.gate_of.Goals as goal
 pub returns-then-at-w : goal.returns-then-at-w
 returns-then-at-w c =
     let a = c.args in
-    sym (ap which_of (gate_never a.w.now 0 (cells_of a.t2) (omega (arith, c.word-at.ensures))))
+    sym (ap which_of (gate_never a.w.now 0 (cells_of a.lib) (omega (arith, c.word-at.ensures))))
 
 pub is_gate-requires : goal.is_gate-requires
 is_gate-requires c =
@@ -21,33 +21,33 @@ pub returns-then-is_gate : goal.returns-then-is_gate
 returns-then-is_gate c =
     let a = c.args in
     let p = c.loop-i in
-    let long : length a.t2.cells ≡ 32 = c.requires.1.long in
-    let n = cells_count a.t2 long (omega arith) in
-    let at = cells_at a.t2 long (omega arith) p.i (omega arith) in
-    sym (ap which_of (p.invariant.1 ∙ gate-here p.i (cells_of a.t2) a.w.now (omega (arith, n))
+    let long : length a.lib.cells ≡ 32 = c.requires.1.long in
+    let n = cells_count a.lib long (omega arith) in
+    let at = cells_at a.lib long (omega arith) p.i (omega arith) in
+    sym (ap which_of (p.invariant.1 ∙ gate-here p.i (cells_of a.lib) a.w.now (omega (arith, n))
     (ap (λ (x : Cell). of_form (gate_form x) (fields a.w.now)) at
-    ∙ gate-behind a.w.now (get_or a.t2.cells p.i no_cell) c.word-at.result c.word-at.ensures (omega arith)
+    ∙ gate-behind a.w.now (get_or a.lib.cells p.i no_cell) c.word-at.result c.word-at.ensures (omega arith)
     ∙ sym c.is_gate.ensures ∙ c.if-is_gate.true)))
 
 pub loop-i-preserved : goal.loop-i-preserved
 loop-i-preserved c =
     let a = c.args in
     let p = c.loop-i in
-    let long : length a.t2.cells ≡ 32 = c.requires.1.long in
-    let n = cells_count a.t2 long (omega arith) in
-    let at = cells_at a.t2 long (omega arith) p.i (omega arith) in (
+    let long : length a.lib.cells ≡ 32 = c.requires.1.long in
+    let n = cells_count a.lib long (omega arith) in
+    let at = cells_at a.lib long (omega arith) p.i (omega arith) in (
       omega arith,
-      p.invariant.1 ∙ gate-later p.i (cells_of a.t2) a.w.now (omega (arith, n))
+      p.invariant.1 ∙ gate-later p.i (cells_of a.lib) a.w.now (omega (arith, n))
           (ap (λ (x : Cell). of_form (gate_form x) (fields a.w.now)) at
-          ∙ gate-behind a.w.now (get_or a.t2.cells p.i no_cell) c.word-at.result c.word-at.ensures (omega arith)
+          ∙ gate-behind a.w.now (get_or a.lib.cells p.i no_cell) c.word-at.result c.word-at.ensures (omega arith)
           ∙ sym c.is_gate.ensures ∙ c.if-is_gate.false),
     )
 
 pub returns : goal.returns
 returns c =
     let a = c.args in
-    let long : length a.t2.cells ≡ 32 = c.requires.1.long in
-    sym (ap which_of (c.loop-i.invariant.1 ∙ gate-end c.loop-i.i (cells_of a.t2) a.w.now (omega (arith, cells_count a.t2 long (omega arith)))))
+    let long : length a.lib.cells ≡ 32 = c.requires.1.long in
+    sym (ap which_of (c.loop-i.invariant.1 ∙ gate-end c.loop-i.i (cells_of a.lib) a.w.now (omega (arith, cells_count a.lib long (omega arith)))))
 
 pub word-at-requires : goal.word-at-requires
 word-at-requires c = refl
