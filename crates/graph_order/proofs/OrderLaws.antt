@@ -28,6 +28,7 @@ use Rattle.graph_order.proofs.OrderedWords.{not-ready, order-on, order_off, orde
 pub mem_index : (xs : List ℕ) (u : ℕ) → Memᴰ u xs → (i : ℕ) × (i < length xs) × (get_or xs i 0 ≡ u)
 mem_index (x ∷ xs) u (Memᴰ-head e) = (0, omega arith, sym e)
 mem_index (x ∷ xs) u (Memᴰ-tail n) = let r = mem_index xs u n in (suc r.0, omega (arith, r.1), r.2)
+mem_index [] u x' = elim x' [ ]
 
 not-elem : (u : ℕ) (xs : List ℕ) → elem u xs ≡ false → ¬ Memᴰ u xs
 not-elem u xs e n = let t : elem u xs ≡ true = elem_in u xs n in let z : ◌≡◌ {A = ℕ} 0 1 = cc in omega arith

@@ -132,6 +132,7 @@ lowest-none : (xs : List ℕ) (u : ℕ) → Memᴰ u xs → lowest xs ≡ none �
 unfolding lowest
 lowest-none (x ∷ xs) u (Memᴰ-head q) e = smaller-some x (lowest xs) e
 lowest-none (x ∷ xs) u (Memᴰ-tail n) e = smaller-some x (lowest xs) e
+lowest-none mathlib.Core.List.[] u x'' e = elim x'' [ ]
 
 lowest_le : (xs : List ℕ) (y u : ℕ) → lowest xs ≡ some y → Memᴰ u xs → y ≤ u
 unfolding lowest
@@ -141,6 +142,7 @@ lowest_le (x ∷ xs) y u e (Memᴰ-tail n) = go (lowest xs) refl (lowest_le xs) 
     go : (o : Option ℕ) → lowest xs ≡ o → ((z v : ℕ) → lowest xs ≡ some z → Memᴰ v xs → z ≤ v) → smaller x o ≡ some y → y ≤ u
     go none q more f = absurd (lowest-none xs u n q)
     go (some z) q more f = smaller-rest x y z u f (more z u q n)
+lowest_le mathlib.Core.List.[] y u e x'' = elim x'' [ ]
 
 lowest-is : (xs : List ℕ) (v : ℕ) → Memᴰ v xs → ((u : ℕ) → Memᴰ u xs → v ≤ u) → lowest xs ≡ some v
 lowest-is xs v m least = go (lowest xs) refl

@@ -9,7 +9,11 @@ use Rattle.graph_order.proofs.first_ready.Goals as goal
 pub returns-then-ready : goal.returns-then-ready
 returns-then-ready c =
     let i = c.loop-u.invariant in
-    (sym (i.1 ∙ seek-here (is_ready c.args.work.now c.args.m) _ (c.args.m - c.loop-u.u) _ (omega arith) (sym c.ready.ensures ∙ c.if-ready.true)), (i.2, i.3))
+    record {
+      answer = sym (i.1 ∙ seek-here (is_ready c.args.work.now c.args.m) _ (c.args.m - c.loop-u.u) _ (omega arith) (sym c.ready.ensures ∙ c.if-ready.true));
+      passed = i.2;
+      kept = i.3;
+    }
 
 pub list-requires : goal.list-requires
 list-requires c =
@@ -27,7 +31,7 @@ loop-u-preserved c =
 pub returns : goal.returns
 returns c =
     let i = c.loop-u.invariant in
-    (sym (i.1 ∙ seek-end (is_ready c.args.work.now c.args.m) _ _ (omega arith)), (i.2, i.3))
+    record { answer = sym (i.1 ∙ seek-end (is_ready c.args.work.now c.args.m) _ _ (omega arith)); passed = i.2; kept = i.3 }
 
 pub loop-u-init : goal.loop-u-init
 loop-u-init c = (omega arith, ready-is-seek _ _ _, c.requires.2, λ o h. refl)

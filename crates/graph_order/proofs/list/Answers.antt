@@ -13,8 +13,9 @@ link-requires-then-kind-eq-AND c =
 
 pub returns-then-kind-eq-AND : goal.returns-then-kind-eq-AND
 returns-then-kind-eq-AND c =
-    listed _ _ _ _ _ c.requires.0 c.requires.1 c.requires.2 c.requires.3 (sym c.kind.ensures ∙ c.if-kind-eq-AND.true) _ _ c.left.ensures c.right.ensures
-    _ _ _ _ c.link.ensures.heads c.link.ensures.links c.link-then-kind-eq-AND.ensures.heads c.link-then-kind-eq-AND.ensures.links
+    let l = listed _ _ _ _ _ c.requires.0 c.requires.1 c.requires.2 c.requires.3 (sym c.kind.ensures ∙ c.if-kind-eq-AND.true) _ _ c.left.ensures c.right.ensures
+    _ _ _ _ c.link.ensures.heads c.link.ensures.links c.link-then-kind-eq-AND.ensures.heads c.link-then-kind-eq-AND.ensures.links in
+    record { passed = l.0; kept = l.1 }
 
 pub returns-else-kind-eq-AND : goal.returns-else-kind-eq-AND
 returns-else-kind-eq-AND c =

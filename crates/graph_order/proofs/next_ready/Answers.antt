@@ -10,4 +10,4 @@ returns-then-low-scan c =
 pub returns : goal.returns
 returns c =
     let f = c.first_ready.ensures in
-    next-passed _ _ _ _ _ _ c.requires.0 c.requires.2 c.requires.3 _ _ _ f.0 f.1.0 f.1.1 (omega (arith, c.lowest-low.ensures, c.if-low-scan.false))
+    next-passed _ _ _ _ _ _ c.requires.0 c.requires.2 c.requires.3 _ _ _ f.answer f.passed f.kept (omega (arith, c.lowest-low.ensures, c.if-low-scan.false))

@@ -25,13 +25,12 @@ order_at-requires c =
     (fit-capacity _ _ (fit_length c.args.h c.args.work.now _ c.requires.0 c.loop-slot.invariant.long), omega (arith, c.requires.0.lines, c.loop-slot-test.true, c.ordered_count-end.ensures), c.if-v-h.false)
 
 pub mark_ready_users-requires : goal.mark_ready_users-requires
-mark_ready_users-requires c =
-    (
-      fit-capacity _ _ (fit_length c.args.h c.args.work.now _ c.requires.0 (ordered-length c.args.h c.args.work.now c.requires.0 _ _ _ _ _ _ c.loop-slot.invariant _ _ _ c.next_ready-v.ensures (omega (arith, c.loop-slot-test.true, c.ordered_count-end.ensures)) c.if-v-h.false _ c.order_at.ensures)),
-      ordered_operands c.args.h c.args.work.now c.requires.0 _ _ _ _ _ _ c.loop-slot.invariant _ _ _ c.next_ready-v.ensures (omega (arith, c.loop-slot-test.true, c.ordered_count-end.ensures)) c.if-v-h.false _ c.order_at.ensures,
-      c.if-v-h.false,
-      to_mark c.args.h c.args.work.now c.requires.0 _ _ _ _ _ _ c.loop-slot.invariant _ _ _ c.next_ready-v.ensures (omega (arith, c.loop-slot-test.true, c.ordered_count-end.ensures)) c.if-v-h.false _ c.order_at.ensures _ c.take-scan.ensures.left,
-    )
+mark_ready_users-requires c = (
+  fit-capacity _ _ (fit_length c.args.h c.args.work.now _ c.requires.0 (ordered-length c.args.h c.args.work.now c.requires.0 _ _ _ _ _ _ c.loop-slot.invariant _ _ _ c.next_ready-v.ensures (omega (arith, c.loop-slot-test.true, c.ordered_count-end.ensures)) c.if-v-h.false _ c.order_at.ensures)),
+  ordered_operands c.args.h c.args.work.now c.requires.0 _ _ _ _ _ _ c.loop-slot.invariant _ _ _ c.next_ready-v.ensures (omega (arith, c.loop-slot-test.true, c.ordered_count-end.ensures)) c.if-v-h.false _ c.order_at.ensures,
+  c.if-v-h.false,
+  to_mark c.args.h c.args.work.now c.requires.0 _ _ _ _ _ _ c.loop-slot.invariant _ _ _ c.next_ready-v.ensures (omega (arith, c.loop-slot-test.true, c.ordered_count-end.ensures)) c.if-v-h.false _ c.order_at.ensures _ c.take-scan.ensures.left,
+)
 
 pub loop-slot-preserved : goal.loop-slot-preserved
 loop-slot-preserved c =
