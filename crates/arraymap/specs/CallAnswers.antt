@@ -1,5 +1,6 @@
 -- The answers of the exported calls, by the five values that document 01 names.
-use Rattle.base.specs.{ℕ, ◌≡◌}
+use Rattle.std.specs.Prelude.{◌≡◌}
+use Rattle.base.specs.{ℕ}
 use Rattle.model.specs.{Returned, CheckResult}
 use Rattle.model.specs.declared.Checked.{Checked}
 use Rattle.model.specs.declared.Verdict.{Verdict}

@@ -1,5 +1,6 @@
 -- What the exported calls answer, leave of the lent memory, and promise.
-use Rattle.base.specs.{ℕ, ◌≡◌, Bool, List}
+use Rattle.std.specs.Prelude.{◌≡◌}
+use Rattle.base.specs.{ℕ, Bool, List}
 use Rattle.model.specs.{call_of, map_texts, returned_by, text_after, work_after, TwoCall, channel_of, two_call_of, needs_of, map_two, two_work_after}
 use Rattle.promises.specs.Promised.{Promised}
 use Rattle.model.specs.declared.Checked.{Checked}

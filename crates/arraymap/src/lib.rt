@@ -1,7 +1,8 @@
 // The calls for C and Rust. A slice is a pointer and a number of elements; the answer is the five values that document 01 names.
 #![tactic(auto)]
 
-ghost use Rattle.base.specs.{◌≡◌, true, false};
+ghost use Rattle.std.specs.Prelude.{◌≡◌};
+ghost use Rattle.base.specs.{true, false};
 ghost use Rattle.model.specs.{returned, written_pair, result_of};
 ghost use Rattle.arraymap.specs.{Called, CalledTwo, CalledGenlib, CalledCount, CalledReport, CalledCheck};
 ghost use Rattle.arraymap.specs.{answered, answered_text, checked_answer, verdict_pair};

@@ -1,5 +1,6 @@
 -- A set of numbers below 4,096 in 65 words: bit v % 64 of word v / 64 says that v is in it, and bit i of the last word that word i is not 0.
-use Rattle.base.specs.{◌≡◌, Bool, cond, not, List, ℕ, ◌+◌, ◌*◌, ◌/◌, ◌%◌, ◌^◌, ◌<◌, bit_or, bit_xor, count_trailing_zeros, eqb, length, get_or, set}
+use Rattle.std.specs.Prelude.{◌≡◌, ◌+◌, ◌*◌, ◌/◌, ◌%◌, ◌^◌, ◌<◌}
+use Rattle.base.specs.{Bool, cond, not, List, ℕ, bit_or, bit_xor, count_trailing_zeros, eqb, length, get_or, set}
 use Rattle.model.specs.{bit}
 
 -- v is in the set

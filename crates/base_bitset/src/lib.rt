@@ -2,7 +2,8 @@
 // number is found by counting zeros twice.
 #![tactic(auto)]
 
-ghost use Rattle.base.specs.{◌≡◌, ◌^◌, ◌<◌, count_trailing_zeros, replicate};
+ghost use Rattle.std.specs.Prelude.{◌≡◌, ◌^◌, ◌<◌};
+ghost use Rattle.base.specs.{count_trailing_zeros, replicate};
 ghost use Rattle.base_bitset.specs.{added, removed, lowest_of};
 
 // 64 words of 64 bits, and the word about them.

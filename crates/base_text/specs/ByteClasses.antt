@@ -1,5 +1,6 @@
 -- The bytes of a class, and where they end.
-use Rattle.base.specs.{ℕ, ◌+◌, Bool, not, List, eqb, length, drop}
+use Rattle.std.specs.Prelude.{◌+◌}
+use Rattle.base.specs.{ℕ, Bool, not, List, eqb, length, drop}
 use Rattle.model.specs.{is_name_byte, is_blank, is_word_byte, is_digit, span}
 use Rattle.base_text.specs.declared.Class.{Class}
 use Rattle.base_text.specs.declared.Class.TheVariants.{Blank, Digit, Name, Word, Field}

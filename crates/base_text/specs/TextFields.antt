@@ -1,5 +1,6 @@
 -- What each reader finds at a place of a text, by the crate model's own judgement of a field.
-use Rattle.base.specs.{ℕ, ◌+◌, Bool, true, false, ◌&&◌, Option, none, some, List, [], ◌∷◌, eqb, ltb, length, drop, get_or}
+use Rattle.std.specs.Prelude.{◌+◌, ◌&&◌, ◌∷◌}
+use Rattle.base.specs.{ℕ, Bool, true, false, Option, none, some, List, [], eqb, ltb, length, drop, get_or}
 use Rattle.model.specs.{number, hex_table, is_name, Read, holds, fault, Passed, difference}
 use Rattle.base_text.specs.declared.Cursor.{Cursor}
 use Rattle.base_text.specs.declared.Value.{Value}

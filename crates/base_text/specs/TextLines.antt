@@ -1,5 +1,6 @@
 -- A line of a text, and its fields from a place on: what a reader that goes from field to field meets.
-use Rattle.base.specs.{ℕ, zero, suc, ◌+◌, Bool, true, false, ◌&&◌, Option, none, some, List, [], ◌∷◌, ltb, length, take, drop}
+use Rattle.std.specs.Prelude.{◌+◌, ◌&&◌, ◌∷◌}
+use Rattle.base.specs.{ℕ, zero, suc, Bool, true, false, Option, none, some, List, [], ltb, length, take, drop}
 use Rattle.model.specs.{same, and_then, Line, next_of}
 use Rattle.base_text.specs.declared.Span.{Span}
 use Rattle.base_text.specs.TextFields.{pick_bytes, pick_n, end_of, stops, word_at, end_at, is_byte, on_number, number_then, number_end}

@@ -1,5 +1,6 @@
 -- What a writer leaves: bytes put from a place on, and the place past them.
-use Rattle.base.specs.{◌≡◌, List, ℕ, ◌+◌, length}
+use Rattle.std.specs.Prelude.{◌≡◌, ◌+◌}
+use Rattle.base.specs.{List, ℕ, length}
 use Rattle.base_words.specs.{put_at}
 
 -- `before` with the bytes put from `at` on is `after`, and `end` is the place past them

@@ -3,7 +3,8 @@
 // A field is what stands up to the next space, line's end or end of text; each field is validated whole, by the definition of the crate `model`.
 #![tactic(auto)]
 
-ghost use Rattle.base.specs.{◌≡◌, ◌∷◌, [], ◌+◌, ◌/◌, ◌%◌, ◌≤◌, ◌<◌, length, get_or, drop};
+ghost use Rattle.std.specs.Prelude.{◌≡◌, ◌∷◌, ◌+◌, ◌/◌, ◌%◌, ◌≤◌, ◌<◌};
+ghost use Rattle.base.specs.{[], length, get_or, drop};
 ghost use Rattle.model.specs.{all, same, decimal, number, hex_digit, hex_from, hex_table, is_letter, is_name_byte, is_name, name_bytes};
 ghost use Rattle.base_words.specs.{put_at};
 ghost use Rattle.base_text.specs.{Wrote, end_of, end_at, value_of, byte_at, line_end_at, number_at, table_at, name_at, closed_at, then_byte};

@@ -1,5 +1,6 @@
 -- A row of a pair's pins taken apart: "Its pins are the root's in order, with the inner's, in order, at the fed pin's place."
-use Rattle.base.specs.{ℕ, ◌+◌, ◌-◌, ◌*◌, Bool, cond, eqb, ltb}
+use Rattle.std.specs.Prelude.{◌+◌, ◌-◌, ◌*◌}
+use Rattle.base.specs.{ℕ, Bool, cond, eqb, ltb}
 use Rattle.model.specs.{bit, one}
 
 -- bit j of the root's row in row r of the pair, where the inner has n pins from pin on and the value b

@@ -1,5 +1,6 @@
 -- The table of a cell under an order and a mask, the table of a leaf, whether the pins' places are there, and the net of a pin.
-use Rattle.base.specs.{ℕ, ◌^◌, Bool, cond, List, [], bit_xor, ltb, take, get_or}
+use Rattle.std.specs.Prelude.{◌^◌}
+use Rattle.base.specs.{ℕ, Bool, cond, List, [], bit_xor, ltb, take, get_or}
 use Rattle.model.specs.{all, bit, literal, value, orders, pin_row, tabulate}
 
 -- the places of an order

@@ -1,7 +1,8 @@
 // Truth tables of up to four inputs, 16 rows each: "bit r is the cell's value in row r, where bit j of r is pin j".
 #![tactic(auto)]
 
-ghost use Rattle.base.specs.{◌≡◌, ℕ, ◌+◌, ◌*◌, ◌/◌, ◌%◌, ◌^◌, ◌<◌, ◌≤◌, map, true, get_or};
+ghost use Rattle.std.specs.Prelude.{◌≡◌, ◌+◌, ◌*◌, ◌/◌, ◌%◌, ◌^◌, ◌<◌, ◌≤◌};
+ghost use Rattle.base.specs.{ℕ, map, true, get_or};
 ghost use Rattle.model.specs.{bit, one, below, literal, opposite, value, row_map, phase_table, pair_table};
 ghost use Rattle.base_truth.specs.{root_bit, root_row, places_of, variant_table, crossed, crossed_at, permuted, leaf_table, pin_net};
 

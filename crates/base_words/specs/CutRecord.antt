@@ -1,7 +1,8 @@
 -- A node as three words, its kind and its operands; a cut as five words, its count and its four leaves; a cut's function as one.
 -- Other crates name a cut and its function by M, the variable and the cut's number, and read and store them by the names here: where they lie is
 -- not theirs to know.
-use Rattle.base.specs.{cond, List, [], ◌∷◌, ◌++◌, map, ℕ, zero, suc, ◌≤◌, ◌<◌, eqb, length, take, get_or}
+use Rattle.std.specs.Prelude.{◌∷◌, ◌++◌, ◌≤◌, ◌<◌}
+use Rattle.base.specs.{cond, List, [], map, ℕ, zero, suc, eqb, length, take, get_or}
 use Rattle.model.specs.{cut_limit, Node, constant, input, undefined, both}
 use Rattle.model.specs.declared.Cut.{Cut}
 use Rattle.base_words.specs.StoredWords.{put_at}

@@ -2,7 +2,8 @@
 -- and so on, then all functions", and the outputs.
 -- With W = M + 1 variables a column of one word for each variable takes W words, one of a word for each cut 18 W. No other crate writes a number for an
 -- address, and none names the address of a cut or of its function.
-use Rattle.base.specs.{List, [], ◌∷◌, ℕ, ◌+◌, ◌*◌, ◌/◌, ◌%◌, ◌≤◌, length, get_or}
+use Rattle.std.specs.Prelude.{◌∷◌, ◌+◌, ◌*◌, ◌/◌, ◌%◌, ◌≤◌}
+use Rattle.base.specs.{List, [], ℕ, length, get_or}
 use Rattle.model.specs.{cut_limit}
 use Rattle.model.specs.declared.Header.{Header}
 

@@ -1,5 +1,6 @@
 -- A phase as four words, and the needed phases of a variable as one.
-use Rattle.base.specs.{Bool, cond, not, ◌&&◌, List, [], ◌∷◌, ◌++◌, ℕ, ◌+◌, ◌*◌, ◌/◌, ◌%◌, ◌<◌, eqb, get_or}
+use Rattle.std.specs.Prelude.{◌&&◌, ◌∷◌, ◌++◌, ◌+◌, ◌*◌, ◌/◌, ◌%◌, ◌<◌}
+use Rattle.base.specs.{Bool, cond, not, List, [], ℕ, eqb, get_or}
 use Rattle.model.specs.{cut_limit, var_of, negated, Phases, phase_of, absent, is_input_source}
 use Rattle.model.specs.declared.Match.{Match}
 use Rattle.model.specs.declared.Source.{Source}

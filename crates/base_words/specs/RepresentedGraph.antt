@@ -1,5 +1,6 @@
 -- What the lent words hold between the passes, in terms of `model`: the graph, its topological order, its cuts, the chosen phases and the needed ones.
-use Rattle.base.specs.{◌≡◌, List, [], Memᴰ, ℕ, ◌+◌, ◌*◌, ◌≤◌, ◌<◌, length, get_or}
+use Rattle.std.specs.Prelude.{◌≡◌, ◌+◌, ◌*◌, ◌≤◌, ◌<◌}
+use Rattle.base.specs.{List, [], Memᴰ, ℕ, length, get_or}
 use Rattle.model.specs.{elem, node, topological_order, cuts_of, cut_table, chosen, needed}
 use Rattle.model.specs.Graph.{Graph}
 use Rattle.model.specs.declared.Cell.{Cell}

@@ -1,5 +1,6 @@
 -- The layout as a whole: the columns in the order in which they stand, and the address and the size of every record.
-use Rattle.base.specs.{List, [], ◌∷◌, ◌≡◌, ℕ, zero, suc, ◌+◌, ◌*◌, ◌≤◌, ◌<◌, get_or}
+use Rattle.std.specs.Prelude.{◌∷◌, ◌≡◌, ◌+◌, ◌*◌, ◌≤◌, ◌<◌}
+use Rattle.base.specs.{List, [], ℕ, zero, suc, get_or}
 use Rattle.model.specs.{cut_limit}
 use Rattle.base_words.specs.Layout.{kind_addr, left_addr, right_addr, slot_addr, position_addr, count_addr, needed_addr, input_arrival_addr, positive_addr}
 use Rattle.base_words.specs.Layout.{negative_addr, cut_addr, function_addr, output_addr}

@@ -1,7 +1,8 @@
 // The lent words: what lies where is said by specs/Layout.antt, and each function here reads or writes one record, or clears.
 #![tactic(auto)]
 
-ghost use Rattle.base.specs.{◌≡◌, ◌+◌, ◌-◌, ◌*◌, ◌/◌, ◌≤◌, ◌<◌, ◌∷◌, [], length, get_or, replicate};
+ghost use Rattle.std.specs.Prelude.{◌≡◌, ◌+◌, ◌-◌, ◌*◌, ◌/◌, ◌≤◌, ◌<◌, ◌∷◌};
+ghost use Rattle.base.specs.{[], length, get_or, replicate};
 ghost use Rattle.model.specs.{cut_limit, need, absent, is_input_source, is_inverted};
 ghost use Rattle.base_words.specs.{put_at, zeros, ordered_count, HasCapacity, HasCapacityFor, kind_at, kind_addr, left_at, left_addr, right_at, right_addr};
 ghost use Rattle.base_words.specs.{slot_at, slot_addr, position_at, position_addr, count_at, count_addr, needed_at, needed_addr, input_arrival_at};

@@ -1,5 +1,6 @@
 -- The best match of a cut, over the arrivals of its leaves.
-use Rattle.base.specs.{ℕ, zero, suc, ◌+◌, ◌*◌, ◌/◌, ◌%◌, ◌≤◌, ◌<◌, max, ◌≡◌, Bool, cond, List, [], ◌∷◌, ltb, length, get_or}
+use Rattle.std.specs.Prelude.{◌+◌, ◌*◌, ◌/◌, ◌%◌, ◌≤◌, ◌<◌, ◌≡◌, ◌∷◌}
+use Rattle.base.specs.{ℕ, zero, suc, max, Bool, cond, List, [], ltb, length, get_or}
 use Rattle.model.specs.{bit, cell_at, literal, Phases, phase_of, absent, no_phase}
 use Rattle.model.specs.declared.Cell.{Cell}
 use Rattle.model.specs.declared.Phase.{Phase}

@@ -1,5 +1,6 @@
 -- "Inverters: smallest delay, then first line."
-use Rattle.base.specs.{ℕ, suc, ◌+◌, cond, List, [], ◌∷◌, ltb, get_or}
+use Rattle.std.specs.Prelude.{◌+◌, ◌∷◌}
+use Rattle.base.specs.{ℕ, suc, cond, List, [], ltb, get_or}
 use Rattle.model.specs.{is_inverter, absent, no_phase}
 use Rattle.model.specs.declared.Cell.{Cell}
 use Rattle.model.specs.declared.Phase.{Phase}

@@ -1,7 +1,8 @@
 -- The match table: all that a match asks of the cells, once for each library. It has, by table, the head of the bucket of the variants that have the
 -- table; by cell, its delays; by variant, the next one of its bucket, what feeds its pins and where its cell's delays stand. What the variants have
 -- stands last, so that a shorter match table serves fewer cells.
-use Rattle.base.specs.{ℕ, zero, suc, ◌+◌, ◌*◌, ◌/◌, ◌%◌, ◌≤◌, ◌<◌, ◌≡◌, Bool, cond, not, List, [], ◌∷◌, eqb, ltb, length, get_or, set}
+use Rattle.std.specs.Prelude.{◌+◌, ◌*◌, ◌/◌, ◌%◌, ◌≤◌, ◌<◌, ◌≡◌, ◌∷◌}
+use Rattle.base.specs.{ℕ, zero, suc, Bool, cond, not, List, [], eqb, ltb, length, get_or, set}
 use Rattle.model.specs.{bit, cell_at, literal}
 use Rattle.model.specs.declared.Cell.{Cell}
 use Rattle.base_truth.specs.{places_of, variant_table}

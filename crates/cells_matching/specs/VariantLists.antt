@@ -1,5 +1,6 @@
 -- A cell line, an order and a mask as one number, in 01's order: "cell line, order number, mask, lowest first".
-use Rattle.base.specs.{ℕ, zero, suc, ◌*◌, ◌/◌, ◌%◌, ◌^◌, ◌≤◌, ◌<◌, ◌≡◌, Bool, ◌&&◌, List, eqb, ltb, length, get_or}
+use Rattle.std.specs.Prelude.{◌*◌, ◌/◌, ◌%◌, ◌^◌, ◌≤◌, ◌<◌, ◌≡◌, ◌&&◌}
+use Rattle.base.specs.{ℕ, zero, suc, Bool, List, eqb, ltb, length, get_or}
 use Rattle.model.specs.{keep, below, cell_at, cells_of, places_fit}
 use Rattle.model.specs.declared.Cell.{Cell}
 use Rattle.model.specs.declared.Library.{Library}

@@ -5,7 +5,8 @@
 // match table of lent words: what lies where is said by specs/Match table.antt.
 #![tactic(auto)]
 
-ghost use Rattle.base.specs.{◌≡◌, List, ℕ, ◌+◌, ◌*◌, ◌%◌, ◌<◌, ◌≤◌, max, length, drop, get_or};
+ghost use Rattle.std.specs.Prelude.{◌≡◌, ◌+◌, ◌*◌, ◌%◌, ◌<◌, ◌≤◌};
+ghost use Rattle.base.specs.{List, ℕ, max, length, drop, get_or};
 ghost use Rattle.model.specs.{cell_at, cells_of};
 ghost use Rattle.model.specs.declared.Cell.{Cell};
 ghost use Rattle.base_truth.specs.{places_of, permuted};

@@ -1,5 +1,6 @@
 -- The listed cells, and the numbers of the pairs, as bytes.
-use Rattle.base.specs.{ℕ, ◌+◌, ◌-◌, ◌*◌, ◌/◌, ◌%◌, List, [], ◌∷◌, ◌++◌, length, get_or, drop, replicate}
+use Rattle.std.specs.Prelude.{◌+◌, ◌-◌, ◌*◌, ◌/◌, ◌%◌, ◌∷◌, ◌++◌}
+use Rattle.base.specs.{ℕ, List, [], length, get_or, drop, replicate}
 use Rattle.model.specs.{each, name_of}
 use Rattle.model.specs.declared.Cell.{Cell}
 

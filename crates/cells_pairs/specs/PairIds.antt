@@ -1,5 +1,6 @@
 -- A pair of cells as a number of twelve bits: the root's line, the fed pin, the inner's line.
-use Rattle.base.specs.{ℕ, ◌+◌, ◌*◌, ◌/◌, ◌%◌, ◌<◌, ◌≤◌, ◌≡◌, true, cond, List, [], ◌∷◌, ◌++◌, map, length, get_or}
+use Rattle.std.specs.Prelude.{◌+◌, ◌*◌, ◌/◌, ◌%◌, ◌<◌, ◌≤◌, ◌≡◌, ◌∷◌, ◌++◌}
+use Rattle.base.specs.{ℕ, true, cond, List, [], map, length, get_or}
 use Rattle.model.specs.{below, each, cell_at, cells_of, Pair, joins, cell_of_pair}
 use Rattle.model.specs.declared.Cell.{Cell}
 use Rattle.model.specs.declared.Library.{Library}

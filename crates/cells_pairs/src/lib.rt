@@ -3,7 +3,8 @@
 // whatever asks of a cell by its number asks here, and no cell of a pair is stored.
 #![tactic(auto)]
 
-ghost use Rattle.base.specs.{◌≡◌, List, ℕ, ◌+◌, ◌*◌, ◌≤◌, ◌<◌, min, length, take, get_or};
+ghost use Rattle.std.specs.Prelude.{◌≡◌, ◌+◌, ◌*◌, ◌≤◌, ◌<◌};
+ghost use Rattle.base.specs.{List, ℕ, min, length, take, get_or};
 ghost use Rattle.model.specs.{each, below, cells_of, cell_at, joins, pair_delays};
 ghost use Rattle.base_text.specs.{Wrote};
 ghost use Rattle.cells_pairs.specs.{Joinable, Coded, id_for, inner_ids, pin_ids, pair_ids, cells_by, name_from, cell_bytes};

@@ -1,5 +1,6 @@
 -- What each function of the library's reader answers, composed of what the readers of the crate text find.
-use Rattle.base.specs.{ℕ, zero, suc, ◌+◌, ◌-◌, Bool, true, false, not, ◌&&◌, ◌||◌, List, [], ◌∷◌, eqb, ltb, leb, length, take, drop, get_or, set}
+use Rattle.std.specs.Prelude.{◌+◌, ◌-◌, ◌&&◌, ◌||◌, ◌∷◌}
+use Rattle.base.specs.{ℕ, zero, suc, Bool, true, false, not, List, [], eqb, ltb, leb, length, take, drop, get_or, set}
 use Rattle.model.specs.{same, any, text, name_of, no_cell, name_bytes, is_clean, no_lower}
 use Rattle.model.specs.declared.Cell.{Cell}
 use Rattle.model.specs.declared.Library.{Library}

@@ -3,7 +3,8 @@
 // after `d3` in its names line." "Items 3 to 6 are tried line by line", and 27 "after 6 on its line".
 #![tactic(auto)]
 
-ghost use Rattle.base.specs.{◌≡◌, [], ◌+◌, ◌^◌, ◌≤◌, ◌<◌, length, take, drop, get_or};
+ghost use Rattle.std.specs.Prelude.{◌≡◌, ◌+◌, ◌^◌, ◌≤◌, ◌<◌};
+ghost use Rattle.base.specs.{[], length, take, drop, get_or};
 ghost use Rattle.model.specs.{same, lines_from, fault, refusal_of, verdict_refusal, no_cell, library_of, library_answer, is_clean, no_lower};
 ghost use Rattle.model.specs.{read_cells, read_library, is_ranged};
 ghost use Rattle.cells_reader.specs.{delay_at, delays_at, ranges_at, figures_at, form_at, figures_validated, validated_at, line_cell};

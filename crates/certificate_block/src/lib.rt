@@ -1,7 +1,8 @@
 // What a block says: the table of a literal, and the row of a pin's net, each by the slot that the certificate gives.
 #![tactic(auto)]
 
-ghost use Rattle.base.specs.{◌≡◌, ◌*◌, ◌≤◌, length, take};
+ghost use Rattle.std.specs.Prelude.{◌≡◌, ◌*◌, ◌≤◌};
+ghost use Rattle.base.specs.{length, take};
 ghost use Rattle.certificate_model.specs.{fed_at, lit_table};
 ghost use Rattle.certificate_facts.specs.{found, rows_in};
 ghost use Rattle.certificate_block.specs.{table_of};

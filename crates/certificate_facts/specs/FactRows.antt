@@ -1,5 +1,6 @@
 -- The rows that lent words hold, four words each; what is left over is no row.
-use Rattle.base.specs.{ℕ, Option, none, some, List, [], ◌∷◌}
+use Rattle.std.specs.Prelude.{◌∷◌}
+use Rattle.base.specs.{ℕ, Option, none, some, List, []}
 use Rattle.certificate_model.specs.declared.Row.{Row}
 use Rattle.certificate_facts.specs.declared.Found.{Found}
 use Rattle.certificate_facts.specs.declared.Found.TheVariants.{At, Nothing}

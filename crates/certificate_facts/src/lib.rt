@@ -1,7 +1,8 @@
 // Rows of four words in lent words: facts, equalities, gates, and the slots of a block. Each is looked up by a number that the certificate gives.
 #![tactic(auto)]
 
-ghost use Rattle.base.specs.{◌≡◌, ◌+◌, ◌*◌, ◌≤◌, ◌<◌, ◌++◌, ◌∷◌, [], length, get_or, set, take};
+ghost use Rattle.std.specs.Prelude.{◌≡◌, ◌+◌, ◌*◌, ◌≤◌, ◌<◌, ◌++◌, ◌∷◌};
+ghost use Rattle.base.specs.{[], length, get_or, set, take};
 ghost use Rattle.certificate_model.specs.{at, no_row};
 ghost use Rattle.certificate_facts.specs.{found, rows_in};
 

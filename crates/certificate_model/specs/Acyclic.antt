@@ -1,6 +1,7 @@
 -- A graph whose variables are defined once and which has no cycle, by two numbers for each variable that the certificate gives: the place at which it is defined,
 -- counted from 1 over the constant, the inputs and the ANDs; and a rank that rises along every AND. No search, and no order of the ANDs is asked for.
-use Rattle.base.specs.{ℕ, suc, Bool, true, ◌&&◌, List, [], ◌∷◌, ◌++◌, eqb, ltb, get_or}
+use Rattle.std.specs.Prelude.{◌&&◌, ◌∷◌, ◌++◌}
+use Rattle.base.specs.{ℕ, suc, Bool, true, List, [], eqb, ltb, get_or}
 use Rattle.model.specs.{And, var_of, and_vars}
 use Rattle.model.specs.Graph.{Graph}
 

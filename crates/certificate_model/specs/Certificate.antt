@@ -9,7 +9,8 @@
 --     fold i j l         the variable in slot i has the table of literal l, whose variable is in slot j: from now on an equality
 -- A net is a number, named as phases are: numbers up to 2M+1 are the graph's literals, and any above may be taken too. The certificate comes from outside, and
 -- nothing of it is believed. Every look-up is by a number that it gives, so no move searches. Nothing here depends on the size of the graph.
-use Rattle.base.specs.{ℕ, suc, Bool, true, false, cond, ◌&&◌, Option, none, some, List, [], ◌∷◌, ◌++◌, map, eqb, ltb, leb}
+use Rattle.std.specs.Prelude.{◌&&◌, ◌∷◌, ◌++◌}
+use Rattle.base.specs.{ℕ, suc, Bool, true, false, cond, Option, none, some, List, [], map, eqb, ltb, leb}
 use Rattle.base.specs.{length, get_or, set, take, replicate}
 use Rattle.model.specs.{bit, flip, and_then, only, text, decimal, value, row_of, tabulate, cell_at, And, var_of, negated, literal, latest, Gate, of_phase, out_name, netlist_text, sum}
 use Rattle.model.specs.{largest}

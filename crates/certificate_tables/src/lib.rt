@@ -1,7 +1,8 @@
 // Tables of 16 rows in 32-bit words, over the four leaves of a block.
 #![tactic(auto)]
 
-ghost use Rattle.base.specs.{◌≡◌, ◌+◌, ◌*◌, ◌%◌, ◌^◌, ◌<◌, ◌≤◌, ◌∷◌, []};
+ghost use Rattle.std.specs.Prelude.{◌≡◌, ◌+◌, ◌*◌, ◌%◌, ◌^◌, ◌<◌, ◌≤◌, ◌∷◌};
+ghost use Rattle.base.specs.{[]};
 ghost use Rattle.model.specs.{bit, one, row_of, value};
 ghost use Rattle.certificate_model.specs.{conj, gate_table, phased, pin_nets};
 

@@ -1,5 +1,6 @@
 -- What the words and the array hold between the layers, and what is read from each on, in terms of `model`.
-use Rattle.base.specs.{ℕ, ◌+◌, ◌-◌, ◌*◌, ◌≤◌, ◌<◌, ◌≡◌, List, [], ◌∷◌, Memᴰ, T, leb, length, take, get_or}
+use Rattle.std.specs.Prelude.{◌+◌, ◌-◌, ◌*◌, ◌≤◌, ◌<◌, ◌≡◌, ◌∷◌}
+use Rattle.base.specs.{ℕ, List, [], Memᴰ, T, leb, length, take, get_or}
 use Rattle.model.specs.{each, lowest, need, Read, holds, next, unless, decimal, cells_of, topological_order, unordered, read_header, read_graph}
 use Rattle.model.specs.{out_name, Driver, Edited, is_net, input_nets, read_netlist, validate_nets, unless_at, line_ends, check_read, checked_work}
 use Rattle.model.specs.Graph.{Graph}

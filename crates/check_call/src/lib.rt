@@ -2,7 +2,8 @@
 // 31 to 33 "are tried after 15 in place of 16 to 18".
 #![tactic(auto)]
 
-ghost use Rattle.base.specs.{◌≡◌, List, map, ◌+◌, ◌*◌, ◌≤◌, length};
+ghost use Rattle.std.specs.Prelude.{◌≡◌, ◌+◌, ◌*◌, ◌≤◌};
+ghost use Rattle.base.specs.{List, map, length};
 ghost use Rattle.model.specs.{from, need, holds, read_header, Driver, line_ends, check_read};
 ghost use Rattle.model.specs.Graph.{Graph};
 ghost use Rattle.promises.specs.{NetlistCheck};

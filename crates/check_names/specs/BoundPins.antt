@@ -1,5 +1,6 @@
 -- What the words of a gate's line bind, as numbers.
-use Rattle.base.specs.{ℕ, suc, ◌+◌, ◌-◌, Option, none, some, List, [], ◌∷◌, ◌++◌, map, length, take, get_or, replicate}
+use Rattle.std.specs.Prelude.{◌+◌, ◌-◌, ◌∷◌, ◌++◌}
+use Rattle.base.specs.{ℕ, suc, Option, none, some, List, [], map, length, take, get_or, replicate}
 use Rattle.model.specs.{from, same, name_of, out_name, Driver, pin_net}
 use Rattle.model.specs.declared.Cell.{Cell}
 use Rattle.check_names.specs.NetCodes.{pick_n, code, net_code}

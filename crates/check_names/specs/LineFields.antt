@@ -1,5 +1,6 @@
 -- The fields of a line from a place on.
-use Rattle.base.specs.{ℕ, ◌+◌, Bool, true, false, cond, List, [], ◌∷◌, eqb, leb, length, drop}
+use Rattle.std.specs.Prelude.{◌+◌, ◌∷◌}
+use Rattle.base.specs.{ℕ, Bool, true, false, cond, List, [], eqb, leb, length, drop}
 use Rattle.model.specs.{fields}
 
 abbrev pub pick_bytes : Bool → List ℕ → List ℕ → List ℕ

@@ -1,5 +1,6 @@
 -- Names of nets as numbers.
-use Rattle.base.specs.{ℕ, ◌+◌, ◌*◌, Bool, true, false, ◌||◌, List, [], ◌∷◌}
+use Rattle.std.specs.Prelude.{◌+◌, ◌*◌, ◌||◌, ◌∷◌}
+use Rattle.base.specs.{ℕ, Bool, true, false, List, []}
 use Rattle.model.specs.{between, is_letter, is_net}
 
 -- "letters or digits"

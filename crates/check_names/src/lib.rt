@@ -1,7 +1,8 @@
 // A line of an edited netlist: the words of a gate's line and of a `.names` line, each net as a number.
 #![tactic(auto)]
 
-ghost use Rattle.base.specs.{◌≡◌, [], none, ℕ, ◌+◌, ◌≤◌, ◌<◌, length, get_or};
+ghost use Rattle.std.specs.Prelude.{◌≡◌, ◌+◌, ◌≤◌, ◌<◌};
+ghost use Rattle.base.specs.{[], none, ℕ, length, get_or};
 ghost use Rattle.model.specs.{all, same, text, fields, out_name, no_cell, cells_of, is_net, pin_net, bound_nets, gate_of_fields, name_driver};
 ghost use Rattle.check_names.specs.{is_net_byte, code, net_code, space_from, fields_from, opt_code, pin_at, letters, nets_of};
 ghost use Rattle.check_names.specs.{cell_index, gate_of, two_words, name_code};

@@ -1,5 +1,6 @@
 -- Component numbers of drivers.
-use Rattle.base.specs.{ℕ, ◌+◌, ◌≤◌, List, get_or}
+use Rattle.std.specs.Prelude.{◌+◌, ◌≤◌}
+use Rattle.base.specs.{ℕ, List, get_or}
 use Rattle.check_order.specs.{FeedsAt}
 
 -- the component number of each driver that feeds driver i is higher by so much at least

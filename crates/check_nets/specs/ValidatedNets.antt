@@ -1,5 +1,6 @@
 -- What is lent, and what the answer means.
-use Rattle.base.specs.{ℕ, ◌*◌, ◌≤◌, ◌<◌, ◌≡◌, List, [], Memᴰ, T, length, replicate, take, get_or}
+use Rattle.std.specs.Prelude.{◌*◌, ◌≤◌, ◌<◌, ◌≡◌}
+use Rattle.base.specs.{ℕ, List, [], Memᴰ, T, length, replicate, take, get_or}
 use Rattle.model.specs.{each, holds, fault, Driver, is_net, validate_nets}
 use Rattle.model.specs.declared.Verdict.{Verdict}
 use Rattle.model.specs.declared.Verdict.TheVariants.{Accepted, Refused}

@@ -1,5 +1,6 @@
 -- What `wire` asks, and what it says of nets, pins and order.
-use Rattle.base.specs.{◌≡◌, List, ℕ, length, replicate}
+use Rattle.std.specs.Prelude.{◌≡◌}
+use Rattle.base.specs.{List, ℕ, length, replicate}
 use Rattle.model.specs.{Driver}
 use Rattle.model.specs.declared.Verdict.{Verdict}
 use Rattle.check_wires.specs.{refs_left}

@@ -1,5 +1,6 @@
 -- A netlist's nets as numbers: what stands at each pin, and an order in which every driver comes behind those that feed it.
-use Rattle.base.specs.{ℕ, ◌+◌, ◌-◌, ◌*◌, ◌≤◌, ◌<◌, ◌≡◌, cond, List, [], leb, length, get_or}
+use Rattle.std.specs.Prelude.{◌+◌, ◌-◌, ◌*◌, ◌≤◌, ◌<◌, ◌≡◌}
+use Rattle.base.specs.{ℕ, cond, List, [], leb, length, get_or}
 use Rattle.model.specs.{Driver}
 
 -- what stands past the last driver

@@ -1,7 +1,8 @@
 // The nets of an edited netlist validated, 33: its pins get numbers, and its drivers an order, or the first on a cycle is found where there is none.
 #![tactic(auto)]
 
-ghost use Rattle.base.specs.{◌≡◌, true, ℕ, ◌≤◌, ◌<◌, get_or};
+ghost use Rattle.std.specs.Prelude.{◌≡◌, ◌≤◌, ◌<◌};
+ghost use Rattle.base.specs.{true, ℕ, get_or};
 ghost use Rattle.check_order.specs.{Pinned, FeedsAt, Behind, Reached, Stepped, Spread, FeedsItself, LeftFeeds, Cyclic};
 ghost use Rattle.check_nets.specs.{Rising};
 ghost use Rattle.check_nets.specs.{Wirable, Wiring};

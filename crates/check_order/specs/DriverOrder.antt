@@ -1,6 +1,7 @@
 -- Drivers listed one by one, each marked as it is: the order of the drivers, and the walk back from one. Of the drivers only the numbers at their pins are
 -- known, four each: from 12 on that of a driver.
-use Rattle.base.specs.{ℕ, zero, suc, ◌+◌, ◌*◌, ◌≤◌, ◌<◌, ◌≡◌, ◌⊎◌, Bool, true, false, cond, List, eqb, length, get_or}
+use Rattle.std.specs.Prelude.{◌+◌, ◌*◌, ◌≤◌, ◌<◌, ◌≡◌, ◌⊎◌}
+use Rattle.base.specs.{ℕ, zero, suc, Bool, true, false, cond, List, eqb, length, get_or}
 use Rattle.check_order.specs.declared.Walk.{Walk}
 use Rattle.check_order.specs.SortDefinition.{fed_by, ready_from}
 

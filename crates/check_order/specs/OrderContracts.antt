@@ -1,5 +1,6 @@
 -- What the functions that make the order ask, and what they leave in marks and order.
-use Rattle.base.specs.{◌≡◌, ◌<◌, List, ℕ, suc}
+use Rattle.std.specs.Prelude.{◌≡◌, ◌<◌}
+use Rattle.base.specs.{List, ℕ, suc}
 use Rattle.check_order.specs.SortDefinition.{made, list_if_ready, sweep_from, sweep_until_stable, down, flat, step_of, visit_of, sort_of}
 use Rattle.check_order.specs.DriverOrder.{Pinned, Sorted, ListAttempted, SweepResult, Stable, Walking}
 use Rattle.check_order.specs.declared.Walk.{Walk}

@@ -1,5 +1,6 @@
 -- The order that is made, computed step by step as it is made: drivers tried one by one, sweeps over all of them, and walks down from each.
-use Rattle.base.specs.{ℕ, zero, suc, ◌+◌, ◌-◌, ◌*◌, Bool, true, cond, ◌&&◌, not, List, eqb, ltb, get_or, set, replicate}
+use Rattle.std.specs.Prelude.{◌+◌, ◌-◌, ◌*◌, ◌&&◌}
+use Rattle.base.specs.{ℕ, zero, suc, Bool, true, cond, not, List, eqb, ltb, get_or, set, replicate}
 
 -- how many drivers are listed, which are, and the list
 pub record Made : Type 0 where

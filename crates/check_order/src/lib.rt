@@ -3,7 +3,8 @@
 // are listed at once. Where a sweep lists none, what is left is stuck behind a cycle.
 #![tactic(auto)]
 
-ghost use Rattle.base.specs.{◌≡◌, ◌*◌, ◌≤◌, ◌<◌, get_or, set};
+ghost use Rattle.std.specs.Prelude.{◌≡◌, ◌*◌, ◌≤◌, ◌<◌};
+ghost use Rattle.base.specs.{get_or, set};
 ghost use Rattle.check_order.specs.{Made, down, push_fanin_of};
 ghost use Rattle.check_order.specs.{Pinned, Fed, Tried};
 ghost use Rattle.check_order.specs.{Arrangeable, Listable, Walkable, WalkStep, WalkDone, DriverTried, AllTried, TriedToEnd, OrderMade};

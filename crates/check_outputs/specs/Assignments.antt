@@ -1,5 +1,6 @@
 -- Values under 64 assignments at once: bit t of a word of block b is the value under assignment 64 b + t.
-use Rattle.base.specs.{ℕ, ◌+◌, ◌*◌, Bool, not, cond, ◌&&◌, beq, List, map}
+use Rattle.std.specs.Prelude.{◌+◌, ◌*◌, ◌&&◌}
+use Rattle.base.specs.{ℕ, Bool, not, cond, beq, List, map}
 use Rattle.model.specs.{bit, flip, value, row_of, negated, tabulate}
 
 -- the word with these values

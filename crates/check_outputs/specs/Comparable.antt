@@ -1,5 +1,6 @@
 -- A netlist that can be compared with its graph, and where its outputs are wrong.
-use Rattle.base.specs.{ℕ, ◌+◌, ◌-◌, ◌*◌, ◌≤◌, ◌<◌, ◌≡◌, Bool, not, beq, List, Memᴰ, length, take, get_or}
+use Rattle.std.specs.Prelude.{◌+◌, ◌-◌, ◌*◌, ◌≤◌, ◌<◌, ◌≡◌}
+use Rattle.base.specs.{ℕ, Bool, not, beq, List, Memᴰ, length, take, get_or}
 use Rattle.model.specs.{each, holds, topological_order, literal_value, value_of, out_name, Driver, input_nets, validate_nets, net_value, run_nets, settled}
 use Rattle.model.specs.{input_values, assignment_of}
 use Rattle.model.specs.Graph.{Graph}

@@ -1,5 +1,6 @@
 -- What the functions that compare outputs ask, and what they answer.
-use Rattle.base.specs.{◌≡◌, ◌+◌, ◌*◌, ◌/◌, ◌%◌, ◌^◌, ◌≤◌, ◌<◌, List, ℕ, length, get_or}
+use Rattle.std.specs.Prelude.{◌≡◌, ◌+◌, ◌*◌, ◌/◌, ◌%◌, ◌^◌, ◌≤◌, ◌<◌}
+use Rattle.base.specs.{List, ℕ, length, get_or}
 use Rattle.model.specs.{Driver, input_nets, settled, wrong_at, compare_from}
 use Rattle.model.specs.Graph.{Graph}
 use Rattle.model.specs.declared.Header.{Header}

@@ -1,5 +1,6 @@
 -- The words of variables and drivers in block b of the assignments, each from those before it.
-use Rattle.base.specs.{ℕ, ◌+◌, ◌-◌, ◌*◌, ◌/◌, ◌≤◌, ◌<◌, ◌≡◌, cond, List, [], ◌∷◌, eqb, leb, length, get_or}
+use Rattle.std.specs.Prelude.{◌+◌, ◌-◌, ◌*◌, ◌/◌, ◌≤◌, ◌<◌, ◌≡◌, ◌∷◌}
+use Rattle.base.specs.{ℕ, cond, List, [], eqb, leb, length, get_or}
 use Rattle.base_words.specs.{HasCapacity, left_at, right_at, slot_at}
 use Rattle.cut_functions.specs.{Earlier}
 use Rattle.check_outputs.specs.Assignments.{input_word, gate_word, and_word}

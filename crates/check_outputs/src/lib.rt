@@ -2,7 +2,8 @@
 // input k as bit k, and that setting's first wrong output". 64 assignments are evaluated at once: bit t of a word of block b is assignment 64 b + t.
 #![tactic(auto)]
 
-ghost use Rattle.base.specs.{◌≡◌, ◌∷◌, [], ◌<◌, ℕ, ◌+◌, ◌-◌, ◌*◌, ◌/◌, ◌%◌, ◌^◌, ◌≤◌, length, get_or};
+ghost use Rattle.std.specs.Prelude.{◌≡◌, ◌∷◌, ◌<◌, ◌+◌, ◌-◌, ◌*◌, ◌/◌, ◌%◌, ◌^◌, ◌≤◌};
+ghost use Rattle.base.specs.{[], ℕ, length, get_or};
 ghost use Rattle.model.specs.{bit};
 ghost use Rattle.base_words.specs.{slot_at};
 ghost use Rattle.graph_order.specs.{seek};

@@ -1,5 +1,6 @@
 -- The numbers of a driver in the array, and what is gathered of a text's lines.
-use Rattle.base.specs.{ℕ, suc, ◌+◌, ◌*◌, ◌≤◌, ◌<◌, ◌≡◌, true, false, some, List, [], ◌∷◌, ◌++◌, length, get_or, replicate}
+use Rattle.std.specs.Prelude.{◌+◌, ◌*◌, ◌≤◌, ◌<◌, ◌≡◌, ◌∷◌, ◌++◌}
+use Rattle.base.specs.{ℕ, suc, true, false, some, List, [], length, get_or, replicate}
 use Rattle.model.specs.{each, Read, holds, fault, next, no_cell, cells_of, out_name, Driver, read_names, read_drivers, read_netlist}
 use Rattle.model.specs.Graph.{Graph}
 use Rattle.model.specs.declared.Library.{Library}

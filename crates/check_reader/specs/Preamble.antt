@@ -1,5 +1,6 @@
 -- Lines that are expected, and the first three of a netlist.
-use Rattle.base.specs.{ℕ, zero, suc, ◌+◌, ◌≤◌, ◌<◌, ◌≡◌, true, false, cond, List, [], ◌∷◌, ◌++◌, ltb, length, drop, get_or}
+use Rattle.std.specs.Prelude.{◌+◌, ◌≤◌, ◌<◌, ◌≡◌, ◌∷◌, ◌++◌}
+use Rattle.base.specs.{ℕ, zero, suc, true, false, cond, List, [], ltb, length, drop, get_or}
 use Rattle.model.specs.{Line, lines_from, decimal, holds, fault, is_line, past_lines}
 use Rattle.model.specs.Graph.{Graph}
 use Rattle.model.specs.declared.Header.{Header}

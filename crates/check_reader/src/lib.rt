@@ -2,7 +2,8 @@
 // numbers of these nets, zeros behind them, and that of its own net.
 #![tactic(auto)]
 
-ghost use Rattle.base.specs.{◌≡◌, ◌∷◌, ◌++◌, ◌+◌, ◌≤◌, ◌*◌, ◌<◌, length, replicate};
+ghost use Rattle.std.specs.Prelude.{◌≡◌, ◌∷◌, ◌++◌, ◌+◌, ◌≤◌, ◌*◌, ◌<◌};
+ghost use Rattle.base.specs.{length, replicate};
 ghost use Rattle.model.specs.{text, decimal, out_name, is_line, preamble_of, gate_driver, name_driver, cells_of};
 ghost use Rattle.model.specs.Graph.{Graph};
 ghost use Rattle.base_words.specs.{HasCapacity, put_at};

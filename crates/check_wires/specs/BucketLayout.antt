@@ -1,5 +1,6 @@
 -- Drivers found by the numbers of their nets: each stands on the bucket of its number's remainder.
-use Rattle.base.specs.{ℕ, ◌+◌, ◌-◌, ◌*◌, ◌%◌, ◌≤◌, ◌<◌, ◌≡◌, List, length, get_or}
+use Rattle.std.specs.Prelude.{◌+◌, ◌-◌, ◌*◌, ◌%◌, ◌≤◌, ◌<◌, ◌≡◌}
+use Rattle.base.specs.{ℕ, List, length, get_or}
 
 -- of the eight numbers of driver i: how many nets it uses, the number of net j of these, and that of its own net
 abbrev pub pins_at : List ℕ → ℕ → ℕ

@@ -1,5 +1,6 @@
 -- What stands at each pin of a netlist: below 12 the place of an input, from 12 on that of a driver.
-use Rattle.base.specs.{ℕ, ◌+◌, ◌-◌, ◌*◌, ◌≤◌, ◌<◌, ◌≡◌, ◌⊎◌, List, length, get_or, replicate}
+use Rattle.std.specs.Prelude.{◌+◌, ◌-◌, ◌*◌, ◌≤◌, ◌<◌, ◌≡◌, ◌⊎◌}
+use Rattle.base.specs.{ℕ, List, length, get_or, replicate}
 use Rattle.check_wires.specs.BucketLayout.{pins_at, use_at, own_at}
 use Rattle.check_wires.specs.References.{refused_at, refs_left}
 

@@ -1,5 +1,6 @@
 -- The numbers at the pins computed: what drives the net of a number, the first driver that a part of 33 refuses, and what is left in the array.
-use Rattle.base.specs.{ℕ, zero, suc, ◌+◌, ◌*◌, ◌/◌, ◌%◌, Bool, cond, List, [], ◌∷◌, eqb, ltb, length, get_or, replicate}
+use Rattle.std.specs.Prelude.{◌+◌, ◌*◌, ◌/◌, ◌%◌, ◌∷◌}
+use Rattle.base.specs.{ℕ, zero, suc, Bool, cond, List, [], eqb, ltb, length, get_or, replicate}
 use Rattle.check_wires.specs.BucketLayout.{pins_at, use_at, own_at}
 
 -- the first of k numbers from i on at which a test holds, the number behind them where there is none

@@ -3,7 +3,8 @@
 // bucket.
 #![tactic(auto)]
 
-ghost use Rattle.base.specs.{◌≡◌, ◌+◌, ◌*◌, ◌/◌, ◌%◌, ◌≤◌, ◌<◌, length, get_or, set};
+ghost use Rattle.std.specs.Prelude.{◌≡◌, ◌+◌, ◌*◌, ◌/◌, ◌%◌, ◌≤◌, ◌<◌};
+ghost use Rattle.base.specs.{length, get_or, set};
 ghost use Rattle.check_wires.specs.{Falling, own_at, head_of, Chained, Found, InputOf, Drivers, Looked, PinLooked, Once};
 ghost use Rattle.check_wires.specs.{Written, Referred};
 

@@ -1,5 +1,6 @@
 -- What is asked of the words, so that every access lies among them and every record that is read is one.
-use Rattle.base.specs.{ℕ, ◌+◌, ◌/◌, ◌≤◌, ◌<◌, ◌≡◌, List, T, length, get_or}
+use Rattle.std.specs.Prelude.{◌+◌, ◌/◌, ◌≤◌, ◌<◌, ◌≡◌}
+use Rattle.base.specs.{ℕ, List, T, length, get_or}
 use Rattle.model.specs.{cut_limit, cell_at}
 use Rattle.model.specs.declared.Cell.{Cell}
 use Rattle.model.specs.declared.Cut.{Cut}

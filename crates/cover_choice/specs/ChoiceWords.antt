@@ -1,6 +1,7 @@
 -- The choice for both phases of every variable, from the words and into them: `model`'s definitions, with the phases, cuts and functions that the
 -- words have.
-use Rattle.base.specs.{◌≡◌, ℕ, zero, suc, ◌+◌, ◌*◌, ◌≤◌, Bool, true, false, cond, List, [], ◌∷◌, ◌++◌, map, ltb, length, get_or}
+use Rattle.std.specs.Prelude.{◌≡◌, ◌+◌, ◌*◌, ◌≤◌, ◌∷◌, ◌++◌}
+use Rattle.base.specs.{ℕ, zero, suc, Bool, true, false, cond, List, [], map, ltb, length, get_or}
 use Rattle.model.specs.{same, Node, constant, input, undefined, both, literal, phase_table, Phases, no_phase, choose, match_phase, cut_matches}
 use Rattle.model.specs.{joined}
 use Rattle.model.specs.declared.Cell.{Cell}

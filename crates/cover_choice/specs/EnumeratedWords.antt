@@ -1,5 +1,6 @@
 -- What the passes before have left in the words.
-use Rattle.base.specs.{◌≡◌, List, [], ℕ, ◌≤◌, length}
+use Rattle.std.specs.Prelude.{◌≡◌, ◌≤◌}
+use Rattle.base.specs.{List, [], ℕ, length}
 use Rattle.model.specs.Graph.{Graph}
 use Rattle.model.specs.{over_limit}
 use Rattle.model.specs.declared.Header.{Header}

@@ -1,5 +1,6 @@
 -- The needed phases, marked in the words: those of the outputs, then what feeds the needed phases of each variable, in reverse topological order.
-use Rattle.base.specs.{ℕ, zero, suc, cond, List, [], ◌∷◌}
+use Rattle.std.specs.Prelude.{◌∷◌}
+use Rattle.base.specs.{ℕ, zero, suc, cond, List, []}
 use Rattle.model.specs.{feeds, backwards}
 use Rattle.model.specs.declared.Cell.{Cell}
 use Rattle.base_words.specs.{slot_at, output_at, cuts_at, phase_at, is_needed, put_needed}

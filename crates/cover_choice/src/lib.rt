@@ -1,7 +1,8 @@
 // The cover: the choice for both phases of every variable, refusal 17, and the needed phases.
 #![tactic(auto)]
 
-ghost use Rattle.base.specs.{◌≡◌, true, false, ◌+◌, ◌*◌, ◌/◌, ◌<◌, ◌≤◌, eqb, length, List, ◌∷◌, []};
+ghost use Rattle.std.specs.Prelude.{◌≡◌, ◌+◌, ◌*◌, ◌/◌, ◌<◌, ◌≤◌, ◌∷◌};
+ghost use Rattle.base.specs.{true, false, eqb, length, List, []};
 ghost use Rattle.model.specs.{same, cells_of, absent, no_phase, earlier, choose, phase_table, match_nets, fed_nets, cut_limit};
 ghost use Rattle.model.specs.declared.Cell.{Cell};
 ghost use Rattle.base_words.specs.{ordered_count, HasCapacity, output_at, count_at, leaves_of, leaves_at, function_of, phase_at};

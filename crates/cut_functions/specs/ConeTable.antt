@@ -1,5 +1,6 @@
 -- The function of a cut as a word of 16 rows, by the walk from the root down, and what a walk has noted.
-use Rattle.base.specs.{◌≡◌, cond, List, [], ◌∷◌, ℕ, zero, suc, ◌+◌, ◌*◌, ◌/◌, ◌≤◌, ◌<◌, bit_and, eqb, ltb, length, get_or, set}
+use Rattle.std.specs.Prelude.{◌≡◌, ◌∷◌, ◌+◌, ◌*◌, ◌/◌, ◌≤◌, ◌<◌}
+use Rattle.base.specs.{cond, List, [], ℕ, zero, suc, bit_and, eqb, ltb, length, get_or, set}
 use Rattle.model.specs.{Node, constant, input, undefined, both, var_of, negated, phase_table}
 use Rattle.base_words.specs.{HasCapacity, and_kind, kind_at, left_at, right_at, position_at, node_at}
 use Rattle.base_truth.specs.{leaf_table}

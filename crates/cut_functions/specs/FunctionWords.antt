@@ -1,5 +1,6 @@
 -- The functions of all cuts, in topological order, and the words that hold them.
-use Rattle.base.specs.{◌≡◌, List, map, ℕ, zero, suc, ◌+◌, ◌/◌, ◌≤◌, ◌<◌}
+use Rattle.std.specs.Prelude.{◌≡◌, ◌+◌, ◌/◌, ◌≤◌, ◌<◌}
+use Rattle.base.specs.{List, map, ℕ, zero, suc}
 use Rattle.model.specs.{cut_limit}
 use Rattle.base_words.specs.{and_kind, kind_at, left_at, right_at, position_at, slot_at, count_at, node_at, leaves_at, cuts_at, function_of, put_functions}
 use Rattle.base_words.specs.{Sound}

@@ -2,7 +2,8 @@
 // the root has the very same cut its function is stored already, and the walk stops there.
 #![tactic(auto)]
 
-ghost use Rattle.base.specs.{◌≡◌, true, false, ◌∷◌, [], ℕ, ◌+◌, ◌*◌, ◌/◌, ◌≤◌, ◌<◌, take, get_or, set};
+ghost use Rattle.std.specs.Prelude.{◌≡◌, ◌∷◌, ◌+◌, ◌*◌, ◌/◌, ◌≤◌, ◌<◌};
+ghost use Rattle.base.specs.{true, false, [], ℕ, take, get_or, set};
 ghost use Rattle.model.specs.{cut_limit};
 ghost use Rattle.base_words.specs.{HasCapacity, and_kind, kind_at, left_at, right_at, count_at, position_at, leaves_at, put_functions};
 ghost use Rattle.cut_functions.specs.{leaf_notes, Early, Noted, Ordered, Walked, FromLeaves, joined, cut_word, functions_of, SameCut, Done};

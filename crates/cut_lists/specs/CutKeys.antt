@@ -1,7 +1,8 @@
 -- A cut as one number, its key: its size and its four leaves, the first highest, so that "by size, then by ascending leaves compared left to right" is the order of the keys.
 -- A list being built has room for one cut more than the limit; what comes after that is left out.
-use Rattle.base.specs.{cond, List, [], ◌∷◌, ◌++◌, map, ℕ, zero, suc, ◌+◌, ◌-◌, ◌*◌, ◌/◌, ◌%◌, ◌≤◌, ◌<◌, compare, ltb, leb, length, take}
-use Rattle.base.specs.{drop, ◌≡◌}
+use Rattle.std.specs.Prelude.{◌∷◌, ◌++◌, ◌+◌, ◌-◌, ◌*◌, ◌/◌, ◌%◌, ◌≤◌, ◌<◌, ◌≡◌}
+use Rattle.base.specs.{cond, List, [], map, ℕ, zero, suc, compare, ltb, leb, length, take}
+use Rattle.base.specs.{drop}
 use Rattle.model.specs.{insert, union, Node, constant, input, undefined, both, var_of, cut_limit}
 use Rattle.base_words.specs.{put_at, count_addr, put_cuts}
 

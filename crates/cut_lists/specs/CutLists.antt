@@ -1,5 +1,6 @@
 -- The cut lists of all variables, in topological order, in terms of `model`, and the words that hold them.
-use Rattle.base.specs.{Bool, cond, List, [], ◌∷◌, ◌≡◌, ℕ, zero, suc, ◌+◌, ◌*◌, ◌≤◌, ◌<◌, leb, length}
+use Rattle.std.specs.Prelude.{◌∷◌, ◌≡◌, ◌+◌, ◌*◌, ◌≤◌, ◌<◌}
+use Rattle.base.specs.{Bool, cond, List, [], ℕ, zero, suc, leb, length}
 use Rattle.model.specs.{cut_limit, find, node_cuts}
 use Rattle.model.specs.declared.Verdict.{Verdict}
 use Rattle.model.specs.declared.Verdict.TheVariants.{Accepted, Refused}

@@ -1,6 +1,7 @@
 -- A cut's leaves as digits of one number, the first lowest, each counted back from 4096: past the last there are zeros, so that of two heads the greater digit is the
 -- lesser leaf, and a cut that has ended comes last.
-use Rattle.base.specs.{cond, List, [], ◌∷◌, ◌≡◌, ℕ, zero, suc, ◌+◌, ◌-◌, ◌*◌, ◌/◌, ◌%◌, ◌^◌, ◌≤◌, ◌<◌, bit_or, eqb, length, get_or}
+use Rattle.std.specs.Prelude.{◌∷◌, ◌≡◌, ◌+◌, ◌-◌, ◌*◌, ◌/◌, ◌%◌, ◌^◌, ◌≤◌, ◌<◌}
+use Rattle.base.specs.{cond, List, [], ℕ, zero, suc, bit_or, eqb, length, get_or}
 use Rattle.base_words.specs.{count_at, leaves_at}
 
 -- r is leaf i of n as a digit

@@ -1,5 +1,6 @@
 -- The words in which the ordering leaves a graph: its nodes and its topological order, and no cuts.
-use Rattle.base.specs.{◌≡◌, List, ℕ, ◌+◌, ◌*◌, ◌≤◌, ◌<◌, length, get_or}
+use Rattle.std.specs.Prelude.{◌≡◌, ◌+◌, ◌*◌, ◌≤◌, ◌<◌}
+use Rattle.base.specs.{List, ℕ, length, get_or}
 use Rattle.model.specs.Graph.{Graph}
 use Rattle.model.specs.{node, topological_order}
 use Rattle.base_words.specs.{HasCapacity, left_at, right_at, slot_at, position_at, count_at, node_at}

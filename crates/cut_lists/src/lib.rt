@@ -2,7 +2,8 @@
 // Each branch of the merge's body is a small function with an equation for its contract, so that no arms meet in the loop.
 #![tactic(auto)]
 
-ghost use Rattle.base.specs.{◌≡◌, ◌∷◌, [], ℕ, ◌+◌, ◌-◌, ◌*◌, ◌/◌, ◌%◌, ◌^◌, ◌≤◌, ◌<◌, bit_or, length, drop, get_or};
+ghost use Rattle.std.specs.Prelude.{◌≡◌, ◌∷◌, ◌+◌, ◌-◌, ◌*◌, ◌/◌, ◌%◌, ◌^◌, ◌≤◌, ◌<◌};
+ghost use Rattle.base.specs.{[], ℕ, bit_or, length, drop, get_or};
 ghost use Rattle.model.specs.{cut_limit};
 ghost use Rattle.base_words.specs.{HasCapacity, left_at, right_at, leaves_of, Good, Sound, cuts_at, node_at};
 ghost use Rattle.cut_lists.specs.{key_capacity, key, key_words, Building, InsertPosition, Moved, added, merge_row_keys, merged_keys, node_keys, put_keys};

@@ -1,5 +1,6 @@
 -- What the cut layer leaves where no variable has too many cuts, in terms of `model`.
-use Rattle.base.specs.{◌≡◌, List, ℕ, ◌≤◌, ◌<◌, length, get_or}
+use Rattle.std.specs.Prelude.{◌≡◌, ◌≤◌, ◌<◌}
+use Rattle.base.specs.{List, ℕ, length, get_or}
 use Rattle.model.specs.Graph.{Graph}
 use Rattle.model.specs.{cuts_of, cut_at, cut_table}
 use Rattle.base_words.specs.{counts_from, counts_to, lists_from, output_addr, cuts_at, function_of, Sound}

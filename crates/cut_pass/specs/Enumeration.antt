@@ -1,5 +1,6 @@
 -- What the cut layer asks of the words and what it leaves: the cut lists, and then the functions of the cuts, unless there are too many.
-use Rattle.base.specs.{◌≡◌, List, ℕ, ◌/◌, ◌<◌}
+use Rattle.std.specs.Prelude.{◌≡◌, ◌/◌, ◌<◌}
+use Rattle.base.specs.{List, ℕ}
 use Rattle.model.specs.declared.Verdict.{Verdict}
 use Rattle.model.specs.declared.Verdict.TheVariants.{Accepted, Refused}
 use Rattle.base_words.specs.{and_kind, kind_at, left_at, right_at, position_at, slot_at}

@@ -1,7 +1,7 @@
 // Layer three: the cut lists of all ordered variables and the functions of their cuts, or refusal 16.
 #![tactic(auto)]
 
-ghost use Rattle.base.specs.{◌≡◌};
+ghost use Rattle.std.specs.Prelude.{◌≡◌};
 ghost use Rattle.base_words.specs.{ordered_count};
 ghost use Rattle.cut_lists.specs.{listing};
 ghost use Rattle.cut_pass.specs.{Ready, enumerated};

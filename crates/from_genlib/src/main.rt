@@ -1,7 +1,8 @@
 // The program: `cells.genlib` of the current folder converted, our cell text or one line of `refused`, number and place printed.
 #![tactic(auto)]
 
-ghost use Rattle.base.specs.{◌≡◌, length};
+ghost use Rattle.std.specs.Prelude.{◌≡◌};
+ghost use Rattle.base.specs.{length};
 
 use model::Written;
 use program_files::Loaded;

@@ -1,5 +1,6 @@
 -- What the two passes over the groups of a text find: how long the cell text is, and its lines.
-use Rattle.base.specs.{ℕ, ◌+◌, List, [], ◌∷◌, ◌++◌, length}
+use Rattle.std.specs.Prelude.{◌+◌, ◌∷◌, ◌++◌}
+use Rattle.base.specs.{ℕ, List, [], length}
 use Rattle.model.specs.{each, text, lines_from, Read, holds, fault, Group, groups, read_group, gate_text}
 use Rattle.model.specs.Genlib.{Gate}
 use Rattle.model.specs.declared.Written.{Written}

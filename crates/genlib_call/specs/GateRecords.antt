@@ -1,5 +1,6 @@
 -- What the functions that validate a gate answer.
-use Rattle.base.specs.{ℕ, ◌+◌, ◌≤◌, ◌≡◌, ◌&&◌, Option, none, some, List, [], ◌∷◌, leb, length, drop}
+use Rattle.std.specs.Prelude.{◌+◌, ◌≤◌, ◌≡◌, ◌&&◌, ◌∷◌}
+use Rattle.base.specs.{ℕ, Option, none, some, List, [], leb, length, drop}
 use Rattle.model.specs.{Read, holds, fault, unless, from?, tokens, pins_of, shallow, gate_from}
 use Rattle.model.specs.Genlib.{Gate}
 use Rattle.genlib_expression.specs.{part, names_at}

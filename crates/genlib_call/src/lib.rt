@@ -2,7 +2,8 @@
 // Two passes validate each group by the same function: the first measures, the second writes, so that "a refusal leaves it unchanged" and no group is stored.
 #![tactic(auto)]
 
-ghost use Rattle.base.specs.{◌≡◌, ◌+◌, ◌≤◌, ◌<◌, length};
+ghost use Rattle.std.specs.Prelude.{◌≡◌, ◌+◌, ◌≤◌, ◌<◌};
+ghost use Rattle.base.specs.{length};
 ghost use Rattle.model.specs.{tokens, pin_delay, delays_of, gate_from, read_group, read_genlib};
 ghost use Rattle.promises.specs.{Conversion};
 ghost use Rattle.base_text.specs.{Wrote};

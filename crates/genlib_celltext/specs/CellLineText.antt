@@ -1,5 +1,6 @@
 -- The gate that is written, as `model` has it.
-use Rattle.base.specs.{ℕ, ◌-◌, ◌≤◌, List, [], ◌∷◌, length, take, drop}
+use Rattle.std.specs.Prelude.{◌-◌, ◌≤◌, ◌∷◌}
+use Rattle.base.specs.{ℕ, List, [], length, take, drop}
 use Rattle.model.specs.Genlib.{Gate}
 use Rattle.genlib_celltext.specs.declared.Gate.{Gate as GateFound}
 

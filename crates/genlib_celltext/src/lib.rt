@@ -1,7 +1,8 @@
 // A gate of a genlib text as a line of our cell text: "cell pins table area d0 d1 d2 d3". How long it is, and its bytes.
 #![tactic(auto)]
 
-ghost use Rattle.base.specs.{◌≡◌, List, ◌∷◌, [], ◌++◌, ℕ, ◌+◌, ◌≤◌, ◌<◌, length};
+ghost use Rattle.std.specs.Prelude.{◌≡◌, ◌∷◌, ◌++◌, ◌+◌, ◌≤◌, ◌<◌};
+ghost use Rattle.base.specs.{List, [], ℕ, length};
 ghost use Rattle.model.specs.{each, hex_byte, hex_text, number_text, gate_text};
 ghost use Rattle.base_text.specs.{Wrote};
 ghost use Rattle.genlib_celltext.specs.{delays_of, gate_in, Stands};

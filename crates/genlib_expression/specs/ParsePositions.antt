@@ -1,5 +1,6 @@
 -- What the readers of a line find at its places.
-use Rattle.base.specs.{ℕ, zero, suc, ◌+◌, ◌-◌, ◌≤◌, ◌<◌, ◌≡◌, Bool, true, false, cond, ◌&&◌, ◌||◌, none, some, List, [], ◌∷◌, map, eqb, ltb}
+use Rattle.std.specs.Prelude.{◌+◌, ◌-◌, ◌≤◌, ◌<◌, ◌≡◌, ◌&&◌, ◌||◌, ◌∷◌}
+use Rattle.base.specs.{ℕ, zero, suc, Bool, true, false, cond, none, some, List, [], map, eqb, ltb}
 use Rattle.base.specs.{length, take, drop, get_or, set}
 use Rattle.model.specs.declared.Scan.{Scan}
 use Rattle.model.specs.declared.Scan.TheVariants.{Expected, After, Done, Broken as NoForm}

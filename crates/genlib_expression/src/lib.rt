@@ -4,7 +4,8 @@
 // line's tokens; here a place in the line stands for the tokens from there on.
 #![tactic(auto)]
 
-ghost use Rattle.base.specs.{◌≡◌, true, [], ℕ, ◌^◌, ◌≤◌, ◌<◌, length, get_or, drop};
+ghost use Rattle.std.specs.Prelude.{◌≡◌, ◌^◌, ◌≤◌, ◌<◌};
+ghost use Rattle.base.specs.{true, [], ℕ, length, get_or, drop};
 ghost use Rattle.model.specs.{bit, same, flip, tokens, is_word_byte, is_word, span, shallow, scan, formed, is_pin};
 ghost use Rattle.model.specs.{with_name, add_pins, pins_of, index_of, name_value, row_bits, negated_by_signs, close_bracket, factor_of, product_of, sum_of};
 ghost use Rattle.model.specs.GenlibFormula.{value_of, named, within};

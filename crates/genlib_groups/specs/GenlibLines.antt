@@ -1,5 +1,6 @@
 -- What the readers of lines and groups find at places of the text.
-use Rattle.base.specs.{ℕ, Bool, true, false, cond, ◌&&◌, Option, none, some, List, [], ◌∷◌, map, ltb, length, drop}
+use Rattle.std.specs.Prelude.{◌&&◌, ◌∷◌}
+use Rattle.base.specs.{ℕ, Bool, true, false, cond, Option, none, some, List, [], map, ltb, length, drop}
 use Rattle.model.specs.{all, and_then, Line, text, lines_from, is_pin, is_gate_line, is_pin_line, line_is, line_tokens, pin_line, has_line, delay_of}
 use Rattle.model.specs.{grouped, groups, Group}
 use Rattle.base_text.specs.declared.Value.{Value}

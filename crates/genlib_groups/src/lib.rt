@@ -3,7 +3,8 @@
 // fall." What a line is and which line counts are definitions of the crate `model`; a line's end is found by `base_text::line` alone.
 #![tactic(auto)]
 
-ghost use Rattle.base.specs.{◌≡◌, true, [], ◌∷◌, ◌+◌, ◌-◌, ◌*◌, ◌≤◌, ◌<◌, min, max, length, get_or, take, drop};
+ghost use Rattle.std.specs.Prelude.{◌≡◌, ◌∷◌, ◌+◌, ◌-◌, ◌*◌, ◌≤◌, ◌<◌};
+ghost use Rattle.base.specs.{true, [], min, max, length, get_or, take, drop};
 ghost use Rattle.model.specs.{all, same, as_digits, is_word_byte, is_digit, tokens, is_sign, is_figure, thousandths, span};
 ghost use Rattle.model.specs.{is_gate_line, pin_head, is_pin_line, first_name, line_is, pin_line, delay_of, grouped, groups};
 ghost use Rattle.model.specs.Genlib.{fits};

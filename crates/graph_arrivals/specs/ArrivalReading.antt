@@ -1,5 +1,6 @@
 -- What each reader of the arrivals' text answers, composed of what the readers of the crate text find.
-use Rattle.base.specs.{ℕ, Bool, true, false, ◌&&◌, List, eqb, ltb, get_or}
+use Rattle.std.specs.Prelude.{◌&&◌}
+use Rattle.base.specs.{ℕ, Bool, true, false, List, eqb, ltb, get_or}
 use Rattle.model.specs.{text}
 use Rattle.base_text.specs.{on_number, number_then, number_end}
 use Rattle.base_text.specs.declared.Cursor.{Cursor}

@@ -1,5 +1,6 @@
 -- The lines of an arrivals' text up to the first refusal, and the words with their arrivals.
-use Rattle.base.specs.{ℕ, ◌+◌, ◌≤◌, ◌<◌, cond, not, ◌&&◌, Option, none, some, List, [], ◌∷◌, ltb, get_or}
+use Rattle.std.specs.Prelude.{◌+◌, ◌≤◌, ◌<◌, ◌&&◌, ◌∷◌}
+use Rattle.base.specs.{ℕ, cond, not, Option, none, some, List, [], ltb, get_or}
 use Rattle.model.specs.{elem, same, Line, ended, text, lines_from, InputArrival, input_arrival_numbers}
 use Rattle.base_words.specs.{put_at, HasCapacity, slot_at, input_arrival_addr}
 

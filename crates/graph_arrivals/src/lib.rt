@@ -3,7 +3,8 @@
 // leading zeros. Inputs not listed arrive at 0."
 #![tactic(auto)]
 
-ghost use Rattle.base.specs.{◌≡◌, [], ◌+◌, ◌≤◌, ◌<◌, drop};
+ghost use Rattle.std.specs.Prelude.{◌≡◌, ◌+◌, ◌≤◌, ◌<◌};
+ghost use Rattle.base.specs.{[], drop};
 ghost use Rattle.model.specs.{lines_from, verdict_of, refusal_of, verdict_refusal, read_input_arrivals, read_arrivals};
 ghost use Rattle.base_words.specs.{HasCapacity, slot_at};
 ghost use Rattle.graph_arrivals.specs.{entry_at, validated_at, Listable, put_input_arrival, put_all, passed, listed};

@@ -1,5 +1,6 @@
 -- What the passes over inputs, output lines and ANDs answer and leave in the words: a step for each expected line, one after the other.
-use Rattle.base.specs.{ℕ, zero, suc, ◌+◌, ◌-◌, ◌*◌, List, ltb, length}
+use Rattle.std.specs.Prelude.{◌+◌, ◌-◌, ◌*◌}
+use Rattle.base.specs.{ℕ, zero, suc, List, ltb, length}
 use Rattle.model.specs.declared.Header.{Header}
 use Rattle.model.specs.declared.Verdict.{Verdict}
 use Rattle.model.specs.declared.Verdict.TheVariants.{Accepted, Refused}

@@ -2,7 +2,8 @@
 // "Inputs are variables 1 to I and ANDs follow in sequence. Each AND is two differences, left minus first operand and first minus second."
 #![tactic(auto)]
 
-ghost use Rattle.base.specs.{◌≡◌, true, ◌+◌, ◌*◌, ◌≤◌, ◌<◌, length};
+ghost use Rattle.std.specs.Prelude.{◌≡◌, ◌+◌, ◌*◌, ◌≤◌, ◌<◌};
+ghost use Rattle.base.specs.{true, length};
 ghost use Rattle.model.specs.{need, holds, verdict_of, verdict_refusal, refusal_of, less_by, read_header, read_graph};
 ghost use Rattle.graph_order.specs.{Fit};
 ghost use Rattle.graph_loading.specs.{expected_count};

@@ -1,5 +1,6 @@
 -- The expected lines' kinds, the tests of a line's literals, and the step that a line takes.
-use Rattle.base.specs.{ℕ, ◌+◌, ◌*◌, ◌/◌, ◌%◌, ◌≤◌, Bool, true, false, not, ◌&&◌, ◌||◌, List, eqb, ltb, leb}
+use Rattle.std.specs.Prelude.{◌+◌, ◌*◌, ◌/◌, ◌%◌, ◌≤◌, ◌&&◌, ◌||◌}
+use Rattle.base.specs.{ℕ, Bool, true, false, not, List, eqb, ltb, leb}
 use Rattle.model.specs.declared.Header.{Header}
 use Rattle.base_words.specs.{undefined_kind, input_kind, and_kind, kind_at}
 use Rattle.graph_order.specs.{pick_n}

@@ -1,5 +1,6 @@
 -- What an expected line leaves in the words, and the words before the first.
-use Rattle.base.specs.{ℕ, ◌+◌, ◌-◌, ◌/◌, List, [], ◌∷◌, ltb}
+use Rattle.std.specs.Prelude.{◌+◌, ◌-◌, ◌/◌, ◌∷◌}
+use Rattle.base.specs.{ℕ, List, [], ltb}
 use Rattle.model.specs.declared.Header.{Header}
 use Rattle.base_words.specs.{put_at, zeros, constant_kind, input_kind, and_kind, output_addr, lists_from, put_node}
 use Rattle.graph_order.specs.{pick_words, put_ordered}

@@ -2,7 +2,7 @@
 // ANDs, expected in this order; expected line k is the k-th of them.
 #![tactic(auto)]
 
-ghost use Rattle.base.specs.{◌≡◌, ◌+◌, ◌*◌, ◌≤◌, ◌<◌};
+ghost use Rattle.std.specs.Prelude.{◌≡◌, ◌+◌, ◌*◌, ◌≤◌, ◌<◌};
 ghost use Rattle.base_words.specs.{HasCapacity};
 ghost use Rattle.graph_order.specs.{Fit};
 ghost use Rattle.graph_loading.specs.{expected_code, expected_count, literals_fit, LiteralsFit, may_define, is_already_defined, stored_line, opened};

@@ -1,6 +1,7 @@
 -- Words that hold a graph, every word of them said: the nodes and the first slots of the topological order in their columns, zeros in the other columns,
 -- the output literals, and all other words as they were.
-use Rattle.base.specs.{◌≡◌, List, Memᴰ, ℕ, ◌+◌, ◌*◌, ◌≤◌, ◌<◌, length, get_or}
+use Rattle.std.specs.Prelude.{◌≡◌, ◌+◌, ◌*◌, ◌≤◌, ◌<◌}
+use Rattle.base.specs.{List, Memᴰ, ℕ, length, get_or}
 use Rattle.model.specs.{And, Node, constant, input, undefined, both, node}
 use Rattle.model.specs.Graph.{Graph}
 use Rattle.model.specs.declared.Header.{Header}

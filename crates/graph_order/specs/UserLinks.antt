@@ -1,7 +1,8 @@
 -- The ANDs that wait, listed by their operands, and those of them that are ready. An AND v has two uses: 2 v is of its left operand's variable and
 -- 2 v + 1 of its right one's. A variable's uses are a list from the highest down: `heads` has the first for each variable, `links` the next for each
 -- use, and 0 ends it.
-use Rattle.base.specs.{ℕ, ◌+◌, ◌*◌, ◌/◌, ◌%◌, ◌≤◌, ◌<◌, ◌≡◌, true, List, eqb, ltb, length, get_or}
+use Rattle.std.specs.Prelude.{◌+◌, ◌*◌, ◌/◌, ◌%◌, ◌≤◌, ◌<◌, ◌≡◌}
+use Rattle.base.specs.{ℕ, true, List, eqb, ltb, length, get_or}
 use Rattle.base_words.specs.{left_at, right_at}
 use Rattle.base_bitset.specs.BitSet.{BitSet}
 use Rattle.base_bitset.specs.{has, removed}

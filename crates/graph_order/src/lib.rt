@@ -1,7 +1,8 @@
 // The topological order, in the lent words: "variable 0 and the inputs first, then again and again the lowest-numbered AND whose operands are both placed."
 #![tactic(auto)]
 
-ghost use Rattle.base.specs.{◌≡◌, ◌+◌, ◌*◌, ◌≤◌, ◌<◌, get_or, set};
+ghost use Rattle.std.specs.Prelude.{◌≡◌, ◌+◌, ◌*◌, ◌≤◌, ◌<◌};
+ghost use Rattle.base.specs.{get_or, set};
 ghost use Rattle.base_words.specs.{HasCapacity};
 ghost use Rattle.base_bitset.specs.{added};
 ghost use Rattle.graph_order.specs.{Fit, pick_words, put_ordered, Operands, is_waiting, is_ordered, is_ready, waiting_from, ready_from};

@@ -1,5 +1,6 @@
 -- What each reader of a line finds at a place of the text, composed of what the readers of the crate text find.
-use Rattle.base.specs.{ℕ, ◌+◌, ◌*◌, ◌/◌, Bool, true, false, not, ◌&&◌, ◌||◌, List, eqb, leb}
+use Rattle.std.specs.Prelude.{◌+◌, ◌*◌, ◌/◌, ◌&&◌, ◌||◌}
+use Rattle.base.specs.{ℕ, Bool, true, false, not, List, eqb, leb}
 use Rattle.model.specs.{all, below, same, text, ended_by_ten}
 use Rattle.model.specs.declared.Header.{Header}
 use Rattle.base_words.specs.{undefined_kind, and_kind, kind_at, left_at, right_at, output_at}

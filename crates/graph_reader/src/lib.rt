@@ -2,7 +2,8 @@
 // "`aag M I L O A`, then I input lines, O output lines and A lines `left right right`." "Read the `aig` form too, known by the header's first word."
 #![tactic(auto)]
 
-ghost use Rattle.base.specs.{◌≡◌, false, ◌+◌, ◌*◌, ◌≤◌, ◌<◌, length};
+ghost use Rattle.std.specs.Prelude.{◌≡◌, ◌+◌, ◌*◌, ◌≤◌, ◌<◌};
+ghost use Rattle.base.specs.{false, length};
 ghost use Rattle.model.specs.{all, below, need, holds, verdict_of, refusal_of, verdict_refusal, read_header, header_answer, header_refusal};
 ghost use Rattle.model.specs.{header_values, header_numbers, in_limits, in_sequence, read_graph};
 ghost use Rattle.base_words.specs.{HasCapacity};

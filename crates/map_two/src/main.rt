@@ -2,7 +2,8 @@
 // channel's netlist or line of `refused`, number and place is printed, then the second's.
 #![tactic(auto)]
 
-ghost use Rattle.base.specs.{◌≡◌, length};
+ghost use Rattle.std.specs.Prelude.{◌≡◌};
+ghost use Rattle.base.specs.{length};
 
 use model::Two;
 use program_files::Loaded;

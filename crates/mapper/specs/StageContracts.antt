@@ -1,5 +1,6 @@
 -- What the stages of a call ask, and what they answer for whatever graph the words are of.
-use Rattle.base.specs.{◌≡◌, ◌≤◌, List, ℕ, Bool, length}
+use Rattle.std.specs.Prelude.{◌≡◌, ◌≤◌}
+use Rattle.base.specs.{List, ℕ, Bool, length}
 use Rattle.model.specs.{need, holds, read_header}
 use Rattle.model.specs.Graph.{Graph}
 use Rattle.model.specs.declared.Library.{Library}

@@ -1,5 +1,6 @@
 -- What the stages of a call for two channels ask, and what comes of the channels' texts.
-use Rattle.base.specs.{◌≡◌, List, ℕ, Bool, length}
+use Rattle.std.specs.Prelude.{◌≡◌}
+use Rattle.base.specs.{List, ℕ, Bool, length}
 use Rattle.model.specs.{holds, read_header, channel_of}
 use Rattle.model.specs.declared.Library.{Library}
 use Rattle.model.specs.declared.Header.{Header}

@@ -1,5 +1,6 @@
 -- What comes of two channels once the library is read, from each refusal tried up to 10 on.
-use Rattle.base.specs.{◌≡◌, Bool, ◌&&◌, List, ℕ, ◌+◌, leb, length, replicate}
+use Rattle.std.specs.Prelude.{◌≡◌, ◌&&◌, ◌+◌}
+use Rattle.base.specs.{Bool, List, ℕ, leb, length, replicate}
 use Rattle.model.specs.{need, Read, holds, fault, next, unless, cells_of, cells_for, read_header, refused, text_after, Channel, Outcomes}
 use Rattle.model.specs.{answers_of}
 use Rattle.model.specs.declared.Library.{Library}

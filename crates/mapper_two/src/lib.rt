@@ -1,7 +1,8 @@
 // Two channels in one call: two graphs mapped over one cell list and one work memory, "with a text memory each".
 #![tactic(auto)]
 
-ghost use Rattle.base.specs.{◌≡◌, true};
+ghost use Rattle.std.specs.Prelude.{◌≡◌};
+ghost use Rattle.base.specs.{true};
 ghost use Rattle.model.specs.declared.Answer.TheVariants.{Refused};
 ghost use Rattle.promises.specs.{MappingTwo};
 ghost use Rattle.mapper.specs.{LibraryRead};

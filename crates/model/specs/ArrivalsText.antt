@@ -1,5 +1,6 @@
 -- The arrivals' text, read: the inputs listed and when they arrive, or the first refusal of 25 and 26 with its place; and a graph so timed.
-use Rattle.base.specs.{ℕ, not, cond, ◌&&◌, Option, List, [], ◌∷◌, ◌++◌, eqb, ltb, length, get_or}
+use Rattle.std.specs.Prelude.{◌&&◌, ◌∷◌, ◌++◌}
+use Rattle.base.specs.{ℕ, not, cond, Option, List, [], eqb, ltb, length, get_or}
 use Rattle.model.specs.Base.{each, elem, same, and_then, only}
 use Rattle.model.specs.Text.{Line, ended, text, lines_from, fields, numbers}
 use Rattle.model.specs.ReadResult.{Read, holds, next, unless, from?}

@@ -1,5 +1,6 @@
 -- BLIF, as far as the netlist uses it: a text read, and the values and arrivals of its nets. Apart from the writer.
-use Rattle.base.specs.{ℕ, ◌+◌, ◌-◌, ◌*◌, ◌≤◌, ◌≡◌, Bool, cond, ◌&&◌, Option, none, some, List, [], ◌∷◌, map, Memᴰ, eqb, length, get_or}
+use Rattle.std.specs.Prelude.{◌+◌, ◌-◌, ◌*◌, ◌≤◌, ◌≡◌, ◌&&◌, ◌∷◌}
+use Rattle.base.specs.{ℕ, Bool, cond, Option, none, some, List, [], map, Memᴰ, eqb, length, get_or}
 use Rattle.model.specs.Base.{same, and_then, only, below}
 use Rattle.model.specs.Text.{text, parts, fields, between}
 use Rattle.model.specs.Table.{value, row_of}

@@ -1,5 +1,6 @@
 -- A cell of the library, and the library as the code holds it.
-use Rattle.base.specs.{ℕ, ◌-◌, Bool, ◌&&◌, List, [], ◌++◌, eqb, ltb, length, take, get_or, replicate}
+use Rattle.std.specs.Prelude.{◌-◌, ◌&&◌, ◌++◌}
+use Rattle.base.specs.{ℕ, Bool, List, [], eqb, ltb, length, take, get_or, replicate}
 use Rattle.model.specs.ReadResult.{Read, holds, fault}
 use Rattle.model.specs.declared.Cell.{Cell}
 use Rattle.model.specs.declared.Library.{Library}

@@ -1,5 +1,6 @@
 -- Request N8, "Two channels, one library and one store": two graphs mapped in one call over one cell list and one work memory, "with a text memory each".
-use Rattle.base.specs.{ℕ, ◌+◌, Bool, List, leb, length, replicate}
+use Rattle.std.specs.Prelude.{◌+◌}
+use Rattle.base.specs.{ℕ, Bool, List, leb, length, replicate}
 use Rattle.model.specs.Limits.{need}
 use Rattle.model.specs.ReadResult.{Read, holds, fault, next, unless}
 use Rattle.model.specs.GraphText.{read_header}

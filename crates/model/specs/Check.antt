@@ -1,5 +1,6 @@
 -- Request N14, "Netlists edited by the layout group": a netlist's text read, its nets validated, and its outputs compared with the graph's.
-use Rattle.base.specs.{ℕ, zero, suc, ◌+◌, ◌*◌, ◌^◌, Bool, false, not, cond, ◌&&◌, ◌||◌, beq, Option, none, some, List, [], ◌∷◌, ◌++◌}
+use Rattle.std.specs.Prelude.{◌+◌, ◌*◌, ◌^◌, ◌&&◌, ◌||◌, ◌∷◌, ◌++◌}
+use Rattle.base.specs.{ℕ, zero, suc, Bool, false, not, cond, beq, Option, none, some, List, []}
 use Rattle.base.specs.{map, eqb, leb, length, take, get_or, replicate}
 use Rattle.model.specs.Base.{bit, all, any, keep, each, same, below, and_then, only, lowest}
 use Rattle.model.specs.Limits.{need}

@@ -1,5 +1,6 @@
 -- The demands for the check of an edited netlist, for every call: library text, graph text, netlist text and number of lent words.
-use Rattle.base.specs.{ℕ, ◌+◌, ◌*◌, ◌^◌, ◌≤◌, ◌<◌, ◌≡◌, Bool, some, List, map, Memᴰ, ◌↔◌, length, get_or}
+use Rattle.std.specs.Prelude.{◌+◌, ◌*◌, ◌^◌, ◌≤◌, ◌<◌, ◌≡◌, ◌↔◌}
+use Rattle.base.specs.{ℕ, Bool, some, List, map, Memᴰ, length, get_or}
 use Rattle.model.specs.Base.{bit}
 use Rattle.model.specs.Limits.{need}
 use Rattle.model.specs.ReadResult.{holds}

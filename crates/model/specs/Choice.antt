@@ -1,5 +1,6 @@
 -- The chosen source and arrival of each phase. A phase of a variable is a literal: 2v positive, 2v+1 negative.
-use Rattle.base.specs.{ℕ, suc, ◌+◌, ◌^◌, max, Bool, true, false, not, cond, ◌&&◌, List, [], ◌∷◌, ◌++◌, map, ltb, length, get_or}
+use Rattle.std.specs.Prelude.{◌+◌, ◌^◌, ◌&&◌, ◌∷◌, ◌++◌}
+use Rattle.base.specs.{ℕ, suc, max, Bool, true, false, not, cond, List, [], map, ltb, length, get_or}
 use Rattle.model.specs.Base.{any, keep, each, find, run, below, same}
 use Rattle.model.specs.Table.{orders}
 use Rattle.model.specs.Cells.{no_cell, cell_at, is_inverter}

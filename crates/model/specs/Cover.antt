@@ -1,5 +1,6 @@
 -- What a cover is. Not computed: the choice of `Choice` is held against every cover.
-use Rattle.base.specs.{ℕ, ◌<◌, ◌≡◌, not, List, [], ◌∷◌, map, Memᴰ, T, length, get_or}
+use Rattle.std.specs.Prelude.{◌<◌, ◌≡◌, ◌∷◌}
+use Rattle.base.specs.{ℕ, not, List, [], map, Memᴰ, T, length, get_or}
 use Rattle.model.specs.Table.{orders}
 use Rattle.model.specs.Cells.{cell_at, is_inverter}
 use Rattle.model.specs.Graph.{Graph, var_of, negated}

@@ -1,6 +1,7 @@
 -- The cut lists, and the function of a cut.
-use Rattle.base.specs.{ℕ, zero, suc, ◌+◌, ◌*◌, compare, Ordering, Ordering-lt, Ordering-eq, Ordering-gt, Bool, false, cond, Option, none}
-use Rattle.base.specs.{some, List, [], ◌∷◌, map, eqb, leb, ltb, length, get_or}
+use Rattle.std.specs.Prelude.{◌+◌, ◌*◌, ◌∷◌}
+use Rattle.base.specs.{ℕ, zero, suc, compare, Ordering, Ordering-lt, Ordering-eq, Ordering-gt, Bool, false, cond, Option, none}
+use Rattle.base.specs.{some, List, [], map, eqb, leb, ltb, length, get_or}
 use Rattle.model.specs.Base.{bit, one, union, keep, each, find, run, or_else}
 use Rattle.model.specs.Limits.{cut_limit}
 use Rattle.model.specs.Graph.{Graph, Node, constant, input, undefined, both, node, topological_order, span, var_of, node_value}

@@ -1,8 +1,9 @@
 -- The three demands as types, for every call: pairs wanted or not, library text, graph text in either form, arrivals' text, number of lent words and
 -- number of lent bytes; and what is promised of two texts that mean the same graph, of texts alike but for line ends, of inputs that arrive late, and of
 -- delays given as ranges.
-use Rattle.base.specs.{ℕ, suc, ◌+◌, ◌*◌, ◌≤◌, ◌<◌, ◌≡◌, Bool, true, false, cond, ◌&&◌, ◌||◌, some, List, [], ◌∷◌, ◌++◌, map, Memᴰ, ◌⊎◌}
-use Rattle.base.specs.{◌↔◌, Ordering-gt, eqb, leb, length, take, drop, get_or}
+use Rattle.std.specs.Prelude.{◌+◌, ◌*◌, ◌≤◌, ◌<◌, ◌≡◌, ◌&&◌, ◌||◌, ◌∷◌, ◌++◌, ◌⊎◌, ◌↔◌}
+use Rattle.base.specs.{ℕ, suc, Bool, true, false, cond, some, List, [], map, Memᴰ}
+use Rattle.base.specs.{Ordering-gt, eqb, leb, length, take, drop, get_or}
 use Rattle.model.specs.Base.{each, below, same}
 use Rattle.model.specs.Limits.{need}
 use Rattle.model.specs.Text.{Line, text, lines_from, shown, fields}

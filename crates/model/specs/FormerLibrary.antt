@@ -1,6 +1,7 @@
 -- The cell library's text by document 01 alone, before N10's ranges: one names line, eight fields a line, 2 to 6. What stands in a cell for its lowest
 -- delays are its delays.
-use Rattle.base.specs.{ℕ, suc, ◌^◌, Bool, not, ◌&&◌, Option, List, [], ◌∷◌, eqb, leb, ltb, length, get_or, drop}
+use Rattle.std.specs.Prelude.{◌^◌, ◌&&◌, ◌∷◌}
+use Rattle.base.specs.{ℕ, suc, Bool, not, Option, List, [], eqb, leb, ltb, length, get_or, drop}
 use Rattle.model.specs.Base.{all, any, same, and_then, only}
 use Rattle.model.specs.Text.{Line, ended, text, lines_from, fields, numbers, hex_table, is_name}
 use Rattle.model.specs.ReadResult.{Read, holds, fault, next, unless, from?}

@@ -1,5 +1,6 @@
 -- A genlib text, read: the cell text that is written for it, or the first refusal of 1, 22 to 24 and 18.
-use Rattle.base.specs.{ℕ, ◌+◌, ◌/◌, ◌%◌, ◌^◌, max, Bool, true, false, cond, ◌&&◌, ◌||◌, Option, none, some, List, [], ◌∷◌, ◌++◌, map, eqb}
+use Rattle.std.specs.Prelude.{◌+◌, ◌/◌, ◌%◌, ◌^◌, ◌&&◌, ◌||◌, ◌∷◌, ◌++◌}
+use Rattle.base.specs.{ℕ, max, Bool, true, false, cond, Option, none, some, List, [], map, eqb}
 use Rattle.base.specs.{leb, ltb, length, drop, get_or}
 use Rattle.model.specs.Base.{all, each, keep, same, and_then}
 use Rattle.model.specs.Text.{Line, text, decimal, lines_from, ended, is_name_byte}

@@ -1,5 +1,6 @@
 -- What is promised of the cell text that is written for a genlib text, for every text and every number of lent bytes.
-use Rattle.base.specs.{ℕ, ◌^◌, ◌≤◌, ◌<◌, max, ◌≡◌, Bool, true, false, not, ◌&&◌, ◌||◌, some, List, [], ◌∷◌, ◌++◌, map, Memᴰ, T, length}
+use Rattle.std.specs.Prelude.{◌^◌, ◌≤◌, ◌<◌, ◌≡◌, ◌&&◌, ◌||◌, ◌∷◌, ◌++◌}
+use Rattle.base.specs.{ℕ, max, Bool, true, false, not, some, List, [], map, Memᴰ, T, length}
 use Rattle.base.specs.{get_or}
 use Rattle.model.specs.Base.{all, bit}
 use Rattle.model.specs.Text.{lines_from, is_name}

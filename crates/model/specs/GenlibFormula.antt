@@ -1,5 +1,6 @@
 -- The expression of a GATE line: its form, its pins, and its value by the grammar. Its tokens are those behind `=`, the `;` among them.
-use Rattle.base.specs.{ℕ, zero, suc, ◌+◌, ◌-◌, ◌*◌, Bool, true, false, not, cond, ◌&&◌, ◌||◌, Option, none, some, List, [], ◌∷◌, ◌++◌, eqb}
+use Rattle.std.specs.Prelude.{◌+◌, ◌-◌, ◌*◌, ◌&&◌, ◌||◌, ◌∷◌, ◌++◌}
+use Rattle.base.specs.{ℕ, zero, suc, Bool, true, false, not, cond, Option, none, some, List, [], eqb}
 use Rattle.base.specs.{leb, ltb, drop}
 use Rattle.model.specs.Base.{bit, one, flip, any, same, and_then}
 use Rattle.model.specs.Text.{text}

@@ -1,5 +1,6 @@
 -- The words and signs of a genlib line, names and figures.
-use Rattle.base.specs.{ℕ, suc, Bool, true, false, not, cond, ◌&&◌, ◌||◌, Option, List, [], ◌∷◌, ◌++◌, eqb, leb, length, take, drop}
+use Rattle.std.specs.Prelude.{◌&&◌, ◌||◌, ◌∷◌, ◌++◌}
+use Rattle.base.specs.{ℕ, suc, Bool, true, false, not, cond, Option, List, [], eqb, leb, length, take, drop}
 use Rattle.base.specs.{replicate}
 use Rattle.model.specs.Base.{all, only}
 use Rattle.model.specs.Text.{between, is_name_byte, onto, as_digits}

@@ -1,6 +1,7 @@
 -- The graph, the topological order, and the value of a variable as AIGER has it.
-use Rattle.base.specs.{ℕ, zero, suc, ◌+◌, ◌*◌, ◌/◌, ◌%◌, Bool, false, not, cond, ◌&&◌, Option, none, some, List, [], ◌∷◌, ◌++◌, map}
-use Rattle.base.specs.{Memᴰ, ◌≡◌, eqb, length}
+use Rattle.std.specs.Prelude.{◌+◌, ◌*◌, ◌/◌, ◌%◌, ◌&&◌, ◌∷◌, ◌++◌, ◌≡◌}
+use Rattle.base.specs.{ℕ, zero, suc, Bool, false, not, cond, Option, none, some, List, [], map}
+use Rattle.base.specs.{Memᴰ, eqb, length}
 use Rattle.model.specs.Base.{flip, elem, keep, lowest, find, run}
 
 -- a line `left right right`: the variable that it defines, and two literals

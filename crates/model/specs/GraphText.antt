@@ -1,6 +1,7 @@
 -- The graph's text in either form, read: its header, then its graph, or the first refusal of 7 to 9, 11 to 14 and 19 to 21 with its place; and a
 -- graph written in the ASCII form.
-use Rattle.base.specs.{ℕ, zero, suc, ◌+◌, ◌-◌, ◌*◌, ◌%◌, Bool, true, false, not, cond, ◌&&◌, ◌||◌, Option, none, some, List, [], ◌∷◌, ◌++◌}
+use Rattle.std.specs.Prelude.{◌+◌, ◌-◌, ◌*◌, ◌%◌, ◌&&◌, ◌||◌, ◌∷◌, ◌++◌}
+use Rattle.base.specs.{ℕ, zero, suc, Bool, true, false, not, cond, Option, none, some, List, []}
 use Rattle.base.specs.{map, eqb, leb, ltb, length, get_or, drop, replicate}
 use Rattle.model.specs.Base.{from, all, keep, each, elem, same, and_then, only}
 use Rattle.model.specs.Text.{Line, ended, ended_by_ten, next_of, text, decimal, lines_from, fields, numbers}

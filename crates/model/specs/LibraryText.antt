@@ -1,5 +1,6 @@
 -- The cell library's text, read: its cells, or the first refusal of 2 to 6 and 27 with its place.
-use Rattle.base.specs.{ℕ, suc, ◌-◌, ◌^◌, Bool, true, false, not, cond, ◌&&◌, ◌||◌, Option, List, [], ◌∷◌, ◌++◌, eqb, leb, ltb, length, get_or}
+use Rattle.std.specs.Prelude.{◌-◌, ◌^◌, ◌&&◌, ◌||◌, ◌∷◌, ◌++◌}
+use Rattle.base.specs.{ℕ, suc, Bool, true, false, not, cond, Option, List, [], eqb, leb, ltb, length, get_or}
 use Rattle.base.specs.{take, drop, replicate}
 use Rattle.model.specs.Base.{all, any, same, and_then, only}
 use Rattle.model.specs.Text.{Line, ended, text, lines_from, fields, numbers, hex_table, is_name}

@@ -1,5 +1,6 @@
 -- The two figures of request N4: the cut limit, and the need of lent words that it brings.
-use Rattle.base.specs.{ℕ, suc, ◌+◌, ◌*◌}
+use Rattle.std.specs.Prelude.{◌+◌, ◌*◌}
+use Rattle.base.specs.{ℕ, suc}
 
 -- "Make 18 the limit", of 16 and of demand 3's premise: "more than 18 cuts"
 abbrev pub cut_limit : ℕ

@@ -1,5 +1,6 @@
 -- The whole: three texts, the lent words and bytes, the answer "in checking order", and what the lent memory then holds.
-use Rattle.base.specs.{ℕ, Bool, cond, ◌&&◌, ◌||◌, List, ◌++◌, eqb, leb, length, drop, replicate}
+use Rattle.std.specs.Prelude.{◌&&◌, ◌||◌, ◌++◌}
+use Rattle.base.specs.{ℕ, Bool, cond, List, eqb, leb, length, drop, replicate}
 use Rattle.model.specs.Limits.{need}
 use Rattle.model.specs.ReadResult.{Read, holds, fault, next, unless}
 use Rattle.model.specs.LibraryText.{read_library, is_ranged}

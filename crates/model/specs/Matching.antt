@@ -1,5 +1,6 @@
 -- When a cell matches a cut, and the nets that then feed its pins.
-use Rattle.base.specs.{ℕ, zero, suc, ◌-◌, ◌/◌, ◌^◌, Bool, cond, ◌&&◌, beq, List, [], ◌∷◌, ltb, take, get_or}
+use Rattle.std.specs.Prelude.{◌-◌, ◌/◌, ◌^◌, ◌&&◌, ◌∷◌}
+use Rattle.base.specs.{ℕ, zero, suc, Bool, cond, beq, List, [], ltb, take, get_or}
 use Rattle.model.specs.Base.{all, below, bit}
 use Rattle.model.specs.Table.{value, orders, pin_row}
 use Rattle.model.specs.Cells.{cell_at}

@@ -1,5 +1,6 @@
 -- The gates, the netlist's text and its figures, and what is printed for a graph that is read.
-use Rattle.base.specs.{ℕ, suc, ◌+◌, ◌*◌, max, Bool, true, false, cond, not, Option, none, some, List, [], ◌∷◌, ◌++◌, map, reverse, ltb}
+use Rattle.std.specs.Prelude.{◌+◌, ◌*◌, ◌∷◌, ◌++◌}
+use Rattle.base.specs.{ℕ, suc, max, Bool, true, false, cond, not, Option, none, some, List, [], map, reverse, ltb}
 use Rattle.base.specs.{length, take, drop}
 use Rattle.model.specs.Base.{keep, each, find, elem, below, lowest}
 use Rattle.model.specs.Text.{text, decimal}

@@ -1,5 +1,6 @@
 -- The forms of a printed netlist's lines, field by field: "the kind and form mapping prints there (net and output numbers and times may be any digits)".
-use Rattle.base.specs.{ℕ, suc, ◌+◌, Bool, true, false, cond, ◌&&◌, ◌||◌, Option, none, some, List, [], ◌∷◌, ◌++◌, map, eqb, ltb, length}
+use Rattle.std.specs.Prelude.{◌+◌, ◌&&◌, ◌||◌, ◌∷◌, ◌++◌}
+use Rattle.base.specs.{ℕ, suc, Bool, true, false, cond, Option, none, some, List, [], map, eqb, ltb, length}
 use Rattle.base.specs.{get_or, drop}
 use Rattle.model.specs.Base.{all, same, below}
 use Rattle.model.specs.Text.{text, decimal, fields, between}

@@ -1,5 +1,6 @@
 -- Orders of the ANDs and sets of cuts as document 01's sentences have them, apart from the definitions that compute them: what 15 and 16 are stated by.
-use Rattle.base.specs.{ℕ, ◌≤◌, ◌<◌, ◌≡◌, ◌⊎◌, ◌↔◌, List, [], ◌∷◌, ◌++◌, Memᴰ, length}
+use Rattle.std.specs.Prelude.{◌≤◌, ◌<◌, ◌≡◌, ◌⊎◌, ◌↔◌, ◌∷◌, ◌++◌}
+use Rattle.base.specs.{ℕ, List, [], Memᴰ, length}
 use Rattle.model.specs.Limits.{cut_limit}
 use Rattle.model.specs.Graph.{And, Graph, var_of, and_vars, topological_order}
 use Rattle.model.specs.Demands.{Distinct}

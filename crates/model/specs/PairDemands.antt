@@ -1,5 +1,6 @@
 -- Request N12: which pairs are formed, and in which order, apart from the definition that lists them.
-use Rattle.base.specs.{◌+◌, ◌≤◌, ◌<◌, ◌≡◌, ◌⊎◌, ◌↔◌, List, [], ◌∷◌, Memᴰ, length}
+use Rattle.std.specs.Prelude.{◌+◌, ◌≤◌, ◌<◌, ◌≡◌, ◌⊎◌, ◌↔◌, ◌∷◌}
+use Rattle.base.specs.{List, [], Memᴰ, length}
 use Rattle.model.specs.Cells.{cell_at}
 use Rattle.model.specs.Pairs.{Pair, pairs_of}
 use Rattle.model.specs.declared.Cell.{Cell}

@@ -1,6 +1,7 @@
 -- Pairs of cells as one: "for each root cell, pin and inner cell with at least one pin, in that order of lines, form a pair feeding that pin, if the
 -- result has at most four pins". A pair is a cell without a name, so that matching, covers and arrivals know cells alone.
-use Rattle.base.specs.{ℕ, zero, suc, ◌+◌, ◌-◌, ◌^◌, Bool, true, false, ◌&&◌, List, [], ◌∷◌, ◌++◌, map, leb, length, take, drop, get_or}
+use Rattle.std.specs.Prelude.{◌+◌, ◌-◌, ◌^◌, ◌&&◌, ◌∷◌, ◌++◌}
+use Rattle.base.specs.{ℕ, zero, suc, Bool, true, false, List, [], map, leb, length, take, drop, get_or}
 use Rattle.model.specs.Base.{bit, below, keep, each}
 use Rattle.model.specs.Table.{value, row_of}
 use Rattle.model.specs.Cuts.{tabulate}

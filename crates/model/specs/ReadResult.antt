@@ -1,5 +1,6 @@
 -- What reading gives: what is read, or the first refusal that applies.
-use Rattle.base.specs.{ℕ, Bool, true, false, Option, none, some, List, [], ◌∷◌}
+use Rattle.std.specs.Prelude.{◌∷◌}
+use Rattle.base.specs.{ℕ, Bool, true, false, Option, none, some, List, []}
 use Rattle.model.specs.declared.Verdict.{Verdict}
 use Rattle.model.specs.declared.Verdict.TheVariants.{Accepted, Refused}
 

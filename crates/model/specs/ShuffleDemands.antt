@@ -1,6 +1,7 @@
 -- Request N13, "Shuffled libraries": what "two accepted libraries holding the same cell lines in any orders" agree on. Nothing is said of the gates, of the
 -- area, of minimum arrivals and of 18, which "may differ".
-use Rattle.base.specs.{ℕ, ◌≤◌, ◌≡◌, ◌↔◌, List, [], ◌∷◌, map, Memᴰ}
+use Rattle.std.specs.Prelude.{◌≤◌, ◌≡◌, ◌↔◌, ◌∷◌}
+use Rattle.base.specs.{ℕ, List, [], map, Memᴰ}
 use Rattle.model.specs.Text.{Line, lines_from}
 use Rattle.model.specs.ReadResult.{holds}
 use Rattle.model.specs.Graph.{Graph, unordered}

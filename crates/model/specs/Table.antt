@@ -1,5 +1,6 @@
 -- Tables of up to four pins, the 24 orders, the row map and the masks.
-use Rattle.base.specs.{ℕ, zero, suc, ◌+◌, ◌*◌, ◌/◌, Bool, List, [], ◌∷◌, map}
+use Rattle.std.specs.Prelude.{◌+◌, ◌*◌, ◌/◌, ◌∷◌}
+use Rattle.base.specs.{ℕ, zero, suc, Bool, List, [], map}
 use Rattle.model.specs.Base.{bit, one, flip, each, below}
 
 -- "bit r is the cell's value in row r"

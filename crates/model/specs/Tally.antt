@@ -1,6 +1,7 @@
 -- Netlists of one library counted into a tally, and its report: "a line per cell in library order, as `inv 3 3 2`: its gates, their total area and in how many
 -- netlists it occurs; then `total` with gates, area and netlists counted".
-use Rattle.base.specs.{ℕ, suc, ◌+◌, ◌-◌, ◌*◌, ◌^◌, Bool, cond, ◌&&◌, Option, none, some, List, [], ◌∷◌, ◌++◌, map, eqb, leb, ltb, length}
+use Rattle.std.specs.Prelude.{◌+◌, ◌-◌, ◌*◌, ◌^◌, ◌&&◌, ◌∷◌, ◌++◌}
+use Rattle.base.specs.{ℕ, suc, Bool, cond, Option, none, some, List, [], map, eqb, leb, ltb, length}
 use Rattle.base.specs.{take, get_or, replicate}
 use Rattle.model.specs.Base.{one, all, each, same, below}
 use Rattle.model.specs.Text.{Line, ended_by_ten, text, decimal, lines_from, fields}

@@ -1,7 +1,8 @@
 -- Bytes: a quoted text, numbers in decimal, lines, fields, hexadecimal tables and names.
 use Prim.Native.Char.{code}
 use Prim.Native.String.{String, [] as end, ◌∷◌ as ◌then◌}
-use Rattle.base.specs.{ℕ, zero, suc, ◌+◌, ◌-◌, ◌*◌, ◌/◌, ◌%◌, Bool, true, false, cond, ◌&&◌, ◌||◌, Option, none, some, List, [], ◌∷◌}
+use Rattle.std.specs.Prelude.{◌+◌, ◌-◌, ◌*◌, ◌/◌, ◌%◌, ◌&&◌, ◌||◌, ◌∷◌}
+use Rattle.base.specs.{ℕ, zero, suc, Bool, true, false, cond, Option, none, some, List, []}
 use Rattle.base.specs.{reverse, eqb, ltb, leb, length}
 use Rattle.model.specs.Base.{all, same, and_then, only}
 

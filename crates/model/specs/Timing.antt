@@ -1,6 +1,7 @@
 -- The arrivals of the chosen phases under other pin delays: the sources stay, and `delays l` are those of the cell that drives phase l.
 -- With the lowest delays they are the minimum arrivals of the `# timing` lines.
-use Rattle.base.specs.{ℕ, suc, Bool, true, false, cond, List, [], ◌∷◌, ◌++◌, map}
+use Rattle.std.specs.Prelude.{◌∷◌, ◌++◌}
+use Rattle.base.specs.{ℕ, suc, Bool, true, false, cond, List, [], map}
 use Rattle.model.specs.Base.{find, run}
 use Rattle.model.specs.Text.{text, decimal}
 use Rattle.model.specs.Graph.{Graph, topological_order, var_of, negated, literal}

@@ -1,5 +1,6 @@
 -- What drives a phase: its gates as the code holds them, and what in the list of cell records they are made of.
-use Rattle.base.specs.{ℕ, ◌+◌, ◌-◌, ◌*◌, ◌/◌, ◌%◌, ◌≤◌, ◌<◌, ◌≡◌, true, false, cond, List, [], ◌∷◌, map, eqb, ltb, length, get_or, take}
+use Rattle.std.specs.Prelude.{◌+◌, ◌-◌, ◌*◌, ◌/◌, ◌%◌, ◌≤◌, ◌<◌, ◌≡◌, ◌∷◌}
+use Rattle.base.specs.{ℕ, true, false, cond, List, [], map, eqb, ltb, length, get_or, take}
 use Rattle.model.specs.{blank, pair_pins, Net, of_phase, of_pair, Gate, one_gate, two_gates}
 use Rattle.model.specs.declared.Cell.{Cell}
 use Rattle.base_truth.specs.{pin_net}

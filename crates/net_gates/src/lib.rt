@@ -1,7 +1,8 @@
 // What drives a phase: one gate, or two for a pair, each of a listed cell with its nets.
 #![tactic(auto)]
 
-ghost use Rattle.base.specs.{◌≡◌, [], map, ◌≤◌, ◌<◌, get_or};
+ghost use Rattle.std.specs.Prelude.{◌≡◌, ◌≤◌, ◌<◌};
+ghost use Rattle.base.specs.{[], map, get_or};
 ghost use Rattle.base_truth.specs.{places_of};
 ghost use Rattle.net_gates.specs.{phase_net, four_nets, inner_nets, root_net, root_nets, no_instance, one_driver, two_driver, pair_driver};
 ghost use Rattle.net_gates.specs.{driver_by, PairReady, NumberReady, Drives};

@@ -1,5 +1,6 @@
 -- The minimum arrivals of the chosen phases, from the words and into them.
-use Rattle.base.specs.{ℕ, zero, suc, ◌+◌, ◌*◌, ◌/◌, ◌≤◌, ◌<◌, max, ◌≡◌, cond, List, [], ◌∷◌, leb, length, get_or, set, drop}
+use Rattle.std.specs.Prelude.{◌+◌, ◌*◌, ◌/◌, ◌≤◌, ◌<◌, ◌≡◌, ◌∷◌}
+use Rattle.base.specs.{ℕ, zero, suc, max, cond, List, [], leb, length, get_or, set, drop}
 use Rattle.model.specs.{cell_at, match_nets}
 use Rattle.model.specs.declared.Cell.{Cell}
 use Rattle.model.specs.declared.Match.{Match}

@@ -1,5 +1,6 @@
 -- What the minimum arrivals are, for whatever cells the tables of pins and delays are of.
-use Rattle.base.specs.{◌≡◌, ◌≤◌, List, ℕ}
+use Rattle.std.specs.Prelude.{◌≡◌, ◌≤◌}
+use Rattle.base.specs.{List, ℕ}
 use Rattle.model.specs.declared.Cell.{Cell}
 use Rattle.model.specs.declared.Match.{Match}
 use Rattle.base_words.specs.{phase_at}

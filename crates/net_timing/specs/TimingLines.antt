@@ -1,5 +1,6 @@
 -- The timing lines, as the lent words have them.
-use Rattle.base.specs.{List, [], ◌∷◌, ◌++◌, ℕ, ◌+◌, length}
+use Rattle.std.specs.Prelude.{◌∷◌, ◌++◌, ◌+◌}
+use Rattle.base.specs.{List, [], ℕ, length}
 use Rattle.model.specs.{from, each, text, decimal, out_name}
 use Rattle.base_words.specs.{output_at, min_arrival_at, phase_at}
 

@@ -2,7 +2,8 @@
 // "The netlist is then followed by a line per output, as `# timing o0 30 35`: a low and a high arrival."
 #![tactic(auto)]
 
-ghost use Rattle.base.specs.{◌≡◌, ◌+◌, ◌*◌, ◌/◌, ◌≤◌, ◌<◌, List, length, drop};
+ghost use Rattle.std.specs.Prelude.{◌≡◌, ◌+◌, ◌*◌, ◌/◌, ◌≤◌, ◌<◌};
+ghost use Rattle.base.specs.{List, length, drop};
 ghost use Rattle.model.specs.{cells_of, fed_nets};
 ghost use Rattle.model.specs.declared.Cell.{Cell};
 ghost use Rattle.base_words.specs.{ordered_count, HasCapacity};

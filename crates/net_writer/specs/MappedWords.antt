@@ -1,5 +1,6 @@
 -- What the lent words hold when a netlist is measured and written: a graph with its topological order, cuts, chosen and needed phases.
-use Rattle.base.specs.{◌≡◌, false, List, [], Memᴰ, ℕ, ◌≤◌, ◌<◌, T, length, get_or}
+use Rattle.std.specs.Prelude.{◌≡◌, ◌≤◌, ◌<◌}
+use Rattle.base.specs.{false, List, [], Memᴰ, ℕ, T, length, get_or}
 use Rattle.model.specs.{cells_of, no_pair, pairs_of, cuts_of, over_limit, absent, chosen, Gate, gates, netlist_text, choice_text, choice_figures}
 use Rattle.model.specs.Graph.{Graph}
 use Rattle.model.specs.declared.Library.{Library}

@@ -1,5 +1,6 @@
 -- The gates, the nets of the names lines, the figures and the text, as the lent words have them.
-use Rattle.base.specs.{Bool, false, cond, List, [], ◌∷◌, ◌++◌, map, ℕ, zero, suc, ◌+◌, ◌*◌, ◌/◌, ◌≤◌, ◌<◌, ltb, length, take, get_or}
+use Rattle.std.specs.Prelude.{◌∷◌, ◌++◌, ◌+◌, ◌*◌, ◌/◌, ◌≤◌, ◌<◌}
+use Rattle.base.specs.{Bool, false, cond, List, [], map, ℕ, zero, suc, ltb, length, take, get_or}
 use Rattle.model.specs.{from, each, cut_limit, orders, text, decimal, var_of, literal, opposite, fed_nets, Gate, one_gate, net_name, label}
 use Rattle.model.specs.{out_name, pin_words, gate_line, wire_line, sum, largest}
 use Rattle.model.specs.declared.Cell.{Cell}

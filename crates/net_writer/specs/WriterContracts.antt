@@ -1,5 +1,6 @@
 -- What the functions that write the netlist ask, and what they leave in the bytes.
-use Rattle.base.specs.{◌≡◌, ◌+◌, ◌*◌, ◌≤◌, ◌++◌, List, ℕ, length, drop}
+use Rattle.std.specs.Prelude.{◌≡◌, ◌+◌, ◌*◌, ◌≤◌, ◌++◌}
+use Rattle.base.specs.{List, ℕ, length, drop}
 use Rattle.model.specs.{each, gate_line}
 use Rattle.model.specs.Graph.{Graph}
 use Rattle.model.specs.declared.Library.{Library}

@@ -3,7 +3,8 @@
 // 2v+1 negative, so that ascending literals are this order.
 #![tactic(auto)]
 
-ghost use Rattle.base.specs.{◌≡◌, ◌∷◌, [], ◌+◌, ◌-◌, ◌*◌, ◌/◌, ◌≤◌, ◌<◌, max, length, take};
+ghost use Rattle.std.specs.Prelude.{◌≡◌, ◌∷◌, ◌+◌, ◌-◌, ◌*◌, ◌/◌, ◌≤◌, ◌<◌};
+ghost use Rattle.base.specs.{[], max, length, take};
 ghost use Rattle.model.specs.{each, decimal, net_name, label, gate_line, out_name, wire_line};
 ghost use Rattle.model.specs.Graph.{Graph};
 ghost use Rattle.base_words.specs.{HasCapacity, HasCapacityFor, output_at, phase_at};

@@ -1,5 +1,6 @@
 -- Where a text that byte 0 ends does so.
-use Rattle.base.specs.{ℕ, suc, ◌+◌, cond, List, [], ◌∷◌, eqb, drop}
+use Rattle.std.specs.Prelude.{◌+◌, ◌∷◌}
+use Rattle.base.specs.{ℕ, suc, cond, List, [], eqb, drop}
 
 -- the bytes before the first byte 0
 unfoldable pub before : List ℕ → ℕ

@@ -1,7 +1,8 @@
 // What the programs share: a file read, a line of a word and two numbers written, and what is said where a file cannot be read or nothing can be written.
 #![tactic(auto)]
 
-ghost use Rattle.base.specs.{◌≡◌, ◌+◌, ◌-◌, ◌≤◌, length};
+ghost use Rattle.std.specs.Prelude.{◌≡◌, ◌+◌, ◌-◌, ◌≤◌};
+ghost use Rattle.base.specs.{length};
 ghost use Rattle.program_files.specs.{end_from, Found_in, Loaded_in};
 
 use libc::{ENOENT, STDERR_FILENO, STDOUT_FILENO};

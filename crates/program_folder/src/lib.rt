@@ -2,7 +2,8 @@
 // cells or without, a program each.
 #![tactic(auto)]
 
-ghost use Rattle.base.specs.{◌≡◌, length};
+ghost use Rattle.std.specs.Prelude.{◌≡◌};
+ghost use Rattle.base.specs.{length};
 ghost use Rattle.promises.specs.{Fits};
 
 use model::Answer;

@@ -1,5 +1,6 @@
 -- The call that checks an edited netlist: the whole of what `check_call::check_texts` says.
-use Rattle.base.specs.{ℕ, ◌≤◌, ◌≡◌, ◌⊎◌, List, length, replicate}
+use Rattle.std.specs.Prelude.{◌≤◌, ◌≡◌, ◌⊎◌}
+use Rattle.base.specs.{ℕ, List, length, replicate}
 use Rattle.model.specs.{fault, read_edited, check_texts, result_of, result_by, CheckPromised}
 use Rattle.model.specs.declared.Checked.{Checked}
 use Rattle.model.specs.declared.Checked.TheVariants.{Accepted, Differs, Refused}

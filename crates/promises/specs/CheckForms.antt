@@ -1,6 +1,7 @@
 -- The lines of an edited netlist as relations over bytes, written from the documents' sentences: what nets, gate lines and the other lines are, and which may
 -- stand behind which. Each says that bytes are such a thing and what they mean; no reader stands here.
-use Rattle.base.specs.{ℕ, zero, suc, ◌≤◌, ◌≡◌, ◌⊎◌, true, List, [], ◌∷◌, ◌++◌, Memᴰ, length}
+use Rattle.std.specs.Prelude.{◌≤◌, ◌≡◌, ◌⊎◌, ◌∷◌, ◌++◌}
+use Rattle.base.specs.{ℕ, zero, suc, true, List, [], Memᴰ, length}
 use Rattle.model.specs.{text, name_of, Driver}
 use Rattle.model.specs.Graph.{Graph}
 use Rattle.model.specs.declared.Cell.{Cell}

@@ -1,6 +1,7 @@
 -- The refusals of a check as conditions: 32 of the netlist's bytes, by the forms of `CheckForms`, 33 of the nets that its lines drive and use, and all that are
 -- tried, in checking order. No reader's definition is used: a reader is named only where `Exactly` says what it does.
-use Rattle.base.specs.{ℕ, suc, ◌+◌, ◌*◌, ◌≤◌, ◌≡◌, ◌⊎◌, List, [], ◌∷◌, ◌++◌, map, Memᴰ, length, drop}
+use Rattle.std.specs.Prelude.{◌+◌, ◌*◌, ◌≤◌, ◌≡◌, ◌⊎◌, ◌∷◌, ◌++◌}
+use Rattle.base.specs.{ℕ, suc, List, [], map, Memᴰ, length, drop}
 use Rattle.model.specs.Graph.{Graph}
 use Rattle.model.specs.{Driver, Edited, read_netlist, validate_nets, read_edited, OrderOfAll}
 use Rattle.model.specs.declared.Cell.{Cell}

@@ -1,6 +1,7 @@
 -- The lines of a netlist that is counted, as relations over bytes, written from the documents' sentences: what nets, gate lines and the other lines that mapping
 -- prints are, and which may stand behind which. Each says that bytes are such a thing and what they mean; no reader stands here.
-use Rattle.base.specs.{ℕ, zero, suc, ◌<◌, ◌≡◌, ◌⊎◌, Bool, true, cond, List, [], ◌∷◌, ◌++◌, Memᴰ, length}
+use Rattle.std.specs.Prelude.{◌<◌, ◌≡◌, ◌⊎◌, ◌∷◌, ◌++◌}
+use Rattle.base.specs.{ℕ, zero, suc, Bool, true, cond, List, [], Memᴰ, length}
 use Rattle.model.specs.{text, name_of, cell_at, area_of}
 use Rattle.model.specs.declared.Cell.{Cell}
 use Rattle.promises.specs.LineForms.{Within, Decimal, joined, LineOf}

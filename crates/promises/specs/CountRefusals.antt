@@ -1,6 +1,7 @@
 -- 1, the library's refusals, 28, 29 and 18 of a count and of a report as conditions over the bytes of library and netlist, by the forms of `CountForms`. No
 -- reader's definition is used: a reader is named only where `Exactly` says what it does.
-use Rattle.base.specs.{ℕ, zero, ◌^◌, ◌≤◌, ◌<◌, ◌≡◌, Bool, List, [], ◌++◌, Memᴰ, length}
+use Rattle.std.specs.Prelude.{◌^◌, ◌≤◌, ◌<◌, ◌≡◌, ◌++◌}
+use Rattle.base.specs.{ℕ, zero, Bool, List, [], Memᴰ, length}
 use Rattle.model.specs.{counted, read_counted, report_text, count_text, report_of}
 use Rattle.model.specs.declared.Cell.{Cell}
 use Rattle.model.specs.declared.Tally.{Tally}

@@ -1,6 +1,7 @@
 -- What a cover is, by document 01's sentences, as relations: a cut by membership, its function by a walk from the root down, a match by all 16 rows, an
 -- arrival by what it is at least and what it is one of. No list is computed here: an element is known by its number in a list, or by being in it.
-use Rattle.base.specs.{ℕ, suc, ◌+◌, ◌≤◌, ◌<◌, ◌≡◌, ◌⊎◌, Bool, false, ◌&&◌, List, [], ◌∷◌, Memᴰ, length}
+use Rattle.std.specs.Prelude.{◌+◌, ◌≤◌, ◌<◌, ◌≡◌, ◌⊎◌, ◌&&◌, ◌∷◌}
+use Rattle.base.specs.{ℕ, suc, Bool, false, List, [], Memᴰ, length}
 use Rattle.model.specs.{bit, flip, And, literal, var_of, negated, opposite, IsCut, IsInputSource, Distinct}
 use Rattle.model.specs.Graph.{Graph}
 use Rattle.model.specs.declared.Cell.{Cell}

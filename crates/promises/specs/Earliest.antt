@@ -1,6 +1,7 @@
 -- Demand 3, for every call, over the covers of `Covers`: whatever the library and the graph, no cover so timed gives a printed net earlier, and 17 comes
 -- exactly where an output has no cover.
-use Rattle.base.specs.{ℕ, ◌≤◌, ◌<◌, ◌≡◌, ◌⊎◌, ◌↔◌, Bool, false, List, [], ◌∷◌, map, Memᴰ, length, get_or}
+use Rattle.std.specs.Prelude.{◌≤◌, ◌<◌, ◌≡◌, ◌⊎◌, ◌↔◌, ◌∷◌}
+use Rattle.base.specs.{ℕ, Bool, false, List, [], map, Memᴰ, length, get_or}
 use Rattle.model.specs.{var_of, orders, cuts_of, absent, chosen, topological_order, IsInputSource, net_name, out_name, Outcome, refused, mapped, NetArrivals, driven_nets, Call}
 use Rattle.model.specs.{OfPrinted, OfMappable, choice_figures, printed_text}
 use Rattle.model.specs.Graph.{Graph}

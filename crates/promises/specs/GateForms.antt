@@ -1,6 +1,7 @@
 -- The forms of a genlib text as relations over bytes, written from N6's sentences: what blanks, names, signs, figures, a GATE line, a PIN line, the pins of an
 -- expression and their delays are. Each says that bytes are such a thing and what they mean; no reader stands here.
-use Rattle.base.specs.{ℕ, suc, ◌+◌, ◌-◌, ◌*◌, ◌^◌, ◌≤◌, ◌<◌, max, ◌≡◌, ◌⊎◌, ◌↔◌, Bool, true, false, not, ◌&&◌, ◌||◌, List, [], ◌∷◌, ◌++◌}
+use Rattle.std.specs.Prelude.{◌+◌, ◌-◌, ◌*◌, ◌^◌, ◌≤◌, ◌<◌, ◌≡◌, ◌⊎◌, ◌↔◌, ◌&&◌, ◌||◌, ◌∷◌, ◌++◌}
+use Rattle.base.specs.{ℕ, suc, max, Bool, true, false, not, List, []}
 use Rattle.base.specs.{Memᴰ, length, get_or}
 use Rattle.model.specs.{bit, text, Distinct, Part, product, factor}
 use Rattle.model.specs.GenlibDemands.{sum}

@@ -1,7 +1,8 @@
 -- 1, 22 to 24 and 18 of a genlib text as conditions over its bytes, by the forms of `GateForms`. A text is refused with a number at a place where the gates before
 -- the place are accepted, and the gate there meets the number's condition and none that is tried before it. No reader's definition is used: the reader is
 -- named only where `Exactly` says what it does.
-use Rattle.base.specs.{ℕ, ◌^◌, ◌≤◌, ◌<◌, ◌≡◌, ◌⊎◌, Bool, false, List, [], ◌∷◌, ◌++◌, Memᴰ, length, get_or}
+use Rattle.std.specs.Prelude.{◌^◌, ◌≤◌, ◌<◌, ◌≡◌, ◌⊎◌, ◌∷◌, ◌++◌}
+use Rattle.base.specs.{ℕ, Bool, false, List, [], Memᴰ, length, get_or}
 use Rattle.model.specs.{bit, text, read_genlib, cells_text, genlib_text}
 use Rattle.model.specs.Genlib.{Gate}
 use Rattle.model.specs.GenlibDemands.{sum}

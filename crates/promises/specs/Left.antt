@@ -1,5 +1,6 @@
 -- What a call returns and leaves of the lent memory, by document 01's sentences: of `text_after`, `work_after` and `returned_by` nothing need be believed.
-use Rattle.base.specs.{ℕ, ◌≤◌, ◌≡◌, List, ◌++◌, Memᴰ, length}
+use Rattle.std.specs.Prelude.{◌≤◌, ◌≡◌, ◌++◌}
+use Rattle.base.specs.{ℕ, List, Memᴰ, length}
 use Rattle.model.specs.{Outcome, refused, mapped, returned_by, text_after, work_after}
 use Rattle.model.specs.declared.Figures.{Figures}
 use Rattle.promises.specs.Covers.{At}

@@ -1,6 +1,7 @@
 -- The forms of the three texts as relations over bytes, written from the documents' sentences: what a number, a name, a table, a line, a header, a cell line,
 -- a line of literals and a difference is. Each says that bytes are such a thing and what they mean; no reader stands here.
-use Rattle.base.specs.{ℕ, ◌+◌, ◌-◌, ◌*◌, ◌≤◌, ◌<◌, ◌≡◌, ◌⊎◌, Bool, true, false, List, [], ◌∷◌, ◌++◌, Memᴰ, length, replicate}
+use Rattle.std.specs.Prelude.{◌+◌, ◌-◌, ◌*◌, ◌≤◌, ◌<◌, ◌≡◌, ◌⊎◌, ◌∷◌, ◌++◌}
+use Rattle.base.specs.{ℕ, Bool, true, false, List, [], Memᴰ, length, replicate}
 use Rattle.model.specs.{text}
 use Rattle.model.specs.declared.Cell.{Cell}
 use Rattle.model.specs.declared.Header.{Header}

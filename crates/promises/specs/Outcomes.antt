@@ -1,5 +1,6 @@
 -- Every refusal of a call by its condition: those of its texts, 15 and 16; with `Earliest.Decided`, 17 and 18.
-use Rattle.base.specs.{ℕ, ◌<◌, ◌≡◌, ◌⊎◌, ◌↔◌, Memᴰ}
+use Rattle.std.specs.Prelude.{◌<◌, ◌≡◌, ◌⊎◌, ◌↔◌}
+use Rattle.base.specs.{ℕ, Memᴰ}
 use Rattle.model.specs.Graph.{Graph}
 use Rattle.model.specs.{topological_order, and_vars, refused, Call, Design, map_texts, Mappable, Stands, OrderOfAll, Many, FirstOverLimit}
 use Rattle.promises.specs.Refusals.{ToDesign, TextsFault, Refusals}

@@ -1,6 +1,7 @@
 -- What is promised of a call, a field for each demand and each request, by the documents' sentences in their order; and with the memory that the call was
 -- lent, the whole of what `mapper::map_texts` says.
-use Rattle.base.specs.{ℕ, ◌≤◌, Bool, List, length}
+use Rattle.std.specs.Prelude.{◌≤◌}
+use Rattle.base.specs.{ℕ, Bool, List, length}
 use Rattle.model.specs.{Call, call_of, map_texts, answer_of, Memory, Values, AsciiForms, Sequenced, EitherEnd, Untimed, Listed, Former}
 use Rattle.model.specs.{Shuffles}
 use Rattle.model.specs.declared.Answer.{Answer}

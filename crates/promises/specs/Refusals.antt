@@ -1,7 +1,8 @@
 -- The refusals as conditions over the bytes of the texts, a constructor for each number, by the forms of `LineForms`. A text is refused with a number at a place
 -- where what stands before the place is accepted, and what stands there meets the number's condition and none that is tried before it. No reader's definition
 -- is used but `graph_of`, which gathers the accepted lines' literals by kind: a reader is named only where `Exactly` says what it does.
-use Rattle.base.specs.{ℕ, suc, ◌+◌, ◌-◌, ◌*◌, ◌^◌, ◌≤◌, ◌<◌, ◌≡◌, ◌⊎◌, ◌↔◌, Bool, true, false, List, [], ◌∷◌, ◌++◌, map, Memᴰ, length}
+use Rattle.std.specs.Prelude.{◌+◌, ◌-◌, ◌*◌, ◌^◌, ◌≤◌, ◌<◌, ◌≡◌, ◌⊎◌, ◌↔◌, ◌∷◌, ◌++◌}
+use Rattle.base.specs.{ℕ, suc, Bool, true, false, List, [], map, Memᴰ, length}
 use Rattle.base.specs.{get_or, drop, replicate}
 use Rattle.model.specs.{bit, from, Read, holds, fault, name_of, var_of, Kind, an_input, an_output, an_and, Item, graph_of, InputArrival, timed_by}
 use Rattle.model.specs.{cells_for, Call, Design, design_of, read_texts}

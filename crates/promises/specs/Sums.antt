@@ -1,5 +1,6 @@
 -- What is promised of a tally "handed on by these calls from an empty one".
-use Rattle.base.specs.{ℕ, ◌+◌, ◌≤◌, ◌<◌, ◌≡◌, Bool, true, cond, ◌&&◌, Option, some, List, [], ◌∷◌, ◌++◌, map, length, take, get_or}
+use Rattle.std.specs.Prelude.{◌+◌, ◌≤◌, ◌<◌, ◌≡◌, ◌&&◌, ◌∷◌, ◌++◌}
+use Rattle.base.specs.{ℕ, Bool, true, cond, Option, some, List, [], map, length, take, get_or}
 use Rattle.model.specs.{each, same, and_then, only, below, text, parts, fields, holds, read_library, figure, sum, mapped, Call, map_texts}
 use Rattle.model.specs.{empty_tally, in_width, count_text, report_line, cell_line}
 use Rattle.model.specs.declared.Cell.{Cell}

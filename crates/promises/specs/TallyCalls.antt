@@ -1,5 +1,6 @@
 -- The calls over a tally of 97 numbers: the whole of what `tally_call::count` and `tally_call::report` say.
-use Rattle.base.specs.{ℕ, ◌≤◌, ◌<◌, ◌≡◌, List, [], length, take, replicate}
+use Rattle.std.specs.Prelude.{◌≤◌, ◌<◌, ◌≡◌}
+use Rattle.base.specs.{ℕ, List, [], length, take, replicate}
 use Rattle.model.specs.{Read, holds, fault, read_library, mapped, Call, map_texts, refusal_of, verdict_refusal, count_text, report_of}
 use Rattle.model.specs.declared.Cell.{Cell}
 use Rattle.model.specs.declared.Counted.{Counted}

@@ -1,6 +1,7 @@
 -- What is promised of a tally and of its report, by the bytes of the netlists that were counted: apart from the definitions that count and that print. A cell's
 -- gates are the gate lines that name it, its netlists those with such a line, and the report's bytes are read back, line by line and word by word.
-use Rattle.base.specs.{ℕ, suc, ◌*◌, ◌<◌, ◌≡◌, Bool, cond, ◌&&◌, Option, some, List, [], ◌∷◌, ◌++◌, map, eqb, ltb, length, get_or}
+use Rattle.std.specs.Prelude.{◌*◌, ◌<◌, ◌≡◌, ◌&&◌, ◌∷◌, ◌++◌}
+use Rattle.base.specs.{ℕ, suc, Bool, cond, Option, some, List, [], map, eqb, ltb, length, get_or}
 use Rattle.model.specs.{same, and_then, only, keep, Line, ended_by_ten, text, parts, lines_from, fields, name_of, cell_at, figure, sum}
 use Rattle.model.specs.declared.Cell.{Cell}
 use Rattle.model.specs.declared.Tally.{Tally}

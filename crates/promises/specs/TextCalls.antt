@@ -1,5 +1,6 @@
 -- A call that writes a text into the bytes that it is lent, and the call that writes our cell text for a genlib text.
-use Rattle.base.specs.{ℕ, ◌≡◌, List, ◌++◌, length, drop}
+use Rattle.std.specs.Prelude.{◌≡◌, ◌++◌}
+use Rattle.base.specs.{ℕ, List, length, drop}
 use Rattle.model.specs.{Read, holds, fault, genlib_text, written_pair, GenlibDemand}
 use Rattle.model.specs.declared.Written.{Written}
 use Rattle.model.specs.declared.Written.TheVariants.{Length, Refused}

@@ -1,5 +1,6 @@
 -- The demands for two channels, for every call: library text, each channel's texts and number of lent bytes, and number of lent words.
-use Rattle.base.specs.{ℕ, ◌+◌, ◌≤◌, ◌<◌, ◌≡◌, Bool, true, false, List, ◌↔◌, length}
+use Rattle.std.specs.Prelude.{◌+◌, ◌≤◌, ◌<◌, ◌≡◌, ◌↔◌}
+use Rattle.base.specs.{ℕ, Bool, true, false, List, length}
 use Rattle.model.specs.{holds, fault, refused, mapped, Design, map_texts, returned, returned_by, text_after, work_after, tried_early, Channel}
 use Rattle.model.specs.{TwoCall, channel_of, two_call_of, alone, need_of, needs_of, map_two, answers_of, two_work_after, Mappable}
 use Rattle.model.specs.{AlikeTexts}

@@ -1,5 +1,6 @@
 -- What is promised of a netlist that is printed by a certificate, over its bytes. Nothing here says what a certificate is: it must not be believed.
-use Rattle.base.specs.{ℕ, ◌≡◌, Bool, true, false, some, List, [], map, length}
+use Rattle.std.specs.Prelude.{◌≡◌}
+use Rattle.base.specs.{ℕ, Bool, true, false, some, List, [], map, length}
 use Rattle.model.specs.{sum, largest, GateLine, TimingLine, named, read_blif, read_figures, read_timings, NetArrivals, SameValues, WithinRanges}
 use Rattle.model.specs.Graph.{Graph}
 use Rattle.model.specs.Blif.{Blif}

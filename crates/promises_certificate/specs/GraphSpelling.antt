@@ -1,6 +1,7 @@
 -- The graph that a text spells, of any size: the text is what the graph is written as, in either form and with either line end, and a rest that is not read.
 -- There is no reader to believe: one text spells one graph (`theory_certificate`, `one-graph`).
-use Rattle.base.specs.{ℕ, zero, suc, ◌+◌, ◌-◌, ◌*◌, ◌/◌, ◌%◌, ◌≤◌, ◌≡◌, cond, List, [], ◌∷◌, ◌++◌, map, Memᴰ, ltb, length}
+use Rattle.std.specs.Prelude.{◌+◌, ◌-◌, ◌*◌, ◌/◌, ◌%◌, ◌≤◌, ◌≡◌, ◌∷◌, ◌++◌}
+use Rattle.base.specs.{ℕ, zero, suc, cond, List, [], map, Memᴰ, ltb, length}
 use Rattle.model.specs.{from, each, text, decimal, And, and_vars}
 use Rattle.model.specs.Graph.{Graph}
 

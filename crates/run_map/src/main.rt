@@ -3,7 +3,7 @@
 // cases and what must be printed (tests/other/src/bin/cases.rs).
 #![tactic(auto)]
 
-ghost use Rattle.base.specs.{◌≤◌};
+ghost use Rattle.std.specs.Prelude.{◌≤◌};
 
 use base_text::{Cursor, Number};
 use libc::{STDIN_FILENO, STDOUT_FILENO};

@@ -3,7 +3,8 @@
 // For a netlist that is refused, and for a report that is, one line of `refused`, number and place is printed in its place.
 #![tactic(auto)]
 
-ghost use Rattle.base.specs.{◌≡◌, length};
+ghost use Rattle.std.specs.Prelude.{◌≡◌};
+ghost use Rattle.base.specs.{length};
 
 use model::{Tally, Verdict, Written};
 use program_files::{Found, Loaded};

@@ -1,5 +1,6 @@
 -- A tally put into 97 numbers.
-use Rattle.base.specs.{ℕ, List, [], ◌∷◌}
+use Rattle.std.specs.Prelude.{◌∷◌}
+use Rattle.base.specs.{ℕ, List, []}
 use Rattle.model.specs.declared.Tally.{Tally}
 use Rattle.base_words.specs.{put_at}
 

@@ -2,7 +2,8 @@
 // another length is refused as a figure over 2^40 is.
 #![tactic(auto)]
 
-ghost use Rattle.base.specs.{◌≡◌, ◌+◌, ◌≤◌, length, take, drop};
+ghost use Rattle.std.specs.Prelude.{◌≡◌, ◌+◌, ◌≤◌};
+ghost use Rattle.base.specs.{length, take, drop};
 ghost use Rattle.promises.specs.{NetlistCount, TallyReport, overfull, tally_of};
 ghost use Rattle.base_words.specs.{put_at};
 ghost use Rattle.tally_call.specs.{stored};

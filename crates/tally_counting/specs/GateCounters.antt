@@ -1,5 +1,6 @@
 -- The gates of a netlist, counted by cell.
-use Rattle.base.specs.{ℕ, ◌+◌, ◌≤◌, ◌<◌, ◌≡◌, Option, none, some, List, length, get_or, set, replicate}
+use Rattle.std.specs.Prelude.{◌+◌, ◌≤◌, ◌<◌, ◌≡◌}
+use Rattle.base.specs.{ℕ, Option, none, some, List, length, get_or, set, replicate}
 use Rattle.model.specs.{cells_of, gate_in, gates_in, after_gates, area_of, times}
 use Rattle.model.specs.declared.Library.{Library}
 use Rattle.base_text.specs.{line_at, past_line}

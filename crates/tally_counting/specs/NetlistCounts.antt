@@ -1,5 +1,6 @@
 -- What is read of a netlist: its cells' counts, or 29.
-use Rattle.base.specs.{ℕ, ◌<◌, ◌≡◌, Bool, true, false, ◌&&◌, List, ltb, get_or}
+use Rattle.std.specs.Prelude.{◌<◌, ◌≡◌, ◌&&◌}
+use Rattle.base.specs.{ℕ, Bool, true, false, List, ltb, get_or}
 use Rattle.model.specs.{Read, holds, fault, next, unless, cells_of, in_width, read_counted, times, counted}
 use Rattle.model.specs.declared.Cell.{Cell}
 use Rattle.model.specs.declared.Library.{Library}

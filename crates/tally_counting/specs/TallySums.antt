@@ -1,5 +1,6 @@
 -- The tally with a netlist's counts added, place by place, and the sums of a report.
-use Rattle.base.specs.{ℕ, zero, suc, ◌+◌, ◌*◌, ◌^◌, ◌≤◌, ◌<◌, ◌≡◌, List, [], ◌∷◌, ltb, length, get_or, set}
+use Rattle.std.specs.Prelude.{◌+◌, ◌*◌, ◌^◌, ◌≤◌, ◌<◌, ◌≡◌, ◌∷◌}
+use Rattle.base.specs.{ℕ, zero, suc, List, [], ltb, length, get_or, set}
 use Rattle.model.specs.{one, no_cell, cell_at, cells_of}
 use Rattle.model.specs.declared.Library.{Library}
 use Rattle.model.specs.declared.Tally.{Tally}

@@ -2,7 +2,8 @@
 // tally handed on by these calls from an empty one."
 #![tactic(auto)]
 
-ghost use Rattle.base.specs.{◌≡◌, true, [], ◌∷◌, ℕ, ◌+◌, ◌*◌, ◌^◌, ◌≤◌, ◌<◌, leb, ltb, length, get_or};
+ghost use Rattle.std.specs.Prelude.{◌≡◌, ◌∷◌, ◌+◌, ◌*◌, ◌^◌, ◌≤◌, ◌<◌};
+ghost use Rattle.base.specs.{true, [], ℕ, leb, ltb, length, get_or};
 ghost use Rattle.model.specs.{one, all, fault, next, refusal_of, verdict_refusal, cells_of, in_width, expected_lines, nothing_left, preamble, wire_pairs};
 ghost use Rattle.model.specs.{timings, behind_gates, outputs_of, count_text, counted_answer};
 ghost use Rattle.tally_lines.specs.{Listed};

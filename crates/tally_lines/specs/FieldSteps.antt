@@ -1,6 +1,7 @@
 -- The fields of a line from a place on, and steps over them: a step leads past a field that passes its test, to the place of the next. Behind the last field
 -- that is one past the line's length, and two past it once a field failed, or was missing.
-use Rattle.base.specs.{ℕ, ◌+◌, Bool, true, false, ◌&&◌, List, [], ◌∷◌, leb, length, drop, get_or}
+use Rattle.std.specs.Prelude.{◌+◌, ◌&&◌, ◌∷◌}
+use Rattle.base.specs.{ℕ, Bool, true, false, List, [], leb, length, drop, get_or}
 use Rattle.model.specs.{fields}
 
 abbrev pub pick_n : Bool → ℕ → ℕ → ℕ

@@ -1,5 +1,6 @@
 -- The test of each kind of field, and the answer to whether a line is a gate's.
-use Rattle.base.specs.{ℕ, ◌≤◌, ◌<◌, ◌≡◌, Bool, Option, none, some, List, length, get_or}
+use Rattle.std.specs.Prelude.{◌≤◌, ◌<◌, ◌≡◌}
+use Rattle.base.specs.{ℕ, Bool, Option, none, some, List, length, get_or}
 use Rattle.model.specs.{same, decimal, no_cell, are_digits, is_label, is_phase_net, is_bound}
 use Rattle.model.specs.declared.Library.{Library}
 use Rattle.tally_lines.specs.declared.Kind.{Kind}

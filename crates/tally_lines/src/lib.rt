@@ -3,7 +3,8 @@
 // field is left, or that one was not of its kind.
 #![tactic(auto)]
 
-ghost use Rattle.base.specs.{◌≡◌, map, ℕ, ◌+◌, ◌-◌, ◌≤◌, length, drop};
+ghost use Rattle.std.specs.Prelude.{◌≡◌, ◌+◌, ◌-◌, ◌≤◌};
+ghost use Rattle.base.specs.{map, ℕ, length, drop};
 ghost use Rattle.model.specs.{all, same, below, decimal, fields, cells_of, are_digits, is_label, is_phase_net, is_inner_net, is_gate_net};
 ghost use Rattle.model.specs.{is_bound, of_form, is_name_list, gate_form, gate_of, is_wire, is_figures, is_timing};
 ghost use Rattle.tally_lines.specs.{fields_at, step_at, steps_at, kind_test, which_of, Listed};

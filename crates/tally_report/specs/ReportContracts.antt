@@ -1,5 +1,6 @@
 -- What is answered and left of the lent bytes.
-use Rattle.base.specs.{◌≡◌, List, ℕ}
+use Rattle.std.specs.Prelude.{◌≡◌}
+use Rattle.base.specs.{List, ℕ}
 use Rattle.model.specs.{written_answer, written_pair, written_by, written_after, Read}
 use Rattle.model.specs.declared.Written.{Written}
 

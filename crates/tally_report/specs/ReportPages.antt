@@ -1,5 +1,6 @@
 -- A report's lines, and a tally that can be reported.
-use Rattle.base.specs.{ℕ, List, ◌∷◌, length, leb}
+use Rattle.std.specs.Prelude.{◌∷◌}
+use Rattle.base.specs.{ℕ, List, length, leb}
 use Rattle.model.specs.{each, from, Read, holds, unless, decimal, cells_of, cell_line}
 use Rattle.model.specs.declared.Library.{Library}
 use Rattle.model.specs.declared.Tally.{Tally}

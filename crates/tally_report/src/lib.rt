@@ -3,7 +3,8 @@
 // memory as it was.
 #![tactic(auto)]
 
-ghost use Rattle.base.specs.{◌≡◌, ℕ, ◌+◌, ◌^◌, ◌≤◌, ◌<◌, length, take, get_or};
+ghost use Rattle.std.specs.Prelude.{◌≡◌, ◌+◌, ◌^◌, ◌≤◌, ◌<◌};
+ghost use Rattle.base.specs.{ℕ, length, take, get_or};
 ghost use Rattle.model.specs.{decimal, cells_of, sum, report_line, cell_line, total_line};
 ghost use Rattle.model.specs.{report_text, report_of};
 ghost use Rattle.base_words.specs.{put_at};

@@ -1,5 +1,6 @@
 -- A graph and a library free of the refusals that their texts can bring, as far as mapping depends on it.
-use Rattle.base.specs.{ℕ, ◌^◌, ◌≡◌, Bool, true, not, ◌&&◌, List, [], ◌∷◌, ◌++◌, Memᴰ, T, eqb, leb, ltb, length}
+use Rattle.std.specs.Prelude.{◌^◌, ◌≡◌, ◌&&◌, ◌∷◌, ◌++◌}
+use Rattle.base.specs.{ℕ, Bool, true, not, List, [], Memᴰ, T, eqb, leb, ltb, length}
 use Rattle.model.specs.{all, each, elem, same, is_name, name_of, And, var_of, unordered, and_vars}
 use Rattle.model.specs.Graph.{Graph}
 use Rattle.model.specs.declared.Cell.{Cell}

@@ -1,5 +1,6 @@
 -- A graph that is read is in the limits.
-use Rattle.base.specs.{ℕ, ◌+◌, ◌*◌, ◌≤◌, Memᴰ, length}
+use Rattle.std.specs.Prelude.{◌+◌, ◌*◌, ◌≤◌}
+use Rattle.base.specs.{ℕ, Memᴰ, length}
 use Rattle.model.specs.{And}
 use Rattle.model.specs.Graph.{Graph}
 

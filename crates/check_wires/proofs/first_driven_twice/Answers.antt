@@ -55,11 +55,10 @@ loop-i-preserved c =
     )
 
 pub returns : goal.returns
-returns c =
-    (
-      record { most = c.loop-i.invariant.0; fresh = c.loop-i.invariant.1; twice_driven = λ h. absurd (omega arith) },
-      λ e. subst (Chained c.args.nets.now c.loop-i.heads c.loop-i.links) e c.loop-i.invariant.2,
-    )
+returns c = (
+  record { most = c.loop-i.invariant.0; fresh = c.loop-i.invariant.1; twice_driven = λ h. absurd (omega arith) },
+  λ e. subst (Chained c.args.nets.now c.loop-i.heads c.loop-i.links) e c.loop-i.invariant.2,
+)
 
 pub overflow_add-i-in-loop-i : goal.overflow_add-i-in-loop-i
 overflow_add-i-in-loop-i c = omega arith

@@ -40,11 +40,10 @@ pub loop-k-smaller : goal.loop-k-smaller
 loop-k-smaller c = omega (arith, c.loop-k-test.true)
 
 pub loop-k-preserved : goal.loop-k-preserved
-loop-k-preserved c =
-    (
-      length-set c.loop-k.pins _ _ ∙ c.loop-k.invariant.0,
-      stored (cells_by (cells_of c.args.lib) c.args.ids.now) c.loop-k.pins c.loop-k.k _ (omega (arith, c.requires.few, c.loop-k-test.true, c.loop-k.invariant.0)) c.pins_of.ensures c.loop-k.invariant.1,
-    )
+loop-k-preserved c = (
+  length-set c.loop-k.pins _ _ ∙ c.loop-k.invariant.0,
+  stored (cells_by (cells_of c.args.lib) c.args.ids.now) c.loop-k.pins c.loop-k.k _ (omega (arith, c.requires.few, c.loop-k-test.true, c.loop-k.invariant.0)) c.pins_of.ensures c.loop-k.invariant.1,
+)
 
 pub returns : goal.returns
 returns c =

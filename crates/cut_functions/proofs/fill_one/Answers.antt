@@ -35,6 +35,9 @@ set_function-requires c =
 pub returns : goal.returns
 returns c =
     let a = c.args in
-    let sound = c.requires.0.sound a.v c.requires.0.inside in record { work_after = one-filled a.work.now a.m a.v a.k c.cut_word-x.result (leaves_of c.load_cut-c.result) _
+    let sound = c.requires.0.sound a.v c.requires.0.inside in record {
+      work_after = one-filled a.work.now a.m a.v a.k c.cut_word-x.result (leaves_of c.load_cut-c.result) _
           (cut-leaves a.work.now a.m a.v a.k sound c.requires.3 c.load_cut-c.result c.load_cut-c.ensures)
-          c.cut_word-x.ensures.0 c.set_function.ensures; early = c.cut_word-x.ensures.1 }
+          c.cut_word-x.ensures.0 c.set_function.ensures;
+      early = c.cut_word-x.ensures.1;
+    }

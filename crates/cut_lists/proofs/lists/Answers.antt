@@ -13,11 +13,10 @@ slot-v-requires c =
     ((represented_operands _ _ _ c.requires _ _ c.loop-i.invariant.2).capacity, omega (arith, c.requires.ordered))
 
 pub list_node-done-requires : goal.list_node-done-requires
-list_node-done-requires c =
-    (
-      represented_operands _ _ _ c.requires _ _ c.loop-i.invariant.2,
-      step-inside _ _ _ c.requires c.loop-i.i c.loop-i-test.true c.loop-i.invariant.1 _ c.loop-i.invariant.2 _ c.slot-v.ensures _ refl,
-    )
+list_node-done-requires c = (
+  represented_operands _ _ _ c.requires _ _ c.loop-i.invariant.2,
+  step-inside _ _ _ c.requires c.loop-i.i c.loop-i-test.true c.loop-i.invariant.1 _ c.loop-i.invariant.2 _ c.slot-v.ensures _ refl,
+)
 
 pub returns-then-not-done : goal.returns-then-not-done
 returns-then-not-done c =

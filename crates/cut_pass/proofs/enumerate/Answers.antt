@@ -26,16 +26,22 @@ returns-in-Accepted c =
     let a = c.args in
     let p = c.ordered_count-ordered in
     let n : ℕ = p.result in
-    let e = sym c.in-Accepted.is ∙ c.lists-verdict.ensures.value in record { value = e ∙ ap (λ (i : ℕ). (lists.listing a.work.now a.h.size i).answer) p.ensures; work_after = c.functions.ensures
+    let e = sym c.in-Accepted.is ∙ c.lists-verdict.ensures.value in record {
+      value = e ∙ ap (λ (i : ℕ). (lists.listing a.work.now a.h.size i).answer) p.ensures;
+      work_after = c.functions.ensures
           ∙ ap (λ (q : List ℕ). filling.filled q a.h.size n) c.lists-verdict.ensures.work_after
           ∙ sym (after-accepted a.work.now a.h.size n (sym e))
-          ∙ ap (enumerated a.work.now a.h.size) p.ensures }
+          ∙ ap (enumerated a.work.now a.h.size) p.ensures;
+    }
 
 pub returns-in-Refused : goal.returns-in-Refused
 returns-in-Refused c =
     let a = c.args in
     let p = c.ordered_count-ordered in
     let n : ℕ = p.result in
-    let e = sym c.in-Refused.is ∙ c.lists-verdict.ensures.value in record { value = e ∙ ap (λ (i : ℕ). (lists.listing a.work.now a.h.size i).answer) p.ensures; work_after = c.lists-verdict.ensures.work_after
+    let e = sym c.in-Refused.is ∙ c.lists-verdict.ensures.value in record {
+      value = e ∙ ap (λ (i : ℕ). (lists.listing a.work.now a.h.size i).answer) p.ensures;
+      work_after = c.lists-verdict.ensures.work_after
           ∙ sym (after-refused a.work.now a.h.size n _ _ (sym e))
-          ∙ ap (enumerated a.work.now a.h.size) p.ensures }
+          ∙ ap (enumerated a.work.now a.h.size) p.ensures;
+    }
