@@ -1,5 +1,5 @@
 -- `cells_reader::cells` meets its contract. The invariant: the cells so far and what the lines from here on give are what the text gives, and the library holds its cells and nothing else; the measure is the room that is left.
-use Rattle.base.specs.{sym, ap, ◌∙◌, subst, arith, [], length}
+use Rattle.base.specs.{sym, ap, ◌∙◌, subst, arith, length}
 use Rattle.model.specs.{library_of, library_answer}
 use Rattle.model.specs.declared.Library.{Library}
 use Rattle.model.specs.declared.Verdict.TheVariants.{Accepted}

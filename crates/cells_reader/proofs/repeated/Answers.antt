@@ -1,5 +1,5 @@
 -- `cells_reader::repeated` meets its contract. The invariant: none of the first i cells has the name; the measure is what is left.
-use Rattle.base.specs.{◌≡◌, sym, ap, ◌∙◌, ◌+◌, arith, false}
+use Rattle.base.specs.{◌≡◌, sym, ap, ◌∙◌, ◌+◌, arith}
 use Rattle.model.specs.{name_of}
 use Rattle.cells_reader.specs.{is_repeated}
 use Rattle.cells_reader.proofs.CellValidation.{repeated_none, repeated_step, repeated_more}
