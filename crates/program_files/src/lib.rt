@@ -3,9 +3,12 @@
 
 ghost use Rattle.std.specs.Prelude.{◌≡◌, ◌+◌, ◌-◌, ◌≤◌};
 ghost use Rattle.base.specs.{length};
+ghost use Rattle.std.specs.Io.{ReadsAtMost};
 ghost use Rattle.program_files.specs.{end_from, Found_in, Loaded_in};
 
-use libc::{ENOENT, STDERR_FILENO, STDOUT_FILENO};
+use std::io::{ErrorKind, Read, Write};
+use std::rt::Files;
+use std::{fs, io};
 
 // Texts that stand one after the other in one input, each ended by byte 0: how the programs that run on stored cases take theirs apart.
 
@@ -38,104 +41,100 @@ pub enum Loaded {
     Unreadable,
 }
 
-// The program, the file and errno's text. It stands right behind the call that failed, for any other may change errno.
-fn say_unreadable(program: &[u8], path: &[u8]) {
-    io::write_all(STDERR_FILENO, program);
-    io::write_all(STDERR_FILENO, b": ");
-    os::fail(path);
+// The system's reason, without the error's number: `Is a directory`. The longest has fewer than 256 bytes, and the bytes behind it stay 0.
+fn reason(error: io::Error, buf: &mut [u8; 320]) -> &str {
+    let mut rest = &mut buf[..];
+    let _ = write!(rest, "{error}");
+    let text = str::from_utf8(buf).unwrap_or("");
+    match text.split_once(" (os error ") {
+        Some((reason, _)) => reason,
+        None => text.trim_end_matches('\0'),
+    }
 }
 
-// One read: so many bytes, none at the file's end.
-fn read_some(fd: i32, buf: &mut [u8]) -> Loaded
-    ensures { Loaded_in result buf.new }
-{
-    let got = libc::read(fd, buf);
-    if got < 0 {
-        return Loaded::Unreadable;
-    }
-    let n = io::count(got, buf);
-    Loaded::Bytes(n)
+// The program, the file and the reason. That standard error cannot be written is said nowhere.
+fn say_unreadable(rt: &impl Eprint, program: &str, path: &str, error: io::Error) {
+    let mut buf = [0u8; 320];
+    let reason = reason(error, &mut buf);
+    let _ = eprintln!(rt; "{program}: {path}: {reason}");
 }
 
 // An open file's bytes, up to its end or the buffer's; a pipe gives them in pieces. The bytes before a read that fails are no text: they count
 // for nothing.
-fn fill(fd: i32, buf: &mut [u8]) -> Loaded
-    ensures { Loaded_in result buf.new }
+pub fn fill(file: &mut impl Read, buf: &mut [u8]) -> io::Result<usize>
+    ensures { ReadsAtMost result buf.new }
 {
     let mut done = 0;
     while done < buf.len() {
-        let more = read_some(fd, &mut buf[done..]);
-        let Loaded::Bytes(n) = more else {
-            return Loaded::Unreadable;
-        };
+        let n = file.read(&mut buf[done..])?;
         if n == 0 {
-            return Loaded::Bytes(done);
+            return Ok(done);
         }
         done += n;
     }
-    Loaded::Bytes(done)
+    Ok(done)
 }
 
 // The file's first bytes, at most buf's length. The buffer has room for one byte more than 65,536, so that "one over 65,536 bytes brings refusal 1".
-// A file is absent where the system says that there is none of its name (ENOENT). The file is closed again before anything is printed: with
+// A file is absent where the system says that there is none of its name. The file is closed again before anything is printed: with
 // standard output closed it may have its number.
-pub fn find(program: &[u8], path: &[u8], buf: &mut [u8]) -> Found
+pub fn find<R: Files + Eprint>(rt: &R, program: &str, path: &str, buf: &mut [u8]) -> Found
     requires { length buf.old ≡ 65537 }
     ensures { Found_in result buf.new }
 {
-    let fd = os::open_read(path);
-    if fd < 0 {
-        if os::errno() == ENOENT {
-            return Found::Absent;
+    let mut file = match fs::open(rt, path) {
+        Ok(file) => file,
+        Err(e) if e.kind() == ErrorKind::NotFound => return Found::Absent,
+        Err(e) => {
+            say_unreadable(rt, program, path, e);
+            return Found::Unreadable;
         }
-        say_unreadable(program, path);
-        return Found::Unreadable;
-    }
-    let r = fill(fd, buf);
-    let Loaded::Bytes(n) = r else {
-        say_unreadable(program, path);
-        libc::close(fd);
-        return Found::Unreadable;
     };
-    libc::close(fd);
-    Found::Bytes(n)
+    let filled = fill(&mut file, buf);
+    drop(file);
+    match filled {
+        Ok(n) => Found::Bytes(n),
+        Err(e) => {
+            say_unreadable(rt, program, path, e);
+            Found::Unreadable
+        }
+    }
 }
 
-pub fn load(program: &[u8], path: &[u8], buf: &mut [u8]) -> Loaded
+pub fn load<R: Files + Eprint>(rt: &R, program: &str, path: &str, buf: &mut [u8]) -> Loaded
     requires { length buf.old ≡ 65537 }
     ensures { Loaded_in result buf.new }
 {
-    match find(program, path, buf) {
+    match find(rt, program, path, buf) {
         Found::Bytes(n) => Loaded::Bytes(n),
         Found::Absent => Loaded::Bytes(0),
         Found::Unreadable => Loaded::Unreadable,
     }
 }
 
-// A text printed: whether it could be.
-pub fn put(bytes: &[u8]) -> bool {
-    io::write_all(STDOUT_FILENO, bytes)
+// A text printed.
+pub fn put(rt: &impl Print, bytes: &[u8]) -> io::Result<()> {
+    rt.write_all(bytes)
 }
 
 // A space and a number.
-pub fn number(n: usize) -> bool {
-    put(b" ") && io::print_decimal(STDOUT_FILENO, n as u64)
+pub fn number(rt: &impl Print, n: usize) -> io::Result<()> {
+    print!(rt; " {n}")
 }
 
 // A word, two numbers and the line's end.
-pub fn line(word: &[u8], a: usize, b: usize) -> bool {
-    put(word) && number(a) && number(b) && put(b"\n")
+pub fn line(rt: &impl Print, word: &str, a: usize, b: usize) -> io::Result<()> {
+    println!(rt; "{word} {a} {b}")
 }
 
 // "one line of `refused`, number and place, as `refused 17 0`".
-pub fn refused(number: usize, place: usize) -> bool {
-    line(b"refused", number, place)
+pub fn refused(rt: &impl Print, number: usize, place: usize) -> io::Result<()> {
+    line(rt, "refused", number, place)
 }
 
 // The documents fix what is printed; that it could not be, on a full disk or a closed pipe, is said on standard error.
-pub fn said(written: bool, program: &[u8]) {
-    if !written {
-        io::write_all(STDERR_FILENO, program);
-        io::write_all(STDERR_FILENO, b": standard output cannot be written\n");
+pub fn said(rt: &impl Eprint, written: io::Result<()>, program: &str) {
+    if written.is_err() {
+        let _ = eprintln!(rt; "{program}: standard output cannot be written");
     }
 }
