@@ -15,7 +15,7 @@ use Rattle.graph_order.specs.{Fit}
 use Rattle.graph_loading.specs.declared.Literals.{Literals}
 use Rattle.graph_loading.specs.declared.LineResult.{LineResult}
 use Rattle.graph_loading.specs.declared.LineResult.TheVariants.{To, Refused as Stop}
-use Rattle.graph_loading.specs.{literals, expected_code, expected_count, literals_fit, is_already_defined, stored_line}
+use Rattle.graph_loading.specs.{expected_code, expected_count, literals_fit, is_already_defined, stored_line}
 use Rattle.graph_loading.proofs.{fit-right, expected_kind_value, expected-input, expected-output, expected-and, item_of, grown, more, State, state_more, fault-holds}
 use Rattle.graph_loading.proofs.{verdict-next, next-holds, joined, defined_more, Stored, stored-none, stored_more}
 use Rattle.graph_binary.specs.{pass_step, pass_words, as_verdict, input_literals, input_step, input_left, gate_step, gate_left}

@@ -22,8 +22,10 @@ read_gates-requires c =
 
 pub returns-in-To : goal.returns-in-To
 returns-in-To c =
-    load-done c.args.s.now c.args.h c.requires.1 c.args.work.now (header-fit c.args.s.now c.args.h c.args.work.now c.requires.0 c.requires.2) c.requires.0 _ _ _ _ c.open_words.ensures c.store_inputs.ensures c.read_outputs.ensures.answer c.read_outputs.ensures.left _ c.in-To.is _ _ c.read_gates.ensures.answer c.read_gates.ensures.left
+    let l = load-done c.args.s.now c.args.h c.requires.1 c.args.work.now (header-fit c.args.s.now c.args.h c.args.work.now c.requires.0 c.requires.2) c.requires.0 _ _ _ _ c.open_words.ensures c.store_inputs.ensures c.read_outputs.ensures.answer c.read_outputs.ensures.left _ c.in-To.is _ _ c.read_gates.ensures.answer c.read_gates.ensures.left in
+    record { answer = l.0; left = l.1.0; refusal = l.1.1 }
 
 pub returns-in-Refused : goal.returns-in-Refused
 returns-in-Refused c =
-    load_stop c.args.s.now c.args.h c.requires.1 c.args.work.now (header-fit c.args.s.now c.args.h c.args.work.now c.requires.0 c.requires.2) c.requires.0 _ _ _ _ c.open_words.ensures c.store_inputs.ensures c.read_outputs.ensures.answer c.read_outputs.ensures.left _ _ c.in-Refused.is
+    let l = load_stop c.args.s.now c.args.h c.requires.1 c.args.work.now (header-fit c.args.s.now c.args.h c.args.work.now c.requires.0 c.requires.2) c.requires.0 _ _ _ _ c.open_words.ensures c.store_inputs.ensures c.read_outputs.ensures.answer c.read_outputs.ensures.left _ _ c.in-Refused.is in
+    record { answer = l.0; left = l.1.0; refusal = l.1.1 }

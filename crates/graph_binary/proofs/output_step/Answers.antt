@@ -1,5 +1,5 @@
 -- `graph_binary::output_step` meets its contract: each return knows what the line was found to be.
-use Rattle.base.specs.{sym, ◌∙◌, not-true, not-false, rules}
+use Rattle.base.specs.{sym, ◌∙◌, rules}
 use Rattle.graph_loading.proofs.{fit-defined}
 use Rattle.graph_binary.proofs.BinaryPasses.{step-missing, step-broken, step-over, step-output}
 use Rattle.graph_binary.proofs.output_step.Goals as goal
@@ -11,15 +11,15 @@ returns-then-at-s c =
 
 pub returns-then-not-fits : goal.returns-then-not-fits
 returns-then-not-fits c =
-    let t = step-over c.args.s.now c.args.h c.args.k c.args.at c.args.work.now c.if-at-s.false _ _ (sym c.number_then.ensures ∙ c.in-Value.is) (sym c.fits2.ensures ∙ not-true _ c.if-not-fits.true) in
+    let t = step-over c.args.s.now c.args.h c.args.k c.args.at c.args.work.now c.if-at-s.false _ _ (sym c.number_then.ensures ∙ c.in-Value.is) (sym c.fits.ensures ∙ c.if-not-fits.true) in
     record { answer = sym t.0; left = sym t.1 }
 
 pub store_line-requires : goal.store_line-requires
-store_line-requires c = (search rules, search rules, fit-defined _ _ (sym c.fits2.ensures ∙ not-false _ c.if-not-fits.false))
+store_line-requires c = (search rules, search rules, fit-defined _ _ (sym c.fits.ensures ∙ c.if-not-fits.false))
 
 pub returns-else-not-fits : goal.returns-else-not-fits
 returns-else-not-fits c =
-    let t = step-output c.args.s.now c.args.h c.args.k c.args.at c.args.work.now c.if-at-s.false _ _ (sym c.number_then.ensures ∙ c.in-Value.is) (sym c.fits2.ensures ∙ not-false _ c.if-not-fits.false) in
+    let t = step-output c.args.s.now c.args.h c.args.k c.args.at c.args.work.now c.if-at-s.false _ _ (sym c.number_then.ensures ∙ c.in-Value.is) (sym c.fits.ensures ∙ c.if-not-fits.false) in
     record { answer = sym t.0; left = c.store_line.ensures ∙ sym t.1 }
 
 pub returns-in-Broken : goal.returns-in-Broken

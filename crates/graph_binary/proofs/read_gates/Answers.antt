@@ -1,7 +1,7 @@
 -- `graph_binary::read_gates` meets its contract. The invariant: what the ANDs from here on give is what all give; the measure is those that are left.
 use Rattle.base.specs.{sym, ap, ◌∙◌, arith, rules}
 use Rattle.graph_order.proofs.{fit_length}
-use Rattle.graph_binary.specs.{gate_step, as_verdict}
+use Rattle.graph_binary.specs.{as_verdict}
 use Rattle.graph_binary.proofs.BinaryPasses.{rest-first, rest-on, rest_stop, rest_end}
 use Rattle.graph_binary.proofs.read_gates.Goals as goal
 

@@ -1,7 +1,6 @@
 -- `graph_binary::read_outputs` meets its contract. The invariant: what the output lines from here on give is what all give; the measure is those that are left.
 use Rattle.base.specs.{sym, ◌∙◌, arith, rules}
 use Rattle.graph_order.proofs.{fit_length}
-use Rattle.graph_binary.specs.{output_step}
 use Rattle.graph_binary.proofs.BinaryPasses.{rest-first, rest-on, rest_stop, rest_end}
 use Rattle.graph_binary.proofs.read_outputs.Goals as goal
 
@@ -11,7 +10,8 @@ output_step-requires c =
 
 pub returns-in-Refused : goal.returns-in-Refused
 returns-in-Refused c =
-    rest_stop _ _ _ _ _ _ _ _ _ c.loop-k.invariant c.loop-k-test.true _ _ _ (sym c.output_step.ensures.answer ∙ c.in-Refused.is) c.output_step.ensures.left
+    let r = rest_stop _ _ _ _ _ _ _ _ _ c.loop-k.invariant c.loop-k-test.true _ _ _ (sym c.output_step.ensures.answer ∙ c.in-Refused.is) c.output_step.ensures.left in
+    record { answer = r.0; left = r.1 }
 
 pub loop-k-preserved : goal.loop-k-preserved
 loop-k-preserved c =
@@ -19,7 +19,8 @@ loop-k-preserved c =
 
 pub returns : goal.returns
 returns c =
-    rest_end _ _ _ _ _ _ _ _ _ c.loop-k.invariant c.loop-k-test.false
+    let r = rest_end _ _ _ _ _ _ _ _ _ c.loop-k.invariant c.loop-k-test.false in
+    record { answer = r.0; left = r.1 }
 
 pub loop-k-init : goal.loop-k-init
 loop-k-init c = rest-first _ _ _ _ _ _
