@@ -2,7 +2,7 @@
 --     compare-..                  the native comparison and the order
 --     first_less, first-same ..   the union by the heads of the two lists
 --     union-long                  a union is no shorter than either list; where it is no longer, that one's signature has the other's
-use Rattle.base.specs.{◌≡◌, refl, sym, ap, ◌∙◌, subst, Bool, true, false, List, [], ◌∷◌, ℕ, zero, suc, ◌+◌, ◌≤◌, ◌<◌, compare, Ordering}
+use Rattle.base.specs.{◌≡◌, refl, sym, ap, ◌∙◌, subst, true, false, List, [], ◌∷◌, ℕ, zero, suc, ◌+◌, ◌≤◌, ◌<◌, compare, Ordering}
 use Rattle.base.specs.{Ordering-lt, Ordering-eq, Ordering-gt, arith, compare_is_eq, is_le, length, eq-eqb, lt-leb}
 use Rattle.model.specs.{put, insert, union}
 use Rattle.theory_graph.proofs.{compare-found}

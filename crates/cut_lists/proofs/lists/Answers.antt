@@ -1,5 +1,5 @@
 -- `cut_lists::lists` meets its contract. The invariant: the first i variables are listed, and the words hold exactly their lists. The measure is the variables that are left.
-use Rattle.base.specs.{◌≡◌, refl, sym, ap, ◌∙◌, List, ℕ, arith, not-true, not-false}
+use Rattle.base.specs.{◌≡◌, refl, sym, ap, ◌∙◌, List, ℕ, arith}
 use Rattle.cut_lists.specs.{listing, stored}
 use Rattle.cut_lists.proofs.CutListing.{represented_begin, represented_operands, step-inside, step-on, step_off}
 use Rattle.cut_lists.proofs.lists.Goals as goal
@@ -20,14 +20,15 @@ list_node-done-requires c = (
 
 pub returns-then-not-done : goal.returns-then-not-done
 returns-then-not-done c =
-    step_off _ _ _ c.requires c.loop-i.i c.loop-i-test.true c.loop-i.invariant.1 _ c.loop-i.invariant.2 _ c.slot-v.ensures _ c.list_node-done.ensures.work_after
-    (sym c.list_node-done.ensures.value ∙ not-true _ c.if-not-done.true)
+    let off = step_off _ _ _ c.requires c.loop-i.i c.loop-i-test.true c.loop-i.invariant.1 _ c.loop-i.invariant.2 _ c.slot-v.ensures _ c.list_node-done.ensures.work_after
+    (sym c.list_node-done.ensures.value ∙ c.if-not-done.true) in
+    record { value = off.0; work_after = off.1 }
 
 pub loop-i-preserved : goal.loop-i-preserved
 loop-i-preserved c =
     let step =
     step-on _ _ _ c.requires c.loop-i.i c.loop-i-test.true c.loop-i.invariant.1 _ c.loop-i.invariant.2 _ c.slot-v.ensures _ c.list_node-done.ensures.work_after
-    (sym c.list_node-done.ensures.value ∙ not-false _ c.if-not-done.false) in
+    (sym c.list_node-done.ensures.value ∙ c.if-not-done.false) in
     (omega arith, step.0, step.1)
 
 pub returns : goal.returns

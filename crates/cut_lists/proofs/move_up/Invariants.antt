@@ -1,5 +1,5 @@
 -- `cut_lists::move_up` meets its contract. The invariant: the keys before the i-th are moved. The measure is the number of keys that are left.
-use Rattle.base.specs.{◌≡◌, [], ◌-◌, ◌≤◌, length, take, drop}
+use Rattle.base.specs.{◌≡◌, ◌-◌, ◌≤◌, length, take, drop}
 use Rattle.cut_lists.specs.{key_capacity}
 use Rattle.cut_lists.proofs.move_up.Given as goal
 

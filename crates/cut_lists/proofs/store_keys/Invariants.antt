@@ -1,5 +1,5 @@
 -- `cut_lists::store_keys` meets its contract. The invariant: the first i keys are stored. The measure is the number of keys that are left.
-use Rattle.base.specs.{◌≡◌, [], map, ◌-◌, ◌≤◌, length, take, drop}
+use Rattle.base.specs.{◌≡◌, map, ◌-◌, ◌≤◌, length, take, drop}
 use Rattle.base_words.specs.{put_cuts}
 use Rattle.cut_lists.specs.{key_words}
 use Rattle.cut_lists.proofs.store_keys.Given as goal
