@@ -37,7 +37,7 @@ loop-i-preserved c =
     let h : l.i < c.args.lib.n = c.loop-i-test.true in
     let fits : 0 + length (pair_ids (cells_of c.args.lib)) ≤ length c.args.ids.now = omega (arith, c.requires.1) in (
       omega arith,
-      step fits l.invariant.1 q.new.0 q.result (pin_ids (cells_of c.args.lib) l.i (below (get_or c.args.lib.cells l.i no_cell).pins))
+      step fits l.invariant.1 q.new.ids q.result (pin_ids (cells_of c.args.lib) l.i (below (get_or c.args.lib.cells l.i no_cell).pins))
           (root_ids (cells_of c.args.lib) (from (l.i + 1) (c.args.lib.n - (l.i + 1)))) (roots_next c.args.lib c.requires.0 l.i h) q.ensures,
     )
 

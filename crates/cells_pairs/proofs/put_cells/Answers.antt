@@ -32,7 +32,8 @@ put_cell-next-requires c =
     let l = c.loop-i in
     let h : l.i < c.args.lib.n = c.loop-i-test.true in (
       listed-pins c.args.lib c.requires.0 l.i h,
-      capacity c.requires.1 l.invariant.1 (cell_bytes (get_or c.args.lib.cells l.i no_cell)) (each cell_bytes (drop (l.i + 1) (take c.args.lib.n c.args.lib.cells))) (next_one c.args.lib c.requires.0 l.i h),
+      capacity c.requires.1 l.invariant.1 (cell_bytes (get_or c.args.lib.cells l.i no_cell))
+          (each cell_bytes (drop (l.i + 1) (take c.args.lib.n c.args.lib.cells))) (next_one c.args.lib c.requires.0 l.i h),
     )
 
 pub loop-i-preserved : goal.loop-i-preserved
@@ -42,7 +43,8 @@ loop-i-preserved c =
     let h : l.i < c.args.lib.n = c.loop-i-test.true in
     let q = c.put_cell-next in (
       omega arith,
-      step c.requires.1 l.invariant.1 q.new.0 q.result (cell_bytes (get_or c.args.lib.cells l.i no_cell)) (each cell_bytes (drop (l.i + 1) (take c.args.lib.n c.args.lib.cells))) (next_one c.args.lib c.requires.0 l.i h) q.ensures,
+      step c.requires.1 l.invariant.1 q.new.records q.result (cell_bytes (get_or c.args.lib.cells l.i no_cell))
+          (each cell_bytes (drop (l.i + 1) (take c.args.lib.n c.args.lib.cells))) (next_one c.args.lib c.requires.0 l.i h) q.ensures,
     )
 
 pub shape_of-records : goal.shape_of-records

@@ -43,7 +43,8 @@ put_pair_id-next-requires c =
       listed-pins c.args.lib c.requires.0 c.args.i c.requires.1,
       listed-pins c.args.lib c.requires.0 l.j h,
       omega (arith, c.requires.0.few, c.requires.1, c.requires.2, h),
-      capacity c.requires.3 l.invariant.1 (id_for (get_or c.args.lib.cells c.args.i no_cell) (get_or c.args.lib.cells l.j no_cell) (id_of c.args.i c.args.p l.j))
+      capacity c.requires.3 l.invariant.1 (id_for (get_or c.args.lib.cells c.args.i no_cell) (get_or c.args.lib.cells l.j no_cell)
+          (id_of c.args.i c.args.p l.j))
           (inner_ids (take c.args.lib.n c.args.lib.cells) c.args.i c.args.p (from (l.j + 1) (c.args.lib.n - (l.j + 1))))
           (inner-next c.args.lib c.requires.0 c.args.i c.args.p l.j c.requires.1 h),
     )
@@ -55,7 +56,7 @@ loop-j-preserved c =
     let q = c.put_pair_id-next in
     let h : l.j < c.args.lib.n = c.loop-j-test.true in (
       omega arith,
-      step c.requires.3 l.invariant.1 q.new.0 q.result
+      step c.requires.3 l.invariant.1 q.new.ids q.result
           (id_for (get_or c.args.lib.cells c.args.i no_cell) (get_or c.args.lib.cells l.j no_cell) (id_of c.args.i c.args.p l.j))
           (inner_ids (take c.args.lib.n c.args.lib.cells) c.args.i c.args.p (from (l.j + 1) (c.args.lib.n - (l.j + 1))))
           (inner-next c.args.lib c.requires.0 c.args.i c.args.p l.j c.requires.1 h) q.ensures,

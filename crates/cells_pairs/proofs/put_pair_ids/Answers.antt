@@ -15,7 +15,8 @@ overflow_cast-bytes-in-loop-i c = omega (arith, c.shared_slice_known-in-loop-i-1
 pub put_bytes-next-requires : goal.put_bytes-next-requires
 put_bytes-next-requires c =
     let l = c.loop-i in
-    capacity c.requires l.invariant.1 (id_bytes (get_or c.args.ids.now l.i 0)) (each id_bytes (drop (l.i + 1) c.args.ids.now)) (next_id c.args.ids.now l.i c.loop-i-test.true)
+    capacity c.requires l.invariant.1 (id_bytes (get_or c.args.ids.now l.i 0)) (each id_bytes (drop (l.i + 1) c.args.ids.now))
+    (next_id c.args.ids.now l.i c.loop-i-test.true)
 
 pub loop-i-preserved : goal.loop-i-preserved
 loop-i-preserved c =
@@ -23,7 +24,8 @@ loop-i-preserved c =
     let h : l.i < length c.args.ids.now = c.loop-i-test.true in
     let q = c.put_bytes-next in (
       omega arith,
-      step c.requires l.invariant.1 q.new.0 q.result (id_bytes (get_or c.args.ids.now l.i 0)) (each id_bytes (drop (l.i + 1) c.args.ids.now)) (next_id c.args.ids.now l.i h) q.ensures,
+      step c.requires l.invariant.1 q.new.out q.result (id_bytes (get_or c.args.ids.now l.i 0)) (each id_bytes (drop (l.i + 1) c.args.ids.now))
+          (next_id c.args.ids.now l.i h) q.ensures,
     )
 
 pub shape_of-records : goal.shape_of-records

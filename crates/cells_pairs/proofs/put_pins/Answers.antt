@@ -21,7 +21,8 @@ put_inners-next-requires c =
       c.requires.0,
       c.requires.1,
       omega (arith, c.requires.2, h),
-      capacity c.requires.3 l.invariant.1 (inner_ids (cells_of a.lib) a.i l.p (below (length (cells_of a.lib)))) (pin_ids (cells_of a.lib) a.i (from (l.p + 1) (a.pins - (l.p + 1))))
+      capacity c.requires.3 l.invariant.1 (inner_ids (cells_of a.lib) a.i l.p (below (length (cells_of a.lib))))
+          (pin_ids (cells_of a.lib) a.i (from (l.p + 1) (a.pins - (l.p + 1))))
           (each_next (λ (q : ℕ). inner_ids (cells_of a.lib) a.i q (below (length (cells_of a.lib)))) l.p a.pins h),
     )
 
@@ -33,7 +34,7 @@ loop-p-preserved c =
     let a = c.args in
     let h : l.p < a.pins = c.loop-p-test.true in (
       omega arith,
-      step c.requires.3 l.invariant.1 q.new.0 q.result
+      step c.requires.3 l.invariant.1 q.new.ids q.result
           (inner_ids (cells_of a.lib) a.i l.p (below (length (cells_of a.lib)))) (pin_ids (cells_of a.lib) a.i (from (l.p + 1) (a.pins - (l.p + 1))))
           (each_next (λ (q : ℕ). inner_ids (cells_of a.lib) a.i q (below (length (cells_of a.lib)))) l.p a.pins h) q.ensures,
     )
@@ -45,7 +46,8 @@ pub returns : goal.returns
 unfolding pin_ids
 returns c =
     let a = c.args in
-    end c.requires.3 c.loop-p.invariant.1 (each_none (λ (q : ℕ). inner_ids (cells_of a.lib) a.i q (below (length (cells_of a.lib)))) c.loop-p.p a.pins c.loop-p-test.false)
+    end c.requires.3 c.loop-p.invariant.1 (each_none (λ (q : ℕ). inner_ids (cells_of a.lib) a.i q (below (length (cells_of a.lib)))) c.loop-p.p a.pins
+    c.loop-p-test.false)
 
 pub loop-p-smaller : goal.loop-p-smaller
 loop-p-smaller c = omega arith
