@@ -5,7 +5,8 @@ use Rattle.base_text.proofs.Bytes.{all-step, all_end}
 use Rattle.base_text.proofs.name_bytes_from.Goals as goal
 
 pub returns-then-not-is_name_byte : goal.returns-then-not-is_name_byte
-returns-then-not-is_name_byte c = sym (c.loop-i.invariant ∙ all-step is_name_byte _ _ c.loop-i-test.true ∙ rw (sym c.is_name_byte.ensures ∙ c.if-not-is_name_byte.true))
+returns-then-not-is_name_byte c =
+    sym (c.loop-i.invariant ∙ all-step is_name_byte _ _ c.loop-i-test.true ∙ rw (sym c.is_name_byte.ensures ∙ c.if-not-is_name_byte.true))
 
 pub loop-i-preserved : goal.loop-i-preserved
 loop-i-preserved c = c.loop-i.invariant ∙ all-step is_name_byte _ _ c.loop-i-test.true ∙ rw (sym c.is_name_byte.ensures ∙ c.if-not-is_name_byte.false)

@@ -1,5 +1,5 @@
 -- `tally_lines::gate_of` meets its contract. The invariant: the line is of a cell from here on where it is of one at all; the measure is the cells left.
-use Rattle.base.specs.{arith, ◌≡◌, refl, sym, ap, ◌∙◌, length, get_or}
+use Rattle.base.specs.{arith, ◌≡◌, sym, ap, ◌∙◌, length, get_or}
 use Rattle.model.specs.{fields, no_cell, cells_of, of_form, gate_form}
 use Rattle.model.specs.declared.Cell.{Cell}
 use Rattle.tally_lines.specs.{which_of}
@@ -48,18 +48,3 @@ returns c =
     let a = c.args in
     let long : length a.lib.cells ≡ 32 = c.requires.1.long in
     sym (ap which_of (c.loop-i.invariant.1 ∙ gate-end c.loop-i.i (cells_of a.lib) a.w.now (omega (arith, cells_count a.lib long (omega arith)))))
-
-pub word-at-requires : goal.word-at-requires
-word-at-requires c = refl
-
-pub overflow_add-w : goal.overflow_add-w
-overflow_add-w c = omega arith
-
-pub offset_bounds-lib-i : goal.offset_bounds-lib-i
-offset_bounds-lib-i c = (omega arith, refl)
-
-pub bounds-lib-i : goal.bounds-lib-i
-bounds-lib-i c = omega arith
-
-pub loop-i-smaller : goal.loop-i-smaller
-loop-i-smaller c = omega arith

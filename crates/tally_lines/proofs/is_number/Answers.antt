@@ -18,7 +18,7 @@ pub returns : goal.returns
 returns c =
     let a = c.args in
     let p = c.put_number-end in
-    c.same_bytes.ensures ∙ ap (λ (x : List ℕ). same x a.w.now) (written a.n p.result p.new.0 p.ensures.0 p.ensures.1)
+    c.same_bytes.ensures ∙ ap (λ (x : List ℕ). same x a.w.now) (written a.n p.result p.new.out p.ensures.0 p.ensures.1)
 
 pub put_number-end-requires : goal.put_number-end-requires
 put_number-end-requires c = omega (arith, ten-digits c.args.n (search rules))

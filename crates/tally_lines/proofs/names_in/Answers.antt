@@ -1,15 +1,16 @@
 -- `tally_lines::names_in` meets its contract. The invariant: the fields from here on and the spaces passed are all fields; the measure is what is left of the line.
-use Rattle.base.specs.{arith, ⊎_elim}
+use Rattle.base.specs.{arith}
 use Rattle.tally_lines.proofs.FieldLaws.{count-space, count-step, count_out}
 use Rattle.tally_lines.proofs.names_in.Goals as goal
+use Rattle.tally_lines.proofs.names_in.Goals.{then-w-i-eq32, else-w-i-eq32}
 
 pub loop-i-preserved : goal.loop-i-preserved
 loop-i-preserved c =
     let w = c.args.w.now in
-    ⊎_elim
-    (λ y. (omega arith, omega arith, omega (arith, count-space w c.loop-i.i c.loop-i-test.true y.0.taken)))
-    (λ y. (omega arith, omega arith, omega (arith, count-step w c.loop-i.i c.loop-i-test.true y.0.left)))
-    c.if-w-i-eq32.branch
+    elim c.if-w-i-eq32.branch [
+      | then-w-i-eq32 y ↦ (omega arith, omega arith, omega (arith, count-space w c.loop-i.i c.loop-i-test.true y.if-w-i-eq32.true))
+      | else-w-i-eq32 y ↦ (omega arith, omega arith, omega (arith, count-step w c.loop-i.i c.loop-i-test.true y.if-w-i-eq32.false))
+    ]
 
 pub returns : goal.returns
 returns c = omega (arith, count_out c.args.w.now c.loop-i.i c.loop-i-test.false)

@@ -1,6 +1,5 @@
 -- `tally_lines::pins` meets its contract. The invariant: the steps over the pins from here on lead where all lead; the measure is the pins left.
 use Rattle.base.specs.{arith, sym, ◌∙◌}
-use Rattle.model.specs.{from}
 use Rattle.tally_lines.specs.{kind_test}
 use Rattle.tally_lines.proofs.GateLineForms.{pins-first, pins-step, pins-end}
 use Rattle.tally_lines.proofs.pins.Goals as goal
