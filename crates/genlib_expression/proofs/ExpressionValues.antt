@@ -1,13 +1,15 @@
 -- The steps of the expression's readers: signs that step a value, names, brackets, and parts with a sign between them.
 use Rattle.base.specs.{ℕ, zero, suc, ◌+◌, ◌-◌, ◌≤◌, ◌<◌, add-one, sub-one, arith, ◌≡◌, refl, sym, ap, subst, ◌∙◌, Bool, true, false, not}
+use Rattle.base.specs.{◌&&◌, ◌||◌, bit_and, bit_or}
 use Rattle.base.specs.{cond, none, some, List, [], ◌∷◌, map, ltb, length, drop, ltb-true, ltb-false}
 use Rattle.model.specs.{bit, from, same, flip, and_then, is_blank, is_sign, is_word, is_empty, Taken, begins, negated_by_signs, chain, quoted, close_bracket}
-use Rattle.model.specs.{atom, factor_of, sum_of, index_of, value, phase_table}
+use Rattle.model.specs.{atom, name_value, factor_of, product_of, sum_of, index_of, value, phase_table}
 use Rattle.model.specs.GenlibFormula.{named, within}
-use Rattle.base_truth.proofs.{value_complement}
+use Rattle.base_truth.proofs.{value_complement, value-and, value_or}
+use Rattle.genlib_expression.specs.declared.Pins.{Pins}
 use Rattle.genlib_expression.specs.declared.Parsed.{Parsed}
 use Rattle.genlib_expression.specs.declared.Parsed.TheVariants.{At, Broken}
-use Rattle.genlib_expression.specs.{end_at, from_at, rest_at, taken_at, Within, part}
+use Rattle.genlib_expression.specs.{end_at, from_at, rest_at, names_at, taken_at, Within, part}
 use Rattle.base_text.proofs.{class_from, class_le}
 use Rattle.genlib_expression.proofs.TokenSpans.{token_none, token_first, end_after, end_out}
 
@@ -218,3 +220,28 @@ ends a m n v r e w = subst (Within a m) e w
 pub later : (a b m : ℕ) (r : Parsed) → a ≤ b → Within b m r → Within a m r
 later a b m (At v n) h w = (omega arith, omega arith)
 later a b m Broken h w = tt
+
+-- ---- the chains of a product and of a sum
+
+-- what a part of a product or of a sum is in a row
+abbrev pub factor_part : List ℕ → Pins → ℕ → ℕ → ℕ → List (List ℕ) → Taken
+factor_part w p row depth k = factor_of (name_value (names_at w p) row) (within (name_value (names_at w p) row) k depth)
+
+abbrev pub product_part : List ℕ → Pins → ℕ → ℕ → ℕ → List (List ℕ) → Taken
+product_part w p row depth k = product_of (name_value (names_at w p) row) k (within (name_value (names_at w p) row) k depth)
+
+-- what is left of them from `at` on, with the value so far
+abbrev pub ProductChained : List ℕ → Pins → ℕ → ℕ → ℕ → ℕ → Bool → ℕ → Type 0
+ProductChained w p row depth k from v at = Chained 42 ◌&&◌ (factor_part w p row depth k) w k true from v at
+
+abbrev pub SumChained : List ℕ → Pins → ℕ → ℕ → ℕ → ℕ → Bool → ℕ → Type 0
+SumChained w p row depth k from v at = Chained 43 ◌||◌ (product_part w p row depth k) w k false from v at
+
+-- two tables joined, row by row
+pub and_row : (a b row : ℕ) → bit (bit_and a b) row ≡ (bit a row && bit b row)
+unfolding value
+and_row a b row = value-and a b row
+
+pub or_row : (a b row : ℕ) → bit (bit_or a b) row ≡ (bit a row || bit b row)
+unfolding value
+or_row a b row = value_or a b row

@@ -1,9 +1,29 @@
 -- `genlib_expression::add_pin` meets its contract, by whether the token is a pin.
-use Rattle.base.specs.{◌≡◌, sym, subst, ◌∙◌, true, ⊎_elim, arith, ℕ, List}
+use Rattle.base.specs.{false, ◌≤◌, ◌<◌, lt-ltb, le-ltb}
+use Rattle.genlib_expression.specs.declared.Pins.{Pins}
+use Rattle.genlib_expression.specs.declared.Token.{Token}
+use Rattle.genlib_expression.specs.{part, add_pin}
+use Rattle.base.specs.{◌≡◌, sym, subst, ◌∙◌, true, arith, ℕ, List}
 use Rattle.model.specs.{is_pin, add_pins}
 use Rattle.genlib_expression.specs.{parts_at, names_at, with_pin, Listed}
 use Rattle.genlib_expression.proofs.PinNumbering.{pin-word, add-one-pin, add_no_pin, add_none}
 use Rattle.genlib_expression.proofs.add_pin.Goals as goal
+use Rattle.genlib_expression.proofs.add_pin.Goals.{else-from-to-via-then-from-to+else-is_pin, else-from-to-via-else-from-to}
+
+-- the list with the pin, or as it was
+module _ (w : List ℕ) (p : Pins) (t : Token) where
+  none : t.to ≤ t.from → p ≡ add_pin w p t
+  unfolding add_pin
+  none h = sym (rw (le-ltb t.from t.to h))
+
+  module _ (h : t.from < t.to) where
+    other : is_pin (part w t.from t.to) ≡ false → p ≡ add_pin w p t
+    unfolding add_pin
+    other e = sym (rw (lt-ltb t.from t.to h, e))
+
+    pin : is_pin (part w t.from t.to) ≡ true → with_pin w p t.from (part w t.from t.to) ≡ add_pin w p t
+    unfolding add_pin
+    pin e = sym (rw (lt-ltb t.from t.to h, e))
 
 -- the list with the pin, or as it was
 pub slice_bounds-is_pin-end : goal.slice_bounds-is_pin-end
@@ -27,7 +47,9 @@ returns c =
     let p = c.args.p in
     let as-was : add_pins (names_at w p) (parts_at w t) ≡ names_at w p → Listed w (add_pins (names_at w p) (parts_at w t)) p =
     λ e. record { few = λ h. sym e; many = λ h. absurd (omega (arith, c.requires.0)) } in
-    ⊎_elim
-    (λ y. let no = sym y.2.ensures ∙ y.3.left in (c.requires.1, as-was (add_no_pin w t (names_at w p) y.0.taken no), other w p t y.0.taken no))
-    (λ y. (c.requires.1, as-was (add_none w t (names_at w p) y.left), none w p t y.left))
-    c.else-from-to.branch
+    elim c.else-from-to.branch [
+      | else-from-to-via-then-from-to+else-is_pin y ↦
+          let no = sym y.is_pin.ensures ∙ y.if-is_pin.false in
+          (c.requires.1, as-was (add_no_pin w t (names_at w p) y.if-from-to.true no), other w p t y.if-from-to.true no)
+      | else-from-to-via-else-from-to y ↦ (c.requires.1, as-was (add_none w t (names_at w p) y.if-from-to.false), none w p t y.if-from-to.false)
+    ]

@@ -1,5 +1,5 @@
 -- `genlib_expression::is_formed` meets its contract. The invariant: the tokens that are left take the state at hand to where all tokens take the first; the measure is what is left of the line.
-use Rattle.base.specs.{◌≡◌, refl, sym, ap, ◌∙◌, arith, false, ⊎_elim}
+use Rattle.base.specs.{◌≡◌, refl, sym, ap, ◌∙◌, arith, false}
 use Rattle.model.specs.{scan, is_done, formed}
 use Rattle.model.specs.declared.Scan.{Scan}
 use Rattle.model.specs.declared.Scan.TheVariants.{Expected, After, Done, Broken}
@@ -41,4 +41,4 @@ returns-in_default c = go c.loop-at.s refl ∙ sym (ap is_done (c.loop-at.invari
     go (Expected d) e = sym (ap is_done e)
     go (After d) e = sym (ap is_done e)
     go Broken e = sym (ap is_done e)
-    go Done e = absurd (⊎_elim (λ y. omega (arith, rw e at y)) (⊎_elim (λ y. omega (arith, rw e at y)) (λ y. omega (arith, rw e at y))) c.in_default.in_default-own.keys2)
+    go Done e = absurd (c.in_default.not-Done e)

@@ -27,4 +27,4 @@ returns-in-3 c = ap full (sym c.in-3.is)
 
 pub returns-in_default : goal.returns-in_default
 unfolding row_bits one
-returns-in_default c = let h : c.args.pins ≡ 4 = four _ c.requires (λ e. c.in_default.in_default-own.rest.1 e) (λ e. c.in_default.in_default-own.rest.0.1 e) (λ e. c.in_default.in_default-own.rest.0.0.1 e) (λ e. c.in_default.in_default-own.rest.0.0.0.1 e) in ap full (sym h)
+returns-in_default c = let h : c.args.pins ≡ 4 = four _ c.requires (λ e. omega arith) (λ e. omega arith) (λ e. omega arith) (λ e. omega arith) in ap full (sym h)

@@ -38,10 +38,10 @@ unfolding after_step end_step
 returns-else-depth-eq0 c = rw (c.in-59.is, ne_eqb _ _ c.if-depth-eq0.false)
 
 pub returns-in-42 : goal.returns-in-42
-returns-in-42 c = join _ _ c.in_default-1.rest.0.1 c.if-b-lt41.false c.in-42.if-b-lt44-own.true
+returns-in-42 c = join _ _ (λ e. omega arith) (omega arith) (omega arith)
 
 pub returns-in_default : goal.returns-in_default
-returns-in_default c = let r = c.in_default-1.rest in other _ _ r.0.0.1 r.0.1 (λ e. omega arith) (λ e. omega arith) r.1
+returns-in_default c = other _ _ (λ e. omega arith) (λ e. omega arith) (λ e. omega arith) (λ e. omega arith) (λ e. omega arith)
 
 pub returns-in_default-2 : goal.returns-in_default-2
-returns-in_default-2 c = let r = c.in_default-1.rest in other _ _ r.0.0.1 r.0.1 (λ e. omega arith) (λ e. omega arith) r.1
+returns-in_default-2 c = other _ _ (λ e. omega arith) (λ e. omega arith) (λ e. omega arith) (λ e. omega arith) (λ e. omega arith)

@@ -15,22 +15,20 @@ scan_expected-requires c = omega (arith, ap depth_of c.in-Expected.is)
 pub returns-in-Expected : goal.returns-in-Expected
 unfolding scan_step
 returns-in-Expected c =
-    let g = c.s-1.given in
     let a = c.args in
     let b = get_or a.w.now a.t.from 0 in
     c.scan_expected.ensures
-    ∙ sym (ap (λ (x : Scan). scan_step x b c.is_word.result) g.1)
+    ∙ sym (ap (λ (x : Scan). scan_step x b c.is_word.result) c.in-Expected.is)
     ∙ scan-one a.w.now a.t a.s (omega (arith, c.if-from-to.false)) c.requires.1 b c.is_word.result refl c.is_word.ensures
 
 pub returns-in-After : goal.returns-in-After
 unfolding scan_step
 returns-in-After c =
-    let g = c.s-in-After-1.given in
     let a = c.args in
     let b = get_or a.w.now a.t.from 0 in
     let name = is_word (part a.w.now a.t.from a.t.to) in
     c.scan_after.ensures
-    ∙ sym (ap (λ (x : Scan). scan_step x b name) g.1)
+    ∙ sym (ap (λ (x : Scan). scan_step x b name) c.in-After.is)
     ∙ scan-one a.w.now a.t a.s (omega (arith, c.if-from-to.false)) c.requires.1 b name refl refl
 
 -- behind the `;`, and in a broken form

@@ -17,4 +17,4 @@ returns-else-depth-gt0 c = rw c.in-41.is (omega arith)
 
 pub returns-in_default : goal.returns-in_default
 unfolding opened_by
-returns-in_default c = let b = c.args.b in rw (ne_eqb b 40 c.in_default.in_default-own.rest.0.1, ne_eqb b 41 c.in_default.in_default-own.rest.1)
+returns-in_default c = let b = c.args.b in rw (ne_eqb b 40 (λ e. omega arith), ne_eqb b 41 (λ e. omega arith))

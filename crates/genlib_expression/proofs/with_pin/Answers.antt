@@ -1,8 +1,27 @@
 -- `genlib_expression::with_pin` meets its contract, by whether the pin is known and there is room.
+use Rattle.base.specs.{◌≤◌, ◌<◌, lt-ltb, le-ltb, ltb}
+use Rattle.model.specs.{index_of}
+use Rattle.genlib_expression.specs.declared.Pins.{Pins}
+use Rattle.genlib_expression.specs.{pushed, with_pin}
 use Rattle.base.specs.{◌≡◌, sym, ap, ◌∙◌, arith, ℕ, ◌+◌, List, [], ◌∷◌, ◌++◌, length, length-set, length-append}
 use Rattle.genlib_expression.specs.{names_at}
 use Rattle.genlib_expression.proofs.PinNumbering.{length-names, with_known, with_new, names-pushed}
 use Rattle.genlib_expression.proofs.with_pin.Goals as goal
+
+-- the list as it was, with one pin more, or with too many
+module _ (w : List ℕ) (p : Pins) (from : ℕ) (t : List ℕ) (i : ℕ) (is : i ≡ index_of t (names_at w p)) where
+  known : i < p.n → p ≡ with_pin w p from t
+  unfolding with_pin
+  known h = sym (rw (sym (ap (λ (k : ℕ). ltb k p.n) is) ∙ lt-ltb i p.n h))
+
+  module _ (h : p.n ≤ i) where
+    more : p.n < 4 → pushed p from ≡ with_pin w p from t
+    unfolding with_pin
+    more l = sym (rw (sym (ap (λ (k : ℕ). ltb k p.n) is) ∙ le-ltb i p.n h, lt-ltb p.n 4 l))
+
+    many : 4 ≤ p.n → record { n = 5; at = p.at } ≡ with_pin w p from t
+    unfolding with_pin
+    many l = sym (rw (sym (ap (λ (k : ℕ). ltb k p.n) is) ∙ le-ltb i p.n h, le-ltb p.n 4 l))
 
 -- the list as it was, with one pin more, or with too many
 pub returns-then-index-n : goal.returns-then-index-n
