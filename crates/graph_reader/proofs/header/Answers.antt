@@ -1,5 +1,5 @@
 -- `graph_reader::header` meets its contract: each return knows the form of the first line, and the tests that led there.
-use Rattle.base.specs.{sym, ap, ◌∙◌, eq-eqb, ne_eqb, not-true, not-false}
+use Rattle.base.specs.{sym, ap, ◌∙◌, eq-eqb, ne_eqb}
 use Rattle.model.specs.{header_answer}
 use Rattle.graph_reader.proofs.HeaderReading.{header-broken, header_latches, header_limits, header_sequence, header-good, limits_sum}
 use Rattle.graph_reader.proofs.HeaderReading.{header_told}
@@ -9,34 +9,39 @@ pub returns-then-h-ne0 : goal.returns-then-h-ne0
 unfolding header_answer
 returns-then-h-ne0 c =
     let s = c.args.s.now in let form = sym c.header_form.ensures ∙ c.in-Is.is in
-    header_told s _ (sym (ap header_answer (header_latches s _ form (ne_eqb _ _ c.if-h-ne0.true))))
+    let t = header_told s _ (sym (ap header_answer (header_latches s _ form (ne_eqb _ _ c.if-h-ne0.true)))) in
+    record { answer = t.0; refusal = t.1.0; values = t.1.1 }
 
 pub returns-then-not-in_limits : goal.returns-then-not-in_limits
 unfolding header_answer
 returns-then-not-in_limits c =
     let s = c.args.s.now in
     let form = sym c.header_form.ensures ∙ c.in-Is.is in
-    header_told s _ (sym (ap header_answer (header_limits s _ form (eq-eqb _ _ c.if-h-ne0.false) (sym c.in_limits.ensures ∙ not-true _ c.if-not-in_limits.true))))
+    let t = header_told s _ (sym (ap header_answer (header_limits s _ form (eq-eqb _ _ c.if-h-ne0.false) (sym c.in_limits.ensures ∙ c.if-not-in_limits.true)))) in
+    record { answer = t.0; refusal = t.1.0; values = t.1.1 }
 
 pub returns-then-in_sequence : goal.returns-then-in_sequence
 unfolding header_answer
 returns-then-in_sequence c =
     let s = c.args.s.now in let form = sym c.header_form.ensures ∙ c.in-Is.is in
-    header_told s _
-    (sym (ap header_answer (header-good s _ form (eq-eqb _ _ c.if-h-ne0.false) (sym c.in_limits.ensures ∙ not-false _ c.if-not-in_limits.false) (sym c.in_sequence.ensures ∙ c.if-in_sequence.true))))
+    let t = header_told s _
+    (sym (ap header_answer (header-good s _ form (eq-eqb _ _ c.if-h-ne0.false) (sym c.in_limits.ensures ∙ c.if-not-in_limits.false) (sym c.in_sequence.ensures ∙ c.if-in_sequence.true)))) in
+    record { answer = t.0; refusal = t.1.0; values = t.1.1 }
 
 pub returns-else-in_sequence : goal.returns-else-in_sequence
 unfolding header_answer
 returns-else-in_sequence c =
     let s = c.args.s.now in let form = sym c.header_form.ensures ∙ c.in-Is.is in
-    header_told s _
-    (sym (ap header_answer (header_sequence s _ form (eq-eqb _ _ c.if-h-ne0.false) (sym c.in_limits.ensures ∙ not-false _ c.if-not-in_limits.false) (sym c.in_sequence.ensures ∙ c.if-in_sequence.false))))
+    let t = header_told s _
+    (sym (ap header_answer (header_sequence s _ form (eq-eqb _ _ c.if-h-ne0.false) (sym c.in_limits.ensures ∙ c.if-not-in_limits.false) (sym c.in_sequence.ensures ∙ c.if-in_sequence.false)))) in
+    record { answer = t.0; refusal = t.1.0; values = t.1.1 }
 
 pub returns-in-Broken : goal.returns-in-Broken
 unfolding header_answer
 returns-in-Broken c =
     let s = c.args.s.now in
-    header_told s _ (sym (ap header_answer (header-broken s (sym c.header_form.ensures ∙ c.in-Broken.is))))
+    let t = header_told s _ (sym (ap header_answer (header-broken s (sym c.header_form.ensures ∙ c.in-Broken.is)))) in
+    record { answer = t.0; refusal = t.1.0; values = t.1.1 }
 
 pub in_sequence-requires : goal.in_sequence-requires
-in_sequence-requires c = limits_sum _ (sym c.in_limits.ensures ∙ not-false _ c.if-not-in_limits.false)
+in_sequence-requires c = limits_sum _ (sym c.in_limits.ensures ∙ c.if-not-in_limits.false)

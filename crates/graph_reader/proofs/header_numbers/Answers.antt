@@ -6,17 +6,17 @@ use Rattle.graph_reader.proofs.header_numbers.Goals as goal
 pub returns-in-Numbers : goal.returns-in-Numbers
 unfolding numbers_form
 returns-in-Numbers c =
-    rw (sym c.number_then.ensures ∙ c.size.given.1, sym c.number_then-in-Value.ensures ∙ c.in-Value-number_then.is, sym c.read_three.ensures ∙ c.in-Numbers.is)
+    rw (sym c.number_then.ensures ∙ c.in-Value.is, sym c.number_then-in-Value.ensures ∙ c.in-Value-number_then.is, sym c.read_three.ensures ∙ c.in-Numbers.is)
 
 pub returns-in-Broken-read_three : goal.returns-in-Broken-read_three
 unfolding numbers_form
 returns-in-Broken-read_three c =
-    rw (sym c.number_then.ensures ∙ c.size.given.1, sym c.number_then-in-Value.ensures ∙ c.in-Value-number_then.is, sym c.read_three.ensures ∙ c.in-Broken-read_three.is)
+    rw (sym c.number_then.ensures ∙ c.in-Value.is, sym c.number_then-in-Value.ensures ∙ c.in-Value-number_then.is, sym c.read_three.ensures ∙ c.in-Broken-read_three.is)
 
 pub returns-in-Broken-number_then : goal.returns-in-Broken-number_then
 unfolding numbers_form
 returns-in-Broken-number_then c =
-    rw (sym c.number_then.ensures ∙ c.size.given.1, sym c.number_then-in-Value.ensures ∙ c.in-Broken-number_then.is)
+    rw (sym c.number_then.ensures ∙ c.in-Value.is, sym c.number_then-in-Value.ensures ∙ c.in-Broken-number_then.is)
 
 pub returns-in-Broken : goal.returns-in-Broken
 unfolding numbers_form

@@ -1,12 +1,11 @@
 -- `graph_reader::in_sequence` meets its contract.
-use Rattle.base.specs.{not-true, not-false}
 use Rattle.model.specs.{in_sequence}
 use Rattle.graph_reader.proofs.in_sequence.Goals as goal
 
 pub returns-then-not-h : goal.returns-then-not-h
 unfolding in_sequence
-returns-then-not-h c = rw (not-true c.args.h.binary c.if-not-h.true)
+returns-then-not-h c = rw (c.if-not-h.true)
 
 pub returns-else-not-h : goal.returns-else-not-h
 unfolding in_sequence
-returns-else-not-h c = rw (not-false c.args.h.binary c.if-not-h.false)
+returns-else-not-h c = rw (c.if-not-h.false)

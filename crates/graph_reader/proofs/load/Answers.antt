@@ -17,9 +17,13 @@ load_ascii-requires c =
 pub returns-then-h : goal.returns-then-h
 returns-then-h c =
     let args = c.args in let r = c.load_binary.ensures in
-    (r.0, (r.1.0 ∙ sym (words-binary args.work.now args.s.now args.h c.if-h.true), r.1.1))
+    record { answer = r.answer; left = r.left ∙ sym (words-binary args.work.now args.s.now args.h c.if-h.true); refusal = r.refusal }
 
 pub returns : goal.returns
 returns c =
     let args = c.args in let r = c.load_ascii.ensures in
-    (r.0, (r.1 ∙ sym (words-ascii args.work.now args.s.now args.h c.if-h.false), verdict-refusal _ (read_graph args.s.now args.h) r.0))
+    record {
+      answer = r.answer;
+      left = r.left ∙ sym (words-ascii args.work.now args.s.now args.h c.if-h.false);
+      refusal = verdict-refusal _ (read_graph args.s.now args.h) r.answer;
+    }

@@ -17,15 +17,18 @@ check_lines-requires c =
 
 pub returns-then-all_defined : goal.returns-then-all_defined
 returns-then-all_defined c =
-    ascii-defined c.args.s.now c.args.h c.args.work.now c.requires.0 c.requires.1 _ _ _ c.open_words.ensures c.read_lines.ensures.left c.read_lines.ensures.answer c.in-Accepted.is (sym c.all_defined.ensures ∙ c.if-all_defined.true)
+    let l = ascii-defined c.args.s.now c.args.h c.args.work.now c.requires.0 c.requires.1 _ _ _ c.open_words.ensures c.read_lines.ensures.left c.read_lines.ensures.answer c.in-Accepted.is (sym c.all_defined.ensures ∙ c.if-all_defined.true) in
+    record { answer = l.0; left = l.1 }
 
 pub returns-else-all_defined : goal.returns-else-all_defined
 returns-else-all_defined c =
-    ascii-done c.args.s.now c.args.h c.args.work.now c.requires.0 c.requires.1 _ _ _ c.open_words.ensures c.read_lines.ensures.left c.read_lines.ensures.answer c.in-Accepted.is _ c.check_lines.ensures
+    let l = ascii-done c.args.s.now c.args.h c.args.work.now c.requires.0 c.requires.1 _ _ _ c.open_words.ensures c.read_lines.ensures.left c.read_lines.ensures.answer c.in-Accepted.is _ c.check_lines.ensures in
+    record { answer = l.0; left = l.1 }
 
 pub returns-in-Refused : goal.returns-in-Refused
 returns-in-Refused c =
-    ascii_stop c.args.s.now c.args.h c.args.work.now c.requires.0 c.requires.1 _ _ _ c.open_words.ensures c.read_lines.ensures.left c.read_lines.ensures.answer _ _ c.in-Refused.is
+    let l = ascii_stop c.args.s.now c.args.h c.args.work.now c.requires.0 c.requires.1 _ _ _ c.open_words.ensures c.read_lines.ensures.left c.read_lines.ensures.answer _ _ c.in-Refused.is in
+    record { answer = l.0; left = l.1 }
 
 pub open_words-requires : goal.open_words-requires
 open_words-requires c = fit-capacity _ _ c.requires.0

@@ -10,7 +10,8 @@ step_at-requires c =
 
 pub returns-in-Refused : goal.returns-in-Refused
 returns-in-Refused c =
-    rest_stop _ _ _ _ _ _ c.loop-k.invariant c.loop-k-test.true _ _ _ (sym c.step_at.ensures.answer ∙ c.in-Refused.is) c.step_at.ensures.left
+    let l = rest_stop _ _ _ _ _ _ c.loop-k.invariant c.loop-k-test.true _ _ _ (sym c.step_at.ensures.answer ∙ c.in-Refused.is) c.step_at.ensures.left in
+    record { answer = l.0; left = l.1 }
 
 pub loop-k-preserved : goal.loop-k-preserved
 loop-k-preserved c =
@@ -20,4 +21,6 @@ pub loop-k-init : goal.loop-k-init
 loop-k-init c = rest-first _ _ _
 
 pub returns : goal.returns
-returns c = rest_end _ _ _ _ _ _ c.loop-k.invariant c.loop-k-test.false
+returns c =
+    let l = rest_end _ _ _ _ _ _ c.loop-k.invariant c.loop-k-test.false in
+    record { answer = l.0; left = l.1 }

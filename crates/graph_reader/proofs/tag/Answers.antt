@@ -1,9 +1,12 @@
 -- `graph_reader::tag` meets its contract: the first word's bytes are compared as a part of the text.
-use Rattle.base.specs.{sym, ap, ◌∙◌}
+use Rattle.base.specs.{sym, ap, ◌∙◌, arith}
 use Rattle.model.specs.{same, text}
-use Rattle.base_text.proofs.{part-is}
+use Rattle.base_text.proofs.{end_le, part-is}
 use Rattle.graph_reader.specs.{tag_at, aag, aig}
 use Rattle.graph_reader.proofs.tag.Goals as goal
+
+pub slice_bounds-same_bytes-end : goal.slice_bounds-same_bytes-end
+slice_bounds-same_bytes-end c = omega (arith, c.field_end-end.ensures, end_le c.args.s.now 0 (omega arith))
 
 pub returns-then-same_bytes : goal.returns-then-same_bytes
 unfolding tag_at aig text
