@@ -38,13 +38,17 @@ loop-at-preserved c =
 pub returns-in-Refused : goal.returns-in-Refused
 returns-in-Refused c =
     let args = c.args in
-    so_far_stop args.s.now args.from args.h.size args.h.inputs args.work.now c.loop-at.seen c.loop-at.at c.loop-at.work c.loop-at.invariant
-    c.loop-at-test.true _ (sym c.validate.ensures ∙ c.in-Refused.is)
+    let l = c.loop-at in
+    let e = so_far_stop args.s.now args.from args.h.size args.h.inputs args.work.now l.seen l.at l.work l.invariant c.loop-at-test.true _
+    (sym c.validate.ensures ∙ c.in-Refused.is) in
+    record { value = e.0; work_after = e.1 }
 
 pub returns : goal.returns
 returns c =
     let args = c.args in
-    so_far_last args.s.now args.from args.h.size args.h.inputs args.work.now c.loop-at.seen c.loop-at.at c.loop-at.work c.loop-at.invariant c.loop-at-test.false
+    let l = c.loop-at in
+    let e = so_far_last args.s.now args.from args.h.size args.h.inputs args.work.now l.seen l.at l.work l.invariant c.loop-at-test.false in
+    record { value = e.0; work_after = e.1 }
 
 pub shape_of-work-in-Refused : goal.shape_of-work-in-Refused
 shape_of-work-in-Refused c = c.loop-at.invariant.long

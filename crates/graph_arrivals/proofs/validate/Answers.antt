@@ -1,18 +1,22 @@
 -- `graph_arrivals::validate` meets its contract: each return knows the tests that led there.
-use Rattle.base.specs.{sym, ◌∙◌, arith, ⊎_elim, eqb-true, eqb-false, not-true, not-false}
+use Rattle.base.specs.{sym, ◌∙◌, arith}
 use Rattle.graph_arrivals.specs.{validated_at}
 use Rattle.graph_arrivals.proofs.ArrivalLines.{validated-over, validated-again, validated-fresh}
 use Rattle.graph_arrivals.proofs.validate.Goals as goal
+use Rattle.graph_arrivals.proofs.validate.Goals.{then-i-inputs-via-then-i-inputs, then-i-inputs-via-else-i-inputs+then-seen-i-ne0}
 
 pub returns-then-i-inputs : goal.returns-then-i-inputs
 returns-then-i-inputs c =
     let found = sym c.read_line.ensures ∙ c.in-Is.is in
-    ⊎_elim (λ w. validated-over _ _ _ _ _ _ _ found _ c.index_of-i.ensures w.taken)
-    (λ w. validated-again _ _ _ _ _ _ _ found _ c.index_of-i.ensures w.0.left (eqb-false _ _ (not-true _ w.2.taken))) c.then-i-inputs.branch
+    elim c.then-i-inputs.branch [
+      | then-i-inputs-via-then-i-inputs w ↦ validated-over _ _ _ _ _ _ _ found _ c.index_of-i.ensures w.if-i-inputs.true
+      | then-i-inputs-via-else-i-inputs+then-seen-i-ne0 w ↦
+          validated-again _ _ _ _ _ _ _ found _ c.index_of-i.ensures w.if-i-inputs.false w.if-seen-i-ne0.true
+    ]
 
 pub returns-else-seen-i-ne0 : goal.returns-else-seen-i-ne0
 returns-else-seen-i-ne0 c =
-    validated-fresh _ _ _ _ _ _ _ (sym c.read_line.ensures ∙ c.in-Is.is) _ c.index_of-i.ensures (omega arith) (eqb-true _ _ (not-false _ c.if-seen-i-ne0.false))
+    validated-fresh _ _ _ _ _ _ _ (sym c.read_line.ensures ∙ c.in-Is.is) _ c.index_of-i.ensures (omega arith) c.if-seen-i-ne0.false
 
 pub returns-in-Broken : goal.returns-in-Broken
 unfolding validated_at
