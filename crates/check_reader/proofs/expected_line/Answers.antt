@@ -1,5 +1,5 @@
 -- `check_reader::expected_line` meets its contract: the line is missing, another, or there.
-use Rattle.base.specs.{not-true, not-false, sym, ◌∙◌, ◌+◌, ◌≤◌, arith, length}
+use Rattle.base.specs.{sym, ◌∙◌, ◌+◌, ◌≤◌, arith, length}
 use Rattle.check_reader.proofs.ExpectedNetLines.{expected-missing, expected_other, expected_fine, expected-inside}
 use Rattle.check_reader.proofs.expected_line.Goals as goal
 
@@ -9,21 +9,21 @@ returns-then-at-s c = let a = c.args in expected-missing a.s.now a.w.now a.at c.
 pub returns-then-not-is_line : goal.returns-then-not-is_line
 returns-then-not-is_line c =
     let a = c.args in
-    expected_other a.s.now a.w.now a.at c.if-at-s.false (sym c.is_line.ensures ∙ not-true _ c.if-not-is_line.true)
+    expected_other a.s.now a.w.now a.at c.if-at-s.false (sym c.is_line.ensures ∙ c.if-not-is_line.true)
 
 pub overflow_add-at : goal.overflow_add-at
 overflow_add-at c =
     let a = c.args in
-    let fits : a.at + length a.w.now ≤ length a.s.now = expected-inside a.s.now a.w.now a.at c.if-at-s.false (sym c.is_line.ensures ∙ not-false _ c.if-not-is_line.false) in
+    let fits : a.at + length a.w.now ≤ length a.s.now = expected-inside a.s.now a.w.now a.at c.if-at-s.false (sym c.is_line.ensures ∙ c.if-not-is_line.false) in
     omega (arith, c.requires)
 
 pub overflow_add-at-2 : goal.overflow_add-at-2
 overflow_add-at-2 c =
     let a = c.args in
-    let fits : a.at + length a.w.now ≤ length a.s.now = expected-inside a.s.now a.w.now a.at c.if-at-s.false (sym c.is_line.ensures ∙ not-false _ c.if-not-is_line.false) in
+    let fits : a.at + length a.w.now ≤ length a.s.now = expected-inside a.s.now a.w.now a.at c.if-at-s.false (sym c.is_line.ensures ∙ c.if-not-is_line.false) in
     omega (arith, c.requires)
 
 pub returns : goal.returns
 returns c =
     let a = c.args in
-    expected_fine a.s.now a.w.now a.at c.if-at-s.false (sym c.is_line.ensures ∙ not-false _ c.if-not-is_line.false)
+    expected_fine a.s.now a.w.now a.at c.if-at-s.false (sym c.is_line.ensures ∙ c.if-not-is_line.false)

@@ -5,6 +5,7 @@ use Rattle.check_reader.specs.{names_from, Expected}
 use Rattle.check_reader.proofs.OutputNames.{outs-short}
 use Rattle.check_reader.proofs.ExpectedNetLines.{names-capacity, printed-long, printed-is}
 use Rattle.check_reader.proofs.expected_outputs.Goals as goal
+use Rattle.check_reader.proofs.expected_outputs.Goals.{After-put_outputs-b}
 
 -- the line fits
 fits : (n : ℕ) → n ≤ 4096 → length (text ".outputs") + length (names_from out_name 0 n) ≤ length {A = ℕ} (replicate 28680 0)
@@ -16,14 +17,18 @@ unfolding text
 put_outputs-b-requires c =
     (c.requires.1, names-capacity _ (text ".outputs") (names_from out_name 0 c.args.n) c.put_bytes-a.new.out [] c.put_bytes-a.result 0 (fits c.args.n c.requires.1) c.put_bytes-a.ensures)
 
-pub slice_bounds-line-end : goal.slice_bounds-line-end
+-- the printed line's end is within the array
+ends : (c : After-put_outputs-b) → c.put_outputs-b.result ≤ length c.put_outputs-b.new.out
 unfolding text
-slice_bounds-line-end c =
+ends c =
     printed-long _ (text ".outputs") (names_from out_name 0 c.args.n) c.put_bytes-a.new.out c.put_outputs-b.new.out c.put_bytes-a.result c.put_outputs-b.result (fits c.args.n c.requires.1) c.put_bytes-a.ensures c.put_outputs-b.ensures
+
+pub slice_bounds-line-end : goal.slice_bounds-line-end
+slice_bounds-line-end c = ends (goal.at.slice_bounds-line-end c).After-put_outputs-b
 
 pub slice_bounds-expected_line-end : goal.slice_bounds-expected_line-end
 slice_bounds-expected_line-end c =
-    sym (length-take-le c.put_outputs-b.result c.put_outputs-b.new.out (array-share-prefix-line c.before))
+    sym (length-take-le c.put_outputs-b.result c.put_outputs-b.new.out (ends (goal.at.slice_bounds-expected_line-end c).After-put_outputs-b))
 
 pub returns : goal.returns
 unfolding text

@@ -1,6 +1,6 @@
 -- `check_reader::read_gates` meets its contract. The invariant: the drivers of the lines so far stand first in the array, and the lines from here on are expected; each line has six bytes at least. The measure is
 -- what is left of the text.
-use Rattle.base.specs.{not-true, not-false, ◌≡◌, refl, sym, ◌∙◌, ap, subst, List, [], ℕ, ◌+◌, ◌-◌, ◌*◌, ◌≤◌, arith, length, get_or}
+use Rattle.base.specs.{◌≡◌, refl, sym, ◌∙◌, ap, subst, List, [], ℕ, ◌+◌, ◌-◌, ◌*◌, ◌≤◌, arith, length, get_or}
 use Rattle.base.specs.{true}
 use Rattle.model.specs.{same, text, fields, cells_of, is_gate}
 use Rattle.base_words.specs.{put_at}
@@ -30,7 +30,7 @@ unfolding is_gate
 returns-then-not-is_gate c =
     let a = c.args in
     so_names a.s.now a.lib a.from c.loop-at.at c.loop-at.count a.nets.now c.loop-at.nets c.loop-at.invariant.2 c.loop-at.invariant.0 c.loop-at-test.true
-    (sym (ap (λ (w : List ℕ). same (get_or (fields w) 0 []) (text ".gate")) (line-bytes a.s.now c.loop-at.at c.line-line.result c.line-line.ensures)) ∙ sym c.is_gate.ensures ∙ not-true _ c.if-not-is_gate.true)
+    (sym (ap (λ (w : List ℕ). same (get_or (fields w) 0 []) (text ".gate")) (line-bytes a.s.now c.loop-at.at c.line-line.result c.line-line.ensures)) ∙ sym c.is_gate.ensures ∙ c.if-not-is_gate.true)
 
 pub gate_at-g-requires : goal.gate_at-g-requires
 gate_at-g-requires c =
@@ -41,7 +41,7 @@ unfolding is_gate
 returns-then-g-eq0 c =
     let a = c.args in
     so_broken a.s.now a.lib a.from c.loop-at.at c.loop-at.count a.nets.now c.loop-at.nets c.loop-at.invariant.2 c.loop-at.invariant.0 c.loop-at-test.true
-    (sym (ap (λ (w : List ℕ). same (get_or (fields w) 0 []) (text ".gate")) (line-bytes a.s.now c.loop-at.at c.line-line.result c.line-line.ensures)) ∙ sym c.is_gate.ensures ∙ not-false _ c.if-not-is_gate.false)
+    (sym (ap (λ (w : List ℕ). same (get_or (fields w) 0 []) (text ".gate")) (line-bytes a.s.now c.loop-at.at c.line-line.result c.line-line.ensures)) ∙ sym c.is_gate.ensures ∙ c.if-not-is_gate.false)
     (drives-none (cells_of a.lib) (line_at a.s.now c.loop-at.at) c.gate_at-g.result c.gate_at-g.ensures c.if-g-eq0.true)
 
 pub store-requires : goal.store-requires
@@ -58,7 +58,7 @@ unfolding is_gate
 loop-at-smaller c =
     let a = c.args in
     let here = line_at a.s.now c.loop-at.at in
-    let gate : is_gate here ≡ true = sym (ap (λ (w : List ℕ). same (get_or (fields w) 0 []) (text ".gate")) (line-bytes a.s.now c.loop-at.at c.line-line.result c.line-line.ensures)) ∙ sym c.is_gate.ensures ∙ not-false _ c.if-not-is_gate.false in
+    let gate : is_gate here ≡ true = sym (ap (λ (w : List ℕ). same (get_or (fields w) 0 []) (text ".gate")) (line-bytes a.s.now c.loop-at.at c.line-line.result c.line-line.ensures)) ∙ sym c.is_gate.ensures ∙ c.if-not-is_gate.false in
     let five : 5 ≤ length here.bytes = gate-long here.bytes gate in
     let long : length here.bytes ≡ c.line-line.result.stop - c.loop-at.at = line-long a.s.now c.loop-at.at c.line-line.result c.line-line.ensures in
     let behind : c.line-line.result.next ≡ c.line-line.result.stop + here.ending = stop_next a.s.now c.loop-at.at c.line-line.result c.line-line.ensures in
@@ -69,7 +69,7 @@ unfolding is_gate line_at
 loop-at-preserved c =
     let a = c.args in
     let here = line_at a.s.now c.loop-at.at in
-    let gate : is_gate here ≡ true = sym (ap (λ (w : List ℕ). same (get_or (fields w) 0 []) (text ".gate")) (line-bytes a.s.now c.loop-at.at c.line-line.result c.line-line.ensures)) ∙ sym c.is_gate.ensures ∙ not-false _ c.if-not-is_gate.false in
+    let gate : is_gate here ≡ true = sym (ap (λ (w : List ℕ). same (get_or (fields w) 0 []) (text ".gate")) (line-bytes a.s.now c.loop-at.at c.line-line.result c.line-line.ensures)) ∙ sym c.is_gate.ensures ∙ c.if-not-is_gate.false in
     let five : 5 ≤ length here.bytes = gate-long here.bytes gate in
     let long : length here.bytes ≡ c.line-line.result.stop - c.loop-at.at = line-long a.s.now c.loop-at.at c.line-line.result c.line-line.ensures in
     let behind : c.line-line.result.next ≡ c.line-line.result.stop + here.ending = stop_next a.s.now c.loop-at.at c.line-line.result c.line-line.ensures in

@@ -1,6 +1,6 @@
 -- `check_reader::read_gates` meets its contract. The invariant: the drivers of the lines so far stand first in the array, and the lines from here on are expected; each line has six bytes at least. The measure is
 -- what is left of the text.
-use Rattle.base.specs.{◌≡◌, [], ◌-◌, ◌*◌, ◌≤◌, length}
+use Rattle.base.specs.{◌≡◌, ◌-◌, ◌*◌, ◌≤◌, length}
 use Rattle.check_reader.proofs.GateGathering.{Sofar}
 use Rattle.check_reader.proofs.read_gates.Given as goal
 
