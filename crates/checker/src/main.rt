@@ -8,34 +8,42 @@ ghost use Rattle.checker.specs.BufferBounds.{Enough};
 use model::Checked;
 use program_files::Loaded;
 
-fn show(c: Checked) {
+fn show(rt: &(impl Print + Eprint), c: Checked) {
     let written = match c {
-        Checked::Accepted => program_files::put(b"accepted\n"),
-        Checked::Differs(assignment, output) => program_files::line(b"differs", assignment, output),
-        Checked::Refused(number, place) => program_files::refused(number, place),
+        Checked::Accepted => program_files::put(rt, b"accepted\n"),
+        Checked::Differs(assignment, output) => program_files::line(
+            rt, "differs", assignment, output,
+        ),
+        Checked::Refused(number, place) => program_files::refused(rt, number, place),
     };
-    program_files::said(written, b"checker");
+    program_files::said(rt, written, "checker");
 }
 
 // With enough words lent, 10 never comes.
-fn check_files(cells: &[u8], graph: &[u8], netlist: &[u8], work: &mut [u16])
+fn check_files(
+    rt: &(impl Print + Eprint),
+    cells: &[u8],
+    graph: &[u8],
+    netlist: &[u8],
+    work: &mut [u16],
+)
     requires { Enough (length work.old) }
 {
-    show(check_call::check_texts(cells, graph, netlist, work));
+    show(rt, check_call::check_texts(cells, graph, netlist, work));
 }
 
 // It lends 124 * 4096 + 4096 words, for the largest graph that passes 9, and 8 for each byte that a netlist may have.
 // Where a file cannot be read, which `load` has said, nothing is printed.
-fn main() {
+fn main(rt: HostRuntime) {
     let mut cells = [0u8; 65537];
     let mut graph = [0u8; 65537];
     let mut netlist = [0u8; 65537];
     let mut work = [0u16; 1036288];
-    let cells_read = program_files::load(b"checker", b"cells.txt", &mut cells);
+    let cells_read = program_files::load(&rt, "checker", "cells.txt", &mut cells);
     let Loaded::Bytes(n) = cells_read else { return };
-    let graph_read = program_files::load(b"checker", b"graph.aag", &mut graph);
+    let graph_read = program_files::load(&rt, "checker", "graph.aag", &mut graph);
     let Loaded::Bytes(m) = graph_read else { return };
-    let blif_read = program_files::load(b"checker", b"netlist.blif", &mut netlist);
+    let blif_read = program_files::load(&rt, "checker", "netlist.blif", &mut netlist);
     let Loaded::Bytes(k) = blif_read else { return };
-    check_files(&cells[..n], &graph[..m], &netlist[..k], &mut work);
+    check_files(&rt, &cells[..n], &graph[..m], &netlist[..k], &mut work);
 }

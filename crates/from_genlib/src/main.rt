@@ -8,25 +8,26 @@ use model::Written;
 use program_files::Loaded;
 
 // It lends 65,536 bytes.
-fn convert_file(genlib: &[u8], text: &mut [u8])
+fn convert_file(rt: &(impl Print + Eprint), genlib: &[u8], text: &mut [u8])
     requires { length text.old ≡ 65536 }
 {
     match genlib_call::convert(genlib, text) {
-        Written::Length(n) => program_files::said(program_files::put(&text[..n]), b"from_genlib"),
-        Written::Refused(number, place) => program_files::said(
-            program_files::refused(number, place),
-            b"from_genlib",
-        ),
+        Written::Length(n) => {
+            program_files::said(rt, program_files::put(rt, &text[..n]), "from_genlib");
+        }
+        Written::Refused(number, place) => {
+            program_files::said(rt, program_files::refused(rt, number, place), "from_genlib");
+        }
     }
 }
 
 // Where the file cannot be read, which `load` has said, nothing is printed.
-fn main() {
+fn main(rt: HostRuntime) {
     let mut genlib = [0u8; 65537];
     let mut text = [0u8; 65536];
-    let genlib_read = program_files::load(b"from_genlib", b"cells.genlib", &mut genlib);
+    let genlib_read = program_files::load(&rt, "from_genlib", "cells.genlib", &mut genlib);
     let Loaded::Bytes(n) = genlib_read else {
         return;
     };
-    convert_file(&genlib[..n], &mut text);
+    convert_file(&rt, &genlib[..n], &mut text);
 }

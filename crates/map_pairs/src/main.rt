@@ -1,6 +1,6 @@
 // The program that wants pairs of cells: `program_folder::map` with them.
 #![tactic(auto)]
 
-fn main() {
-    program_folder::map(b"map_pairs", true);
+fn main(rt: HostRuntime) {
+    program_folder::map(&rt, "map_pairs", true);
 }

@@ -9,7 +9,8 @@ use model::Two;
 use program_files::Loaded;
 
 // "It lends 32,768 words and 65,536 bytes": so many bytes to each channel.
-fn map_files(
+fn map_files<R: Print + Eprint>(
+    rt: &R,
     cells: &[u8],
     g1: &[u8],
     a1: &[u8],
@@ -24,12 +25,12 @@ fn map_files(
     let r: Two = mapper_two::map_two(cells, g1, a1, g2, a2, false, work, t1, t2);
     let first = r.first;
     let second = r.second;
-    program_folder::show(b"map_two", first, t1);
-    program_folder::show(b"map_two", second, t2);
+    program_folder::show(rt, "map_two", first, t1);
+    program_folder::show(rt, "map_two", second, t2);
 }
 
 // Where a file cannot be read, which `load` has said, nothing is printed.
-fn main() {
+fn main(rt: HostRuntime) {
     let mut cells = [0u8; 65537];
     let mut graph1 = [0u8; 65537];
     let mut arrivals1 = [0u8; 65537];
@@ -38,17 +39,18 @@ fn main() {
     let mut work = [0u16; 32768];
     let mut text1 = [0u8; 65536];
     let mut text2 = [0u8; 65536];
-    let cells_read = program_files::load(b"map_two", b"cells.txt", &mut cells);
+    let cells_read = program_files::load(&rt, "map_two", "cells.txt", &mut cells);
     let Loaded::Bytes(n) = cells_read else { return };
-    let g1_read = program_files::load(b"map_two", b"graph1.aag", &mut graph1);
+    let g1_read = program_files::load(&rt, "map_two", "graph1.aag", &mut graph1);
     let Loaded::Bytes(g1) = g1_read else { return };
-    let a1_read = program_files::load(b"map_two", b"arrivals1.txt", &mut arrivals1);
+    let a1_read = program_files::load(&rt, "map_two", "arrivals1.txt", &mut arrivals1);
     let Loaded::Bytes(a1) = a1_read else { return };
-    let g2_read = program_files::load(b"map_two", b"graph2.aag", &mut graph2);
+    let g2_read = program_files::load(&rt, "map_two", "graph2.aag", &mut graph2);
     let Loaded::Bytes(g2) = g2_read else { return };
-    let a2_read = program_files::load(b"map_two", b"arrivals2.txt", &mut arrivals2);
+    let a2_read = program_files::load(&rt, "map_two", "arrivals2.txt", &mut arrivals2);
     let Loaded::Bytes(a2) = a2_read else { return };
     map_files(
+        &rt,
         &cells[..n],
         &graph1[..g1],
         &arrivals1[..a1],

@@ -8,21 +8,23 @@ ghost use Rattle.promises.specs.{Fits};
 
 use model::Answer;
 use program_files::Loaded;
+use std::rt::Files;
 
 // A netlist, at the start of its text memory, or its refusal.
-pub fn show(program: &[u8], a: Answer, text: &[u8])
+pub fn show<R: Print + Eprint>(rt: &R, program: &str, a: Answer, text: &[u8])
     requires { Fits a (length text.now) }
 {
     let written = match a {
-        Answer::Mapped(n, _) => program_files::put(&text[..n]),
-        Answer::Refused(number, place) => program_files::refused(number, place),
+        Answer::Mapped(n, _) => program_files::put(rt, &text[..n]),
+        Answer::Refused(number, place) => program_files::refused(rt, number, place),
     };
-    program_files::said(written, program);
+    program_files::said(rt, written, program);
 }
 
 // "It lends 32,768 words and 65,536 bytes."
-fn map_files(
-    program: &[u8],
+fn map_files<R: Print + Eprint>(
+    rt: &R,
+    program: &str,
     cells: &[u8],
     graph: &[u8],
     arrivals: &[u8],
@@ -33,23 +35,24 @@ fn map_files(
     requires { (length work.old ≡ 32768) × (length text.old ≡ 65536) }
 {
     let a = mapper::map_texts(cells, graph, arrivals, paired, work, text);
-    show(program, a, text);
+    show(rt, program, a, text);
 }
 
 // Where a file cannot be read, which `load` has said, nothing is printed.
-pub fn map(program: &[u8], paired: bool) {
+pub fn map<R: Files + Print + Eprint>(rt: &R, program: &str, paired: bool) {
     let mut cells = [0u8; 65537];
     let mut graph = [0u8; 65537];
     let mut arrivals = [0u8; 65537];
     let mut work = [0u16; 32768];
     let mut text = [0u8; 65536];
-    let cells_read = program_files::load(program, b"cells.txt", &mut cells);
+    let cells_read = program_files::load(rt, program, "cells.txt", &mut cells);
     let Loaded::Bytes(n) = cells_read else { return };
-    let graph_read = program_files::load(program, b"graph.aag", &mut graph);
+    let graph_read = program_files::load(rt, program, "graph.aag", &mut graph);
     let Loaded::Bytes(m) = graph_read else { return };
-    let times_read = program_files::load(program, b"arrivals.txt", &mut arrivals);
+    let times_read = program_files::load(rt, program, "arrivals.txt", &mut arrivals);
     let Loaded::Bytes(k) = times_read else { return };
     map_files(
+        rt,
         program,
         &cells[..n],
         &graph[..m],

@@ -4,13 +4,11 @@
 #![tactic(auto)]
 
 use base_text::Value;
-use libc::{STDIN_FILENO, STDOUT_FILENO};
 use model::Written;
+use std::io;
 
-fn show(number: usize, value: usize) {
-    io::print_decimal(STDOUT_FILENO, number as u64);
-    program_files::number(value);
-    program_files::put(b"\n");
+fn show(rt: &impl Print, number: usize, value: usize) -> io::Result<()> {
+    println!(rt; "{number} {value}")
 }
 
 fn fill(text: &mut [u8]) {
@@ -21,41 +19,48 @@ fn fill(text: &mut [u8]) {
     }
 }
 
-fn convert_buffer(genlib: &[u8], text: &mut [u8]) {
+fn convert_buffer(rt: &impl Print, genlib: &[u8], text: &mut [u8]) -> io::Result<()> {
     fill(text);
     match genlib_call::convert(genlib, text) {
-        Written::Length(n) => show(0, n),
-        Written::Refused(number, place) => show(number, place),
+        Written::Length(n) => show(rt, 0, n)?,
+        Written::Refused(number, place) => show(rt, number, place)?,
     }
-    program_files::put(text);
-    program_files::put(b"\n");
+    program_files::put(rt, text)?;
+    program_files::put(rt, b"\n")
 }
 
-fn convert_with(with_memory: &[u8], genlib: &[u8], text: &mut [u8]) {
+fn convert_with(
+    rt: &impl Print,
+    with_memory: &[u8],
+    genlib: &[u8],
+    text: &mut [u8],
+) -> io::Result<()> {
     if let Value::Is(n) = base_text::number_of(with_memory) {
         let k = n as usize;
         if k <= text.len() {
-            convert_buffer(genlib, &mut text[..k]);
+            convert_buffer(rt, genlib, &mut text[..k])?;
         }
     }
+    Ok(())
 }
 
-fn each(s: &[u8], text: &mut [u8]) {
+fn each(rt: &impl Print, s: &[u8], text: &mut [u8]) -> io::Result<()> {
     let mut from = 0;
     while from < s.len() {
         let a = program_files::end(s, from);
         if a == s.len() {
-            return;
+            return Ok(());
         }
         let b = program_files::end(s, a + 1);
-        convert_with(&s[from..a], &s[a + 1..b], text);
+        convert_with(rt, &s[from..a], &s[a + 1..b], text)?;
         from = b + 1;
     }
+    Ok(())
 }
 
-fn main() {
+fn main(rt: HostRuntime) -> io::Result<()> {
     let mut input = [0u8; 131072];
     let mut text = [0u8; 4096];
-    let n = io::read_full(STDIN_FILENO, &mut input);
-    each(&input[..n], &mut text);
+    let n = program_files::fill(&mut rt.stdin(), &mut input)?;
+    each(&rt, &input[..n], &mut text)
 }

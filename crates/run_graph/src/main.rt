@@ -5,72 +5,73 @@
 
 ghost use Rattle.graph_order.specs.{Fit};
 
-use libc::STDIN_FILENO;
 use model::{Header, HeaderAnswer, Verdict};
+use std::io;
 
-fn refused(number: usize, place: usize) {
-    program_files::refused(number, place);
+fn refused(rt: &impl Print, number: usize, place: usize) -> io::Result<()> {
+    program_files::refused(rt, number, place)
 }
 
 // Variable 0, the inputs and the ANDs, in the order of their slots.
-fn show_order(work: &[u16], h: Header)
+fn show_order(rt: &impl Print, work: &[u16], h: Header) -> io::Result<()>
     requires { Fit h work.now }
 {
-    program_files::put(b"placed");
+    program_files::put(rt, b"placed")?;
     let count = h.inputs + h.ands;
     let mut i = 0;
     while i <= count {
-        program_files::number(base_words::slot(work, h.size, i));
+        program_files::number(rt, base_words::slot(work, h.size, i))?;
         i += 1;
     }
+    Ok(())
 }
 
-fn show_outputs(work: &[u16], h: Header)
+fn show_outputs(rt: &impl Print, work: &[u16], h: Header) -> io::Result<()>
     requires { Fit h work.now }
 {
-    program_files::put(b" outputs");
+    program_files::put(rt, b" outputs")?;
     let mut i = 0;
     while i < h.outputs {
-        program_files::number(base_words::output(work, h.size, h.outputs, i));
+        program_files::number(rt, base_words::output(work, h.size, h.outputs, i))?;
         i += 1;
     }
-    program_files::put(b"\n");
+    program_files::put(rt, b"\n")
 }
 
-fn show(text: &[u8], work: &mut [u16]) {
+fn show(rt: &impl Print, text: &[u8], work: &mut [u16]) -> io::Result<()> {
     match graph_reader::header(text) {
         HeaderAnswer::Read(h) => {
             if base_words::need_words(h.size, h.outputs) > work.len() {
-                refused(10, 0);
-                return;
+                return refused(rt, 10, 0);
             }
             match graph_reader::load(text, h, work) {
                 Verdict::Accepted => match graph_order::order_graph(work, h) {
                     Verdict::Accepted => {
-                        show_order(work, h);
-                        show_outputs(work, h);
+                        show_order(rt, work, h)?;
+                        show_outputs(rt, work, h)
                     }
-                    Verdict::Refused(number, place) => refused(number, place),
+                    Verdict::Refused(number, place) => refused(rt, number, place),
                 },
-                Verdict::Refused(number, place) => refused(number, place),
+                Verdict::Refused(number, place) => refused(rt, number, place),
             }
         }
-        HeaderAnswer::Refused(number, place) => refused(number, place),
+        HeaderAnswer::Refused(number, place) => refused(rt, number, place),
     }
 }
 
-fn each(s: &[u8], work: &mut [u16]) {
+fn each(rt: &impl Print, s: &[u8], work: &mut [u16]) -> io::Result<()> {
     let mut from = 0;
     while from < s.len() {
         let end = program_files::end(s, from);
-        show(&s[from..end], work);
+        show(rt, &s[from..end], work)?;
         from = end + 1;
     }
+    Ok(())
 }
 
-fn main() {
+fn main(rt: HostRuntime) -> io::Result<()> {
     let mut buf = [0u8; 131072];
     let mut work = [0u16; 80000];
-    let n = io::read_full(STDIN_FILENO, &mut buf);
-    each(&buf[..n], &mut work);
+    let n = program_files::fill(&mut rt.stdin(), &mut buf)?;
+    each(&rt, &buf[..n], &mut work)
 }

@@ -6,27 +6,37 @@
 ghost use Rattle.std.specs.Prelude.{◌≤◌};
 
 use base_text::{Cursor, Number};
-use libc::{STDIN_FILENO, STDOUT_FILENO};
 use model::Answer;
+use std::io;
 
-fn show(number: usize, value: usize, gates: u32, area: u32, arrival: u32) {
-    io::print_decimal(STDOUT_FILENO, number as u64);
-    program_files::number(value);
-    program_files::number(gates as usize);
-    program_files::number(area as usize);
-    program_files::number(arrival as usize);
-    program_files::put(b" \n");
+fn show(
+    rt: &impl Print,
+    number: usize,
+    value: usize,
+    gates: u32,
+    area: u32,
+    arrival: u32,
+) -> io::Result<()> {
+    println!(rt; "{number} {value} {gates} {area} {arrival} ")
 }
 
-fn map_buffers(cells: &[u8], graph: &[u8], arrivals: &[u8], work: &mut [u16], text: &mut [u8]) {
+fn map_buffers(
+    rt: &impl Print,
+    cells: &[u8],
+    graph: &[u8],
+    arrivals: &[u8],
+    work: &mut [u16],
+    text: &mut [u8],
+) -> io::Result<()> {
     match mapper::map_texts(cells, graph, arrivals, false, work, text) {
         Answer::Mapped(n, f) => {
-            show(0, n, f.gates, f.area, f.arrival);
+            show(rt, 0, n, f.gates, f.area, f.arrival)?;
             if n <= text.len() {
-                program_files::put(&text[..n]);
+                program_files::put(rt, &text[..n])?;
             }
+            Ok(())
         }
-        Answer::Refused(number, place) => show(number, place, 0, 0, 0),
+        Answer::Refused(number, place) => show(rt, number, place, 0, 0, 0),
     }
 }
 
@@ -39,13 +49,14 @@ fn buffer_length(a: u16, b: u16, most: usize) -> usize
 }
 
 fn map_with(
+    rt: &impl Print,
     sizes: &[u8],
     cells: &[u8],
     graph: &[u8],
     arrivals: &[u8],
     work: &mut [u16],
     text: &mut [u8],
-) {
+) -> io::Result<()> {
     let c = Cursor { at: 0 };
     if let Number::Value(a, c1) = c.number_then(sizes, 32) {
         if let Number::Value(b, c2) = c1.number_then(sizes, 32) {
@@ -53,14 +64,15 @@ fn map_with(
                 if let Number::Value(e, _) = c3.number(sizes) {
                     let n = buffer_length(a, b, work.len());
                     let m = buffer_length(d, e, text.len());
-                    map_buffers(cells, graph, arrivals, &mut work[..n], &mut text[..m]);
+                    map_buffers(rt, cells, graph, arrivals, &mut work[..n], &mut text[..m])?;
                 }
             }
         }
     }
+    Ok(())
 }
 
-fn each(s: &[u8], work: &mut [u16], text: &mut [u8]) {
+fn each(rt: &impl Print, s: &[u8], work: &mut [u16], text: &mut [u8]) -> io::Result<()> {
     let mut from = 0;
     while from < s.len() {
         let a = program_files::end(s, from);
@@ -68,24 +80,26 @@ fn each(s: &[u8], work: &mut [u16], text: &mut [u8]) {
         let c = program_files::end(s, b + 1);
         let d = program_files::end(s, c + 1);
         if d >= s.len() {
-            return;
+            return Ok(());
         }
         map_with(
+            rt,
             &s[from..a],
             &s[a + 1..b],
             &s[b + 1..c],
             &s[c + 1..d],
             work,
             text,
-        );
+        )?;
         from = d + 1;
     }
+    Ok(())
 }
 
-fn main() {
+fn main(rt: HostRuntime) -> io::Result<()> {
     let mut input = [0u8; 262144];
     let mut work = [0u16; 512000];
     let mut text = [0u8; 65536];
-    let n = io::read_full(STDIN_FILENO, &mut input);
-    each(&input[..n], &mut work, &mut text);
+    let n = program_files::fill(&mut rt.stdin(), &mut input)?;
+    each(&rt, &input[..n], &mut work, &mut text)
 }

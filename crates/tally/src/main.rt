@@ -8,6 +8,7 @@ ghost use Rattle.base.specs.{length};
 
 use model::{Tally, Verdict, Written};
 use program_files::{Found, Loaded};
+use std::rt::Files;
 
 // What the next name led to: a netlist, counted or refused; the end of the netlists; or a file that cannot be read.
 #[derive(Clone, Copy)]
@@ -29,37 +30,53 @@ fn led_to(found: NextNetlist, tally: Tally) -> Next {
 }
 
 // A netlist, or its refusal in its place.
-fn count_one(cells: &[u8], netlist: &[u8], t: Tally) -> Tally {
+fn count_one(rt: &(impl Print + Eprint), cells: &[u8], netlist: &[u8], t: Tally) -> Tally {
     let r = tally_counting::count(t, cells, netlist);
     let verdict = r.verdict;
     if let Verdict::Refused(number, place) = verdict {
-        program_files::said(program_files::refused(number, place), b"tally");
+        program_files::said(rt, program_files::refused(rt, number, place), "tally");
     }
     r.tally
 }
 
-fn count_file(path: &[u8], cells: &[u8], buf: &mut [u8], t: Tally) -> Next
+fn count_file<R: Files + Print + Eprint>(
+    rt: &R,
+    path: &str,
+    cells: &[u8],
+    buf: &mut [u8],
+    t: Tally,
+) -> Next
     requires { length buf.old ≡ 65537 }
 {
-    match program_files::find(b"tally", path, buf) {
-        Found::Bytes(n) => led_to(NextNetlist::Counted, count_one(cells, &buf[..n], t)),
+    match program_files::find(rt, "tally", path, buf) {
+        Found::Bytes(n) => led_to(NextNetlist::Counted, count_one(rt, cells, &buf[..n], t)),
         Found::Absent => led_to(NextNetlist::End, t),
         Found::Unreadable => led_to(NextNetlist::Unreadable, t),
     }
 }
 
 // `1.blif` and so on.
-fn count_next(k: u32, cells: &[u8], buf: &mut [u8], t: Tally) -> Next
+fn file_name(k: u32, name: &mut [u8; 16]) -> &str {
+    let at = base_text::put_number(name, 0, k);
+    let end = base_text::put_bytes(name, at, b".blif");
+    str::from_utf8(&name[..end]).unwrap()
+}
+
+fn count_next<R: Files + Print + Eprint>(
+    rt: &R,
+    k: u32,
+    cells: &[u8],
+    buf: &mut [u8],
+    t: Tally,
+) -> Next
     requires { length buf.old ≡ 65537 }
 {
     let mut name = [0u8; 16];
-    let at = base_text::put_number(&mut name, 0, k);
-    let end = base_text::put_bytes(&mut name, at, b".blif");
-    count_file(&name[..end], cells, buf, t)
+    count_file(rt, file_name(k, &mut name), cells, buf, t)
 }
 
 // Where a netlist cannot be read, which `find` has said, the count is none: it would leave out that netlist and those behind it.
-fn count_all(cells: &[u8], buf: &mut [u8]) -> Next
+fn count_all<R: Files + Print + Eprint>(rt: &R, cells: &[u8], buf: &mut [u8]) -> Next
     requires { length buf.old ≡ 65537 }
 {
     let mut t = Tally {
@@ -70,7 +87,7 @@ fn count_all(cells: &[u8], buf: &mut [u8]) -> Next
     };
     let mut k: u32 = 1;
     while k < 1000000 {
-        let next = count_next(k, cells, buf, t);
+        let next = count_next(rt, k, cells, buf, t);
         let found = next.found;
         let NextNetlist::Counted = found else {
             return next;
@@ -82,31 +99,30 @@ fn count_all(cells: &[u8], buf: &mut [u8]) -> Next
 }
 
 // It lends 65,536 bytes.
-fn show(t: Tally, cells: &[u8], text: &mut [u8])
+fn show(rt: &(impl Print + Eprint), t: Tally, cells: &[u8], text: &mut [u8])
     requires { length text.old ≡ 65536 }
 {
     match tally_report::report(t, cells, text) {
-        Written::Length(n) => program_files::said(program_files::put(&text[..n]), b"tally"),
-        Written::Refused(number, place) => program_files::said(
-            program_files::refused(number, place),
-            b"tally",
-        ),
+        Written::Length(n) => program_files::said(rt, program_files::put(rt, &text[..n]), "tally"),
+        Written::Refused(number, place) => {
+            program_files::said(rt, program_files::refused(rt, number, place), "tally");
+        }
     }
 }
 
-fn main() {
+fn main(rt: HostRuntime) {
     let mut cells = [0u8; 65537];
     let mut buf = [0u8; 65537];
     let mut text = [0u8; 65536];
-    let cells_read = program_files::load(b"tally", b"cells.txt", &mut cells);
+    let cells_read = program_files::load(&rt, "tally", "cells.txt", &mut cells);
     let Loaded::Bytes(n) = cells_read else {
         return;
     };
-    let all = count_all(&cells[..n], &mut buf);
+    let all = count_all(&rt, &cells[..n], &mut buf);
     let found = all.found;
     let NextNetlist::End = found else {
         return;
     };
     let t = all.tally;
-    show(t, &cells[..n], &mut text);
+    show(&rt, t, &cells[..n], &mut text);
 }
