@@ -5,7 +5,7 @@ use Rattle.promises.specs.{Fits}
 use Rattle.program_folder.proofs.show.Goals as goal
 
 pub slice_bounds-put-end : goal.slice_bounds-put-end
-slice_bounds-put-end c =
+slice_bounds-put-end g c =
     let text = c.args.text.now in
     let n = c.a-1.given in
     let h : n.0.0 ≤ length text = subst (λ (a : Answer). Fits a (length text)) n.1 c.requires in

@@ -3,4 +3,4 @@ use Rattle.base.specs.{arith, length-take}
 use Rattle.run_genlib.proofs.convert_with.Goals as goal
 
 pub slice_bounds-convert_buffer-end-then-k-text : goal.slice_bounds-convert_buffer-end-then-k-text
-slice_bounds-convert_buffer-end-then-k-text c = simp length-take (omega arith)
+slice_bounds-convert_buffer-end-then-k-text g c = simp length-take (omega arith)

@@ -10,9 +10,9 @@ within : {n from a b : ℕ} → from < n → a ≤ n + (from - n) → (a ≡ n �
 within h k l m = omega arith
 
 pub loop-from-smaller : goal.loop-from-smaller
-loop-from-smaller c =
+loop-from-smaller g c =
     less c.loop-from-test.true c.end-a.ensures.1 c.end-b.ensures.1
 
 pub loop-from-preserved : goal.loop-from-preserved
-loop-from-preserved c =
+loop-from-preserved g c =
     (within c.loop-from-test.true c.end-a.ensures.2 c.if-a-s.false c.end-b.ensures.2, omega arith)

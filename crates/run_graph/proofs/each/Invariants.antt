@@ -3,7 +3,7 @@ use Rattle.base.specs.{◌≡◌, ◌+◌, ◌≤◌, ◌-◌, length}
 use Rattle.run_graph.proofs.each.Given as goal
 
 abbrev pub invariant-loop-from : goal.invariant-loop-from
-invariant-loop-from l = (l.from ≤ length l.s + 1) × (length l.work ≡ length l.initial.work)
+invariant-loop-from g l = (l.from ≤ length l.s + 1) × (length l.work ≡ length l.initial.work)
 
 abbrev pub decreases-loop-from : goal.decreases-loop-from
-decreases-loop-from l = length l.s + 1 - l.from
+decreases-loop-from g l = length l.s + 1 - l.from

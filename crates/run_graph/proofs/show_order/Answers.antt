@@ -4,4 +4,4 @@ use Rattle.graph_order.proofs.{fit-capacity}
 use Rattle.run_graph.proofs.show_order.Goals as goal
 
 pub slot-requires : goal.slot-requires
-slot-requires c = (fit-capacity c.args.h c.args.work.now c.requires, omega arith)
+slot-requires g c = (fit-capacity c.args.h c.args.work.now c.requires, omega arith)

@@ -7,9 +7,9 @@ less : {n from a b c d : ℕ} → from < n → from ≤ a → a + 1 ≤ b → b 
 less h k l m o = omega arith
 
 pub loop-from-smaller : goal.loop-from-smaller
-loop-from-smaller c =
+loop-from-smaller g c =
     less c.loop-from-test.true c.end-a.ensures.1 c.end-b.ensures.1 c.end-c.ensures.1 c.end-d.ensures.1
 
 pub loop-from-preserved : goal.loop-from-preserved
-loop-from-preserved c =
+loop-from-preserved g c =
     (omega (arith, c.if-d-s.false), omega arith, omega arith)

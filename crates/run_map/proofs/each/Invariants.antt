@@ -3,7 +3,7 @@ use Rattle.base.specs.{◌≡◌, ◌≤◌, ◌-◌, length}
 use Rattle.run_map.proofs.each.Given as goal
 
 abbrev pub invariant-loop-from : goal.invariant-loop-from
-invariant-loop-from l = (l.from ≤ length l.s) × (length l.work ≡ length l.initial.work) × (length l.text ≡ length l.initial.text)
+invariant-loop-from g l = (l.from ≤ length l.s) × (length l.work ≡ length l.initial.work) × (length l.text ≡ length l.initial.text)
 
 abbrev pub decreases-loop-from : goal.decreases-loop-from
-decreases-loop-from l = length l.s - l.from
+decreases-loop-from g l = length l.s - l.from

@@ -3,4 +3,4 @@ use Rattle.base.specs.{arith, length-take}
 use Rattle.run_map.proofs.map_buffers.Goals as goal
 
 pub slice_bounds-put-end-then-n-text : goal.slice_bounds-put-end-then-n-text
-slice_bounds-put-end-then-n-text c = simp length-take (omega arith)
+slice_bounds-put-end-then-n-text g c = simp length-take (omega arith)

@@ -3,10 +3,10 @@ use Rattle.base.specs.{arith, refl}
 use Rattle.tally.proofs.count_all.Goals as goal
 
 pub loop-k-init : goal.loop-k-init
-loop-k-init c = refl
+loop-k-init g c = refl
 
 pub overflow_add-k : goal.overflow_add-k
-overflow_add-k c = omega arith
+overflow_add-k g c = omega arith
 
 pub loop-k-smaller : goal.loop-k-smaller
-loop-k-smaller c = omega arith
+loop-k-smaller g c = omega arith

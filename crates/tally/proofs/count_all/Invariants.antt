@@ -3,7 +3,7 @@ use Rattle.base.specs.{◌≡◌, ◌-◌, length}
 use Rattle.tally.proofs.count_all.Given as goal
 
 abbrev pub invariant-loop-k : goal.invariant-loop-k
-invariant-loop-k l = length l.buf ≡ length l.initial.buf
+invariant-loop-k g l = length l.buf ≡ length l.initial.buf
 
 abbrev pub decreases-loop-k : goal.decreases-loop-k
-decreases-loop-k l = 1000000 - l.k
+decreases-loop-k g l = 1000000 - l.k
