@@ -9,8 +9,8 @@ pins_at ws i = get_or ws (8 * i + 2) 0
 abbrev pub use_at : List ℕ → ℕ → ℕ → ℕ
 use_at ws i j = get_or ws (8 * i + 3 + j) 0
 
-abbrev pub field_own : List ℕ → ℕ → ℕ
-field_own ws i = get_or ws (8 * i + 7) 0
+abbrev pub own_at : List ℕ → ℕ → ℕ
+own_at ws i = get_or ws (8 * i + 7) 0
 
 -- from head h the links lead to driver k; a head and a link are one more than a driver's place, 0 at the end
 pub data On (links : List ℕ) (k : ℕ) : ℕ → Type 0 where
@@ -31,13 +31,13 @@ pub record Chained (ws heads links : List ℕ) (i : ℕ) : Type 0 where
   pub long : length links ≡ 10923
   pub falling : Falling links
   pub below : (b : ℕ) → get_or heads b 0 ≤ i
-  pub on : (k : ℕ) → k < i → On links k (head_of heads (field_own ws k))
+  pub on : (k : ℕ) → k < i → On links k (head_of heads (own_at ws k))
 
 -- an answer of a walk along a bucket: one more than the place of a driver of this number, or 0 where the bucket has none
 pub record Found (ws links : List ℕ) (h x r : ℕ) : Type 0 where
   pub most : r ≤ h
-  pub is : 0 < r → field_own ws (r - 1) ≡ x
-  pub none : r ≡ 0 → (k : ℕ) → On links k h → field_own ws k ≡ x → ⊥
+  pub is : 0 < r → own_at ws (r - 1) ≡ x
+  pub none : r ≡ 0 → (k : ℕ) → On links k h → own_at ws k ≡ x → ⊥
 
 -- an answer of a walk over the inputs: the place of the first with this number, or 12
 pub record InputOf (ins : List ℕ) (count x r : ℕ) : Type 0 where
