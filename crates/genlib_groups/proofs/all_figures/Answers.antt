@@ -1,8 +1,9 @@
 -- `genlib_groups::all_figures` meets its contract. The invariant: all tokens are figures where all that are left are; the measure is what is left of the line.
-use Rattle.base.specs.{refl, sym, ap, ◌∙◌, arith, ⊎_elim, not-true, not-false}
+use Rattle.base.specs.{refl, sym, ap, ◌∙◌, arith}
 use Rattle.model.specs.{all, is_figure}
 use Rattle.genlib_expression.proofs.{step, nothing_left_lem}
 use Rattle.genlib_groups.proofs.all_figures.Goals as goal
+use Rattle.genlib_groups.proofs.all_figures.Goals.{else-a-b-via-then-a-b+else-not-is_figure, else-a-b-via-else-a-b}
 
 pub loop-at-init : goal.loop-at-init
 loop-at-init c = (c.requires, refl)
@@ -15,7 +16,7 @@ unfolding all
 returns-then-not-is_figure c =
     let l = c.loop-at in
     let k = step _ _ l.invariant.0 _ c.next_token-t.ensures in
-    sym (l.invariant.1 ∙ ap (all is_figure) (k.one c.if-a-b.true) ∙ rw (sym c.is_figure.ensures ∙ not-true _ c.if-not-is_figure.true))
+    sym (l.invariant.1 ∙ ap (all is_figure) (k.one c.if-a-b.true) ∙ rw (sym c.is_figure.ensures ∙ c.if-not-is_figure.true))
 
 pub loop-at-smaller : goal.loop-at-smaller
 loop-at-smaller c =
@@ -29,10 +30,10 @@ loop-at-preserved c =
     let k = step _ _ l.invariant.0 _ c.next_token-t.ensures in (
       k.within,
       l.invariant.1
-          ∙ ⊎_elim
-          (λ y. ap (all is_figure) (k.one y.0.taken) ∙ rw (sym y.2.ensures ∙ not-false _ y.3.left))
-          (λ y. ap (all is_figure) (k.none y.left).0 ∙ sym (ap (all is_figure) (k.none y.left).1))
-          c.else-a-b.branch,
+          ∙ elim c.else-a-b.branch [
+            | else-a-b-via-then-a-b+else-not-is_figure y ↦ ap (all is_figure) (k.one y.if-a-b.true) ∙ rw (sym y.is_figure.ensures ∙ y.if-not-is_figure.false)
+            | else-a-b-via-else-a-b y ↦ ap (all is_figure) (k.none y.if-a-b.false).0 ∙ sym (ap (all is_figure) (k.none y.if-a-b.false).1)
+          ],
     )
 
 pub returns : goal.returns

@@ -1,6 +1,6 @@
 -- `genlib_groups::all_have_lines` meets its contract. The invariant: all tokens have their lines where the pins that are left do; the measure is how many are left.
-use Rattle.base.specs.{◌≡◌, sym, ap, ◌∙◌, arith, ◌-◌, not-true, not-false}
-use Rattle.model.specs.{all, from, below}
+use Rattle.base.specs.{◌≡◌, sym, ap, ◌∙◌, arith, ◌-◌}
+use Rattle.model.specs.{all, below}
 use Rattle.genlib_expression.specs.{names_at}
 use Rattle.genlib_groups.specs.{pin_has, lines_behind}
 use Rattle.genlib_groups.proofs.GroupReading.{pins-all, pins-step, pins-end, has-free}
@@ -17,12 +17,12 @@ loop-i-init c =
 
 pub returns-then-not-has_line : goal.returns-then-not-has_line
 returns-then-not-has_line c =
-    sym (c.loop-i.invariant.3 ∙ pins-step _ _ _ _ c.loop-i-test.true ∙ rw (ap (pin_has _) (sym c.word_at.ensures) ∙ sym c.has_line.ensures ∙ not-true _ c.if-not-has_line.true))
+    sym (c.loop-i.invariant.3 ∙ pins-step _ _ _ _ c.loop-i-test.true ∙ rw (ap (pin_has _) (sym c.word_at.ensures) ∙ sym c.has_line.ensures ∙ c.if-not-has_line.true))
 
 pub loop-i-preserved : goal.loop-i-preserved
 loop-i-preserved c =
     let l = c.loop-i.invariant in
-    (l.0, l.1, l.2, l.3 ∙ pins-step _ _ _ _ c.loop-i-test.true ∙ rw (ap (pin_has _) (sym c.word_at.ensures) ∙ sym c.has_line.ensures ∙ not-false _ c.if-not-has_line.false))
+    (l.0, l.1, l.2, l.3 ∙ pins-step _ _ _ _ c.loop-i-test.true ∙ rw (ap (pin_has _) (sym c.word_at.ensures) ∙ sym c.has_line.ensures ∙ c.if-not-has_line.false))
 
 pub returns : goal.returns
 returns c = sym (c.loop-i.invariant.3 ∙ pins-end _ _ _ _ c.loop-i-test.false)

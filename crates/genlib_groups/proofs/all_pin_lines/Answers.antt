@@ -1,9 +1,10 @@
 -- `genlib_groups::all_pin_lines` meets its contract. The invariant: all lines are PIN lines where all from here on are; the measure is what is left of the text.
-use Rattle.base.specs.{refl, sym, ap, ◌∙◌, arith, ⊎_elim, not-true, not-false}
+use Rattle.base.specs.{refl, sym, ap, ◌∙◌, arith}
 use Rattle.model.specs.{all, line_is, is_pin_line}
 use Rattle.genlib_groups.proofs.GenlibLineLaws.{bounded, starts-gate, not-ended, is-ended}
 use Rattle.genlib_groups.proofs.GroupReading.{gate-here, line-here, none_here}
 use Rattle.genlib_groups.proofs.all_pin_lines.Goals as goal
+use Rattle.genlib_groups.proofs.all_pin_lines.Goals.{then-stop-l-via-then-stop-l, then-stop-l-via-else-stop-l+then-not-is_pin_line}
 
 pub loop-at-init : goal.loop-at-init
 loop-at-init c = (c.requires, refl)
@@ -39,10 +40,11 @@ returns-then-stop-l c =
     let i = c.loop-at.invariant in
     let b = bounded _ _ c.loop-at-test.true _ c.line-l.ensures in
     let more = i.1 ∙ ap (all (line_is is_pin_line)) (line-here _ _ _ _ b.lines (sym (starts-gate _ _ _ b) ∙ sym c.names_gate.ensures ∙ c.if-names_gate.false)).0 in
-    ⊎_elim
-    (λ y. sym (more ∙ rw (not-ended _ _ _ b is_pin_line y.taken)))
-    (λ y. sym (more ∙ rw (is-ended _ _ _ b is_pin_line y.0.left ∙ sym y.2.ensures ∙ not-true _ y.3.taken)))
-    c.then-stop-l.branch
+    elim c.then-stop-l.branch [
+      | then-stop-l-via-then-stop-l y ↦ sym (more ∙ rw (not-ended _ _ _ b is_pin_line y.if-stop-l.true))
+      | then-stop-l-via-else-stop-l+then-not-is_pin_line y ↦
+          sym (more ∙ rw (is-ended _ _ _ b is_pin_line y.if-stop-l.false ∙ sym y.is_pin_line.ensures ∙ y.if-not-is_pin_line.true))
+    ]
 
 pub loop-at-smaller : goal.loop-at-smaller
 loop-at-smaller c =
@@ -54,7 +56,7 @@ unfolding all
 loop-at-preserved c =
     let i = c.loop-at.invariant in
     let b = bounded _ _ c.loop-at-test.true _ c.line-l.ensures in
-    (b.within, i.1 ∙ ap (all (line_is is_pin_line)) (line-here _ _ _ _ b.lines (sym (starts-gate _ _ _ b) ∙ sym c.names_gate.ensures ∙ c.if-names_gate.false)).0 ∙ rw (is-ended _ _ _ b is_pin_line c.if-stop-l.false ∙ sym c.is_pin_line.ensures ∙ not-false _ c.if-not-is_pin_line.false))
+    (b.within, i.1 ∙ ap (all (line_is is_pin_line)) (line-here _ _ _ _ b.lines (sym (starts-gate _ _ _ b) ∙ sym c.names_gate.ensures ∙ c.if-names_gate.false)).0 ∙ rw (is-ended _ _ _ b is_pin_line c.if-stop-l.false ∙ sym c.is_pin_line.ensures ∙ c.if-not-is_pin_line.false))
 
 pub returns : goal.returns
 unfolding all

@@ -1,11 +1,12 @@
 -- `genlib_groups::figure` meets its contract, by its digits and three decimals.
-use Rattle.base.specs.{◌≡◌, refl, sym, ap, ◌∙◌, arith, ℕ, ◌+◌, ◌-◌, ◌*◌, min, List, [], ◌∷◌, ◌++◌, append_assoc, ⊎_elim, ltb-true, ltb-false, not-true, not-false}
+use Rattle.base.specs.{◌≡◌, refl, sym, ap, ◌∙◌, arith, ℕ, ◌+◌, ◌-◌, ◌*◌, min, List, [], ◌∷◌, ◌++◌, append_assoc}
 use Rattle.base.specs.{take, get_or}
 use Rattle.model.specs.{as_digits, is_digit, in_thousandths}
 use Rattle.base_text.specs.{span_end}
 use Rattle.genlib_groups.proofs.GenlibFigures.{whole_is, three, decimal_byte, figure-broken, figure-long, figure-fits, figure_large}
 use Rattle.genlib_groups.proofs.GenlibFigures.{cap_digit}
 use Rattle.genlib_groups.proofs.figure.Goals as goal
+use Rattle.genlib_groups.proofs.figure.Goals.{then-not-is_figure-via-then-not-is_figure, then-not-is_figure-via-else-not-is_figure+then-w-end}
 
 -- three digits more behind the whole
 number_is : (w : List ℕ) (end : ℕ) → end ≡ span_end is_digit w 0 → (n x y z a b d : ℕ)
@@ -27,10 +28,10 @@ pub returns-then-not-is_figure : goal.returns-then-not-is_figure
 returns-then-not-is_figure c =
     let f = c.is_figure.ensures in
     let e = c.span_end-end.ensures in
-    ⊎_elim
-    (λ y. figure-broken _ _ refl (sym f ∙ not-true _ y.taken))
-    (λ y. figure-long _ _ e (sym f ∙ not-false _ y.0.left) (ltb-true _ _ y.1.taken))
-    c.then-not-is_figure.branch
+    elim c.then-not-is_figure.branch [
+      | then-not-is_figure-via-then-not-is_figure y ↦ figure-broken _ _ refl (sym f ∙ y.if-not-is_figure.true)
+      | then-not-is_figure-via-else-not-is_figure+then-w-end y ↦ figure-long _ _ e (sym f ∙ y.if-not-is_figure.false) y.if-w-end.true
+    ]
 
 pub whole-requires : goal.whole-requires
 whole-requires c =
@@ -42,7 +43,7 @@ overflow_add-end-2 c =
 
 pub add_digit-a-requires : goal.add_digit-a-requires
 add_digit-a-requires c =
-    let b = decimal_byte _ _ c.span_end-end.ensures (sym c.is_figure.ensures ∙ not-false _ c.if-not-is_figure.false) 0 (c.span_end-end.result + 1) (omega arith) in
+    let b = decimal_byte _ _ c.span_end-end.ensures (sym c.is_figure.ensures ∙ c.if-not-is_figure.false) 0 (c.span_end-end.result + 1) (omega arith) in
     (omega (arith, c.whole.ensures), omega (arith, c.decimal.ensures, b.0), omega (arith, c.decimal.ensures, b.1))
 
 pub overflow_add-end-3 : goal.overflow_add-end-3
@@ -51,7 +52,7 @@ overflow_add-end-3 c =
 
 pub add_digit-b-requires : goal.add_digit-b-requires
 add_digit-b-requires c =
-    let b = decimal_byte _ _ c.span_end-end.ensures (sym c.is_figure.ensures ∙ not-false _ c.if-not-is_figure.false) 1 (c.span_end-end.result + 2) (omega arith) in
+    let b = decimal_byte _ _ c.span_end-end.ensures (sym c.is_figure.ensures ∙ c.if-not-is_figure.false) 1 (c.span_end-end.result + 2) (omega arith) in
     (omega (arith, c.add_digit-a.ensures), omega (arith, c.decimal-2.ensures, b.0), omega (arith, c.decimal-2.ensures, b.1))
 
 pub overflow_add-end-4 : goal.overflow_add-end-4
@@ -60,7 +61,7 @@ overflow_add-end-4 c =
 
 pub add_digit-c-requires : goal.add_digit-c-requires
 add_digit-c-requires c =
-    let b = decimal_byte _ _ c.span_end-end.ensures (sym c.is_figure.ensures ∙ not-false _ c.if-not-is_figure.false) 2 (c.span_end-end.result + 3) (omega arith) in
+    let b = decimal_byte _ _ c.span_end-end.ensures (sym c.is_figure.ensures ∙ c.if-not-is_figure.false) 2 (c.span_end-end.result + 3) (omega arith) in
     (omega (arith, c.add_digit-b.ensures), omega (arith, c.decimal-3.ensures, b.0), omega (arith, c.decimal-3.ensures, b.1))
 
 pub overflow_cast-result : goal.overflow_cast-result
@@ -70,10 +71,10 @@ pub returns-then-c-le65535 : goal.returns-then-c-le65535
 returns-then-c-le65535 c =
     let e = c.span_end-end.ensures in
     let n = number_is _ _ e _ _ _ _ _ _ _ c.whole.ensures c.decimal.ensures c.decimal-2.ensures c.decimal-3.ensures c.add_digit-a.ensures c.add_digit-b.ensures c.add_digit-c.ensures in
-    figure-fits _ _ e (sym c.is_figure.ensures ∙ not-false _ c.if-not-is_figure.false) (ltb-false _ _ c.if-w-end.false) _ n c.if-c-le65535.true
+    figure-fits _ _ e (sym c.is_figure.ensures ∙ c.if-not-is_figure.false) c.if-w-end.false _ n c.if-c-le65535.true
 
 pub returns-else-c-le65535 : goal.returns-else-c-le65535
 returns-else-c-le65535 c =
     let e = c.span_end-end.ensures in
     let n = number_is _ _ e _ _ _ _ _ _ _ c.whole.ensures c.decimal.ensures c.decimal-2.ensures c.decimal-3.ensures c.add_digit-a.ensures c.add_digit-b.ensures c.add_digit-c.ensures in
-    figure_large _ _ e (sym c.is_figure.ensures ∙ not-false _ c.if-not-is_figure.false) (ltb-false _ _ c.if-w-end.false) _ n c.if-c-le65535.false
+    figure_large _ _ e (sym c.is_figure.ensures ∙ c.if-not-is_figure.false) c.if-w-end.false _ n c.if-c-le65535.false

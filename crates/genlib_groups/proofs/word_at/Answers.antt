@@ -4,6 +4,9 @@ use Rattle.model.specs.{is_word_byte}
 use Rattle.base_text.proofs.{class_from, class_part, class_past}
 use Rattle.genlib_groups.proofs.word_at.Goals as goal
 
+pub slice_bounds-result-start : goal.slice_bounds-result-start
+slice_bounds-result-start c = let a = c.args in omega (arith, c.span_end-end.ensures, class_from is_word_byte a.w.now a.at)
+
 pub slice_bounds-result-count : goal.slice_bounds-result-count
 slice_bounds-result-count c = let a = c.args in omega (arith, c.span_end-end.ensures, class_from is_word_byte a.w.now a.at)
 
