@@ -275,18 +275,3 @@ module _ {w : List ℕ} {m base v : ℕ} {notes : List ℕ} (inside : v ≤ m) w
             get_or-set_other two v i (base + z) 0 (λ e. let same : position_at w m i ≡ position_at w m v = ap (position_at w m) e in omega arith)
             ∙ b.later i (omega (arith, (right_operand p inside kind er).first))
             ∙ a.later i (omega (arith, (left_operand p inside kind el).first))
-
-    -- a walk that is given up at an operand u, once what is noted is in `one`
-    pub from-leaves-behind : {u x : ℕ} {one out : List ℕ} → position_at w m u < position_at w m v
-        → ((ls : List ℕ) → Noted w m ls base notes → Noted w m ls base one)
-        → ((i : ℕ) → position_at w m v ≤ position_at w m i → get_or one i 0 ≡ get_or notes i 0) → FromLeaves w m base u one out x → 65536 ≤ x
-        → FromLeaves w m base v notes out 65536
-    from-leaves-behind first kept stays n h =
-        record {
-          walked = λ l. absurd (omega arith);
-          kept = λ g ls noted. n.kept h ls (kept ls noted);
-          kind = λ g. kind;
-          unnoted = λ g. omega (arith, n.later v first, stays v (omega arith));
-          early = n.early;
-          later = λ i l. n.later i (omega arith) ∙ stays i (omega arith);
-        }
