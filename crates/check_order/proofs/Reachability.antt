@@ -7,13 +7,13 @@ use Rattle.check_order.proofs.DriverLists.{zeros, listed-none, listed-few, liste
 use Rattle.check_order.proofs.ReadyDrivers.{feeder_below}
 
 -- what feeds a driver feeds what that feeds
-further : (refs : List ℕ) (i j k y : ℕ) → FeedsAt refs k j y → Back refs k i → Back refs y i
-further refs i j k y g (one a f) = more a k f (one j g)
-further refs i j k y g (more a m f b) = more a m f (further refs m j k y g b)
+further : (refs : List ℕ) (k i j y : ℕ) → FeedsAt refs k j y → Back refs k i → Back refs y i
+further refs k i j y g (one a f) = more a k f (one j g)
+further refs k i j y g (more a m f b) = more a m f (further refs k m j y g b)
 
 pub behind_then : (refs : List ℕ) (i j k y : ℕ) → Behind refs i k → FeedsAt refs k j y → Back refs y i
 behind_then refs i j k y (inl e) f = one j (subst (λ (x : ℕ). FeedsAt refs x j y) e f)
-behind_then refs i j k y (inr b) f = further refs i j k y f b
+behind_then refs i j k y (inr b) f = further refs k i j y f b
 
 -- ---- a pin
 

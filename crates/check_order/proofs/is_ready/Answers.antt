@@ -1,5 +1,5 @@
 -- `check_order::is_ready` meets its contract. The invariant: the pins passed are fed. The measure is how many are left.
-use Rattle.base.specs.{arith, refl, sym, ◌∙◌, true≢false, false≢true, below_more, not-true, not-false}
+use Rattle.base.specs.{arith, refl, sym, ◌∙◌, true≢false, false≢true, below_more}
 use Rattle.check_order.proofs.SortSteps.{ready-stops, ready_goes, ready-ends}
 use Rattle.check_order.proofs.is_ready.Goals as goal
 
@@ -13,15 +13,15 @@ pub returns-then-not-is_fed : goal.returns-then-not-is_fed
 returns-then-not-is_fed c =
     let a = c.args in
     let f = c.is_fed in
-    record { is = sym (c.loop-j.invariant.2 ∙ ready-stops a.refs.now a.flags.now a.i c.loop-j.j c.loop-j-test.true (sym f.ensures.is ∙ not-true _ c.if-not-is_fed.true)); ready = λ e. absurd (false≢true e); stuck = λ e. c.is_fed.ensures.waits (not-true _ c.if-not-is_fed.true) }
+    record { is = sym (c.loop-j.invariant.2 ∙ ready-stops a.refs.now a.flags.now a.i c.loop-j.j c.loop-j-test.true (sym f.ensures.is ∙ c.if-not-is_fed.true)); ready = λ e. absurd (false≢true e); stuck = λ e. c.is_fed.ensures.waits c.if-not-is_fed.true }
 
 pub loop-j-preserved : goal.loop-j-preserved
 loop-j-preserved c =
     let a = c.args in
     let f = c.is_fed in (
       omega arith,
-      below_more _ _ c.loop-j.invariant.1 (f.ensures.fed (not-false _ c.if-not-is_fed.false)),
-      c.loop-j.invariant.2 ∙ ready_goes a.refs.now a.flags.now a.i c.loop-j.j c.loop-j-test.true (sym f.ensures.is ∙ not-false _ c.if-not-is_fed.false),
+      below_more _ _ c.loop-j.invariant.1 (f.ensures.fed c.if-not-is_fed.false),
+      c.loop-j.invariant.2 ∙ ready_goes a.refs.now a.flags.now a.i c.loop-j.j c.loop-j-test.true (sym f.ensures.is ∙ c.if-not-is_fed.false),
     )
 
 pub returns : goal.returns
