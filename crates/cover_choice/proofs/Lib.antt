@@ -1,7 +1,8 @@
 -- `InverterCount`: how many variables are ordered, and how many cuts one has. `KeptWords`: what stays where a pass
 -- writes only some columns. `NeededMarks`: what marking reads and leaves. `EnumeratedGraph`: what the passes before have left gives what is asked of the words.
--- `NeededPhases`: the law of `mark`. `UncoveredOutputs`: the law of `uncovered`. `LeafTimes`, `CoveredOutputs`: a cut of the words, and what its matches give. `PhaseBounds`: what is
--- chosen has room. `ChoiceSteps`: the step of a variable. `PhaseChoice`: the law of `choose`. `CellBorrows`: a local array lent as a list of its first elements.
+-- `NeededPhases`: the law of `mark`. `UncoveredOutputs`: the law of `uncovered`. `LeafTimes`, `CoveredOutputs`: a cut of the words, and what its matches give.
+-- `PhaseBounds`: what is
+-- chosen has room. `ChoiceSteps`: the step of a variable. `PhaseChoice`: the law of `choose`.
 pub mod InverterCount
 pub mod KeptWords
 pub mod NeededMarks
@@ -13,7 +14,6 @@ pub mod CoveredOutputs
 pub mod PhaseBounds
 pub mod ChoiceSteps
 pub mod PhaseChoice
-pub mod CellBorrows
 pub use InverterCount.{all-ordered, few-cuts, few-ordered}
 pub use KeptWords.{Kept, NeedsKept, cuts-kept, graph-kept, kept_on, kept_same, order-kept, phases-kept}
 pub use NeededMarks.{match_nets_lem, match_pins, needs-matches, needs-slots}

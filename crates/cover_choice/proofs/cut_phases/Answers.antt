@@ -1,5 +1,5 @@
 -- `cover_choice::cut_phases` meets its contract: by whether the cut is the variable alone, and whether its function is a cell's in either phase.
-use Rattle.base.specs.{◌≡◌, sym, ap, ◌∙◌, true, false, List, ℕ, ◌<◌, arith, not-true}
+use Rattle.base.specs.{◌≡◌, sym, ap, ◌∙◌, true, false, List, ℕ, ◌<◌, arith}
 use Rattle.model.specs.{no_phase, earlier, choose, phase_table}
 use Rattle.model.specs.declared.Phase.{Phase}
 use Rattle.base_words.specs.{leaves_at}
@@ -40,8 +40,9 @@ returns-then-not-is_matched c =
     let w : List ℕ = a.work.now in
     let few = few-leaves w a.m a.v a.k in
     let e = sym c.is_trivial.ensures ∙ c.if-is_trivial.false in
-    let fits : c.table-f.result < 65536 = omega (arith, c.table-f.ensures, function-fits w a.m a.v a.k 65536 (λ i. omega (arith, c.shared_slice_known-1.given i))) in
-    let none = c.is_matched.ensures (not-true _ c.if-not-is_matched.true) in
+    let fits : c.table-f.result < 65536 = omega
+    (arith, c.table-f.ensures, function-fits w a.m a.v a.k 65536 (λ i. omega (arith, c.shared_slice_known-1.given i))) in
+    let none = c.is_matched.ensures c.if-not-is_matched.true in
     λ cells matches. (
       stays a.positive (on_none cells a.matches.now matches w a.m 1073741823 c.requires.1.early (omega arith) (leaves_at w a.m a.v a.k) few
           (λ j i. c.requires.1.cuts.within a.v a.k j c.requires.2 c.requires.3 i) a.k c.table-f.result fits none.0
@@ -60,9 +61,11 @@ returns c =
     let e = sym c.is_trivial.ensures ∙ c.if-is_trivial.false in
     λ cells matches. (
       (c.match_cut.ensures cells matches).0
-          ∙ ap (earlier (found_phase a.positive)) (ap (λ (f : ℕ). choose (found_on cells w a.m a.k (leaves_at w a.m a.v a.k) f)) (c.table-f.ensures ∙ sym (table-straight _))
+          ∙ ap (earlier (found_phase a.positive)) (ap (λ (f : ℕ). choose (found_on cells w a.m a.k (leaves_at w a.m a.v a.k) f))
+          (c.table-f.ensures ∙ sym (table-straight _))
           ∙ at_cut_lem cells w a.m a.v false a.k e),
       (c.match_cut.ensures cells matches).1
-          ∙ ap (earlier (found_phase a.negative)) (ap (λ (f : ℕ). choose (found_on cells w a.m a.k (leaves_at w a.m a.v a.k) (phase_table true f))) c.table-f.ensures
+          ∙ ap (earlier (found_phase a.negative)) (ap (λ (f : ℕ). choose (found_on cells w a.m a.k (leaves_at w a.m a.v a.k) (phase_table true f)))
+          c.table-f.ensures
           ∙ at_cut_lem cells w a.m a.v true a.k e),
     )
