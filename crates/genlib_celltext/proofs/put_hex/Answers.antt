@@ -10,4 +10,4 @@ returns c =
     let p = c.put_bytes in
     let word : c.hex_byte-a.result ∷ c.hex_byte-b.result ∷ c.hex_byte-c.result ∷ c.hex_byte-d.result ∷ [] ≡ hex_text c.args.n =
     cc (c.hex_byte-a.ensures, c.hex_byte-b.ensures, c.hex_byte-c.ensures, c.hex_byte-d.ensures) in
-    subst (λ (bs : List ℕ). Wrote c.args.out.now p.new.0 c.args.at p.result (32 ∷ bs)) word p.ensures
+    subst (λ (bs : List ℕ). Wrote c.args.out.now p.new.out c.args.at p.result (32 ∷ bs)) word p.ensures
