@@ -1,9 +1,22 @@
 -- `net_gates::gates_by` meets its contract: a number below the listed cells' is a line's.
-use Rattle.base.specs.{sym, ap, subst, ◌∙◌, ℕ, ◌≤◌, ◌<◌, arith}
+use Rattle.base.specs.{Bool, cond, ◌≡◌, sym, ap, subst, ◌∙◌, List, ℕ, ◌≤◌, ◌<◌, arith, lt-ltb, le-ltb}
 use Rattle.model.specs.declared.Cell.{Cell}
-use Rattle.cells_pairs.specs.{count_in}
-use Rattle.net_gates.specs.{one_driver, pair_driver, PairReady}
+use Rattle.cells_pairs.specs.{count_in, line_cell, id_in}
+use Rattle.net_gates.specs.{one_driver, pair_driver, driver_by, PairReady}
+use Rattle.net_gates.specs.declared.Driver.{Driver}
 use Rattle.net_gates.proofs.gates_by.Goals as goal
+
+module _ (records : List ℕ) (k : ℕ) (nets : List ℕ) (l : ℕ) where
+  either : Bool → Driver
+  either b = cond b (one_driver (line_cell records k) nets (line_cell records k).pins l) (pair_driver records (id_in records k) nets l)
+
+  by_line : k < count_in records → driver_by records k nets l ≡ one_driver (line_cell records k) nets (line_cell records k).pins l
+  unfolding driver_by either
+  by_line h = ap either (lt-ltb k (count_in records) h)
+
+  by_pair : count_in records ≤ k → driver_by records k nets l ≡ pair_driver records (id_in records k) nets l
+  unfolding driver_by either
+  by_pair h = ap either (le-ltb k (count_in records) h)
 
 pub cell_at-cell-requires : goal.cell_at-cell-requires
 cell_at-cell-requires c =
@@ -26,7 +39,7 @@ returns-then-k-count c =
     let h : a.k < count_in a.records.now = omega (arith, c.if-k-count.true, c.count.ensures) in
     c.one_gate.ensures
     ∙ ap (λ (x : Cell). one_driver x a.nets x.pins a.l) c.cell_at-cell.ensures
-    ∙ sym (by_line_lem a.records.now a.k a.nets a.l h)
+    ∙ sym (by_line a.records.now a.k a.nets a.l h)
 
 pub returns-else-k-count : goal.returns-else-k-count
 returns-else-k-count c =
