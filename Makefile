@@ -14,13 +14,13 @@ endif
 all: arraymap programs
 
 help:
-	@echo "make            prove the calls and the programs of the documents, and build arraymap: some nine minutes the first time"
+	@echo "make            prove the calls and the programs of the documents, and build arraymap, which takes long the first time"
 	@echo "make demo       the calls and arraymap alone, and a first mapping with its review page"
 	@echo "make arraymap   the calls and arraymap alone"
 	@echo "make install    the same, then everything below PREFIX, $(PREFIX); DESTDIR goes before it"
 	@echo "make uninstall  remove what make install puts there"
-	@echo "make test       prove and test everything from nothing"
-	@echo "make clean      remove target, what is proved and built: the next make begins anew"
+	@echo "make test       prove and test everything, as the gate does"
+	@echo "make clean      remove target and the crates' out, what is proved and built: the next make begins anew"
 
 # What is missing is said before anything is proved.
 tools-there:
@@ -36,9 +36,8 @@ prefix-there:
 	[ -d "$$folder" ] && [ -w "$$folder" ] || { echo "make: $$folder may not be written: choose another PREFIX, or install as its owner" >&2; exit 2; }
 
 arraymap: tools-there rust-there
-	@echo "proving the calls: some nine minutes the first time"
+	@echo "proving the calls, which takes long the first time"
 	tools/prove arraymap
-	rt staticlib arraymap > target/staticlib.log 2>&1 || { cat target/staticlib.log; exit 1; }
 	ARRAYMAP_LIB_DIR='$(CURDIR)/target/staticlib' cargo build --offline --release --manifest-path cli/Cargo.toml --target-dir target/cargo
 
 # A first mapping: the netlist, its figures and where its review page is.
@@ -82,4 +81,4 @@ test:
 	tests/run
 
 clean:
-	rm -rf target
+	rm -rf target crates/*/out

@@ -59,7 +59,7 @@ def put(path, text):
 def build():
     """Builds the programs, over the archive that is there or is proved first."""
     if not (LIBRARY / "libarraymap.a").exists():
-        subprocess.run(["rt", "staticlib", "arraymap"], cwd=ROOT, check=True, stdout=subprocess.DEVNULL, stderr=subprocess.DEVNULL)
+        subprocess.run([ROOT / "tools/prove", "arraymap"], check=True, stdout=subprocess.DEVNULL, stderr=subprocess.DEVNULL)
     subprocess.run(["cargo", "build", *CARGO, ROOT / "cli/Cargo.toml"], env=ENV, check=True)
 
 

@@ -26,28 +26,31 @@ fn given(folder: PathBuf) -> PathBuf {
     folder
 }
 
-/// `target/staticlib` of the repository, written for the sources as they are.
+/// The folder where `rt lib` writes the archive, for the sources as they are.
 fn proved() -> PathBuf {
     let root = Path::new(&env::var_os("CARGO_MANIFEST_DIR").expect("cargo sets it")).join("../..");
     let root = root.canonicalize().expect("the repository");
     println!("cargo:rerun-if-env-changed=PATH");
-    for source in ["crates", "crates.txt"] {
-        println!("cargo:rerun-if-changed={}", root.join(source).display());
+    println!("cargo:rerun-if-changed={}", root.join("crates.txt").display());
+    // Not `out`, which `rt` writes.
+    for krate in root.join("crates").read_dir().expect("the repository's crates").flatten() {
+        for part in ["src", "specs", "proofs"].map(|part| krate.path().join(part)) {
+            if part.exists() {
+                println!("cargo:rerun-if-changed={}", part.display());
+            }
+        }
     }
     if let Some(kit) = kit() {
         println!("cargo:rerun-if-changed={}", kit.display());
     }
-    // `check` proves as many crates at a time as there are processors, `staticlib` one.
-    for words in [["check", "arraymap"], ["staticlib", "arraymap"]] {
-        let asked = format!("`rt {}`", words.join(" "));
-        // What it prints is cargo's to show: with -vv as it comes, and else where it fails.
-        let status = Command::new("rt").args(words).current_dir(&root).status();
-        let status = status.unwrap_or_else(|error| {
-            panic!("{asked} cannot be run: {error}; it proves the library, or ARRAYMAP_LIB_DIR names the folder of one")
-        });
-        assert!(status.success(), "{asked} failed: the library is not proved, and nothing is built of it");
-    }
-    root.join("target/staticlib")
+    let library = root.join("crates/arraymap");
+    // What it prints is cargo's to show: with -vv as it comes, and else where it fails.
+    let status = Command::new("rt").arg("lib").current_dir(&library).status();
+    let status = status.unwrap_or_else(|error| {
+        panic!("`rt lib` cannot be run: {error}; it proves the library, or ARRAYMAP_LIB_DIR names the folder of one")
+    });
+    assert!(status.success(), "`rt lib` failed in crates/arraymap: the library is not proved, and nothing is built of it");
+    library.join("out")
 }
 
 /// The program `rt` that the path leads to.
