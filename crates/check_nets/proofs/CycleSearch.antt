@@ -17,16 +17,16 @@ use Rattle.check_nets.proofs.DrivenNets.{net_at, uses_at, is-driver, own_code, n
 
 module _ (refs : List ℕ) (n : ℕ) (flags order : List ℕ) (m : ℕ) (a : Sorted refs n flags order m) where
   -- what feeds a listed driver is listed before it
-  down : (p i k : ℕ) → p < m → get_or order p 0 ≡ i → Back refs k i → (q : ℕ) × (q < p) × (get_or order q 0 ≡ k)
-  down p i k h e (one j f) = a.behind p j k h (subst (λ (x : ℕ). FeedsAt refs x j k) (sym e) f)
-  down p i k h e (more j y f b) =
+  down : (k p i : ℕ) → p < m → get_or order p 0 ≡ i → Back refs k i → (q : ℕ) × (q < p) × (get_or order q 0 ≡ k)
+  down k p i h e (one j f) = a.behind p j k h (subst (λ (x : ℕ). FeedsAt refs x j k) (sym e) f)
+  down k p i h e (more j y f b) =
       let r = a.behind p j y h (subst (λ (x : ℕ). FeedsAt refs x j y) (sym e) f) in
-      let t = down r.0 y k (omega (arith, r.1)) r.2 b in
+      let t = down k r.0 y (omega (arith, r.1)) r.2 b in
       (t.0, omega (arith, r.1, t.1), t.2)
 
   pub never : (fuel p i : ℕ) → p < fuel → p < m → get_or order p 0 ≡ i → Back refs i i → ⊥
   never zero p i f h e b = not-suc-le-zero f
-  never (suc fuel) p i f h e b = let r = down p i i h e b in never fuel r.0 i (omega (arith, r.1)) (omega (arith, r.1)) r.2 b
+  never (suc fuel) p i f h e b = let r = down i p i h e b in never fuel r.0 i (omega (arith, r.1)) (omega (arith, r.1)) r.2 b
 
 module _ (inputs : List (List ℕ)) (ds : List Driver) (nets ins : List ℕ) (n count : ℕ) (st : Stored inputs ds nets ins n count) (refs : List ℕ) (o : Once nets ins count n n)
     (rows : Rows nets ins count n n refs) where

@@ -13,9 +13,11 @@ use Rattle.check_nets.specs.{no_driver}
 
 and_left : (a b : Bool) → T (a && b) → T a
 and_left true b t = tt
+and_left false b t = elim t [ ]
 
 and_right : (a b : Bool) → T (a && b) → T b
 and_right true b t = t
+and_right false b t = elim t [ ]
 
 or_cases : (a b : Bool) → T (a || b) → T a ⊎ T b
 or_cases true b t = inl tt

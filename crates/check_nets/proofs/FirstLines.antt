@@ -10,6 +10,7 @@ use Rattle.check_nets.specs.{no_driver}
 pub mem-at : {A : Type 0} (x d : A) (xs : List A) → Memᴰ x xs → (k : ℕ) × (k < length xs) × (get_or xs k d ≡ x)
 mem-at x d (y ∷ xs) (Memᴰ-head e) = (0, omega arith, sym e)
 mem-at x d (y ∷ xs) (Memᴰ-tail m) = let r = mem-at x d xs m in (suc r.0, omega (arith, r.1), r.2)
+mem-at {A = A} x d [] x'' = elim x'' [ ]
 
 -- a test is passed, or not
 test : (b : Bool) → (b ≡ true → ⊥) → b ≡ false
@@ -83,6 +84,7 @@ any-true p x (y ∷ xs) (Memᴰ-tail m) t = go (p y) (any-true p x xs m t)
     go : (b : Bool) → any p xs ≡ true → (b || any p xs) ≡ true
     go true q = refl
     go false q = q
+any-true {A = A} p x [] x3 t = elim x3 [ ]
 
 -- ---- the three parts
 

@@ -1,5 +1,5 @@
 -- `check_nets::all_increase` meets its contract. The invariant: the drivers passed rise; the measure is how many are left.
-use Rattle.base.specs.{below_more, not-false, arith, false≢true}
+use Rattle.base.specs.{below_more, arith, false≢true}
 use Rattle.check_nets.proofs.all_increase.Goals as goal
 
 pub is_increasing-requires : goal.is_increasing-requires
@@ -9,7 +9,7 @@ pub overflow_add-i : goal.overflow_add-i
 overflow_add-i c = omega (arith, c.requires.few)
 
 pub loop-i-preserved : goal.loop-i-preserved
-loop-i-preserved c = below_more _ _ c.loop-i.invariant (c.is_increasing.ensures (not-false _ c.if-not-is_increasing.false))
+loop-i-preserved c = below_more _ _ c.loop-i.invariant (c.is_increasing.ensures c.if-not-is_increasing.false)
 
 pub returns : goal.returns
 returns c = λ e i h. c.loop-i.invariant i (omega (arith, c.loop-i-test.false))

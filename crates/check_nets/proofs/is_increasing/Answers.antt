@@ -1,5 +1,5 @@
 -- `check_nets::is_increasing` meets its contract. The invariant: the pins passed rise; the measure is how many are left.
-use Rattle.base.specs.{below_more, not-false, arith, false≢true}
+use Rattle.base.specs.{below_more, arith, false≢true}
 use Rattle.check_nets.proofs.is_increasing.Goals as goal
 
 pub loop-j-init : goal.loop-j-init
@@ -11,7 +11,7 @@ pin_increases-requires c = (c.requires.0, c.requires.1, c.loop-j-test.true)
 pub loop-j-preserved : goal.loop-j-preserved
 loop-j-preserved c =
     let l = c.loop-j.invariant in
-    (l.0, below_more _ _ l.1 (c.pin_increases.ensures (not-false _ c.if-not-pin_increases.false)))
+    (l.0, below_more _ _ l.1 (c.pin_increases.ensures c.if-not-pin_increases.false))
 
 pub returns : goal.returns
 returns c = let l = c.loop-j.invariant in λ e j k f. omega (arith, l.0, l.1 j (omega (arith, f.0, c.loop-j-test.false)) k f)
