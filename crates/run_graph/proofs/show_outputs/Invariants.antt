@@ -3,7 +3,7 @@ use Rattle.base.specs.{◌-◌, ◌≤◌}
 use Rattle.run_graph.proofs.show_outputs.Given as goal
 
 abbrev pub invariant-loop-i : goal.invariant-loop-i
-invariant-loop-i g l = i ≤ l.h.outputs
+invariant-loop-i g l = l.i ≤ l.h.outputs
 
 abbrev pub decreases-loop-i : goal.decreases-loop-i
-decreases-loop-i g l = l.h.outputs - i
+decreases-loop-i g l = l.h.outputs - l.i
