@@ -83,4 +83,7 @@ module _ (wrong : ℕ → Option ℕ) (s left : ℕ) (more : 0 < left) where
 
   pub stop_at : (k : ℕ) → wrong s ≡ some k → compare_from left s wrong ≡ Differs s k
   unfolding compare_from
-  stop_at k e = ap (λ (x : ℕ). compare_from x s wrong) (let z : left ≡ suc (left - 1) = omega arith in z) ∙ rw e
+  stop_at k e = ap (λ (x : ℕ). compare_from x s wrong) (let z : left ≡ suc (left - 1) = omega arith in z) ∙ by (wrong s) e
+    where
+      by : (o : Option ℕ) → o ≡ some k → elim o [ none ↦ compare_from (left - 1) (suc s) wrong | some j ↦ Differs s j ] ≡ Differs s k
+      by o q = rw q

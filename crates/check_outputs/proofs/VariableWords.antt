@@ -39,6 +39,7 @@ assignment_at s k (u ∷ us) once (suc j) h =
 
 -- an element stands somewhere
 index_of_lem : (u : ℕ) (xs : List ℕ) → Memᴰ u xs → (i : ℕ) × (i < length xs) × (get_or xs i 0 ≡ u)
+index_of_lem u [] m = elim m [ ]
 index_of_lem u (x ∷ xs) (Memᴰ-head e) = (0, omega arith, sym e)
 index_of_lem u (x ∷ xs) (Memᴰ-tail m) = let r = index_of_lem u xs m in (suc r.0, omega (arith, r.1), r.2)
 
