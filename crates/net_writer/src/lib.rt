@@ -255,8 +255,7 @@ fn gate_from(work: &[u16], m: usize, l: usize) -> usize
     g
 }
 
-// The walk at the gate after: thin above `gate_from`, which takes the slice and the number. The borrow checker covers no function that takes,
-// makes or has a local of such a struct, so this one and the next are proved by hand.
+// The walk at the gate after: thin above `gate_from`, which takes the slice and the number.
 fn step<'a>(w: Walk<'a>, m: usize) -> Walk<'a>
     requires { HasCapacity w.words.now m × (w.next < 2 * (m + 1)) }
     ensures { (result.words ≡ w.entry.words) × (result.next ≡ gate_from w.entry.words.now m (w.entry.next + 1) (2 * (m + 1) - (w.entry.next + 1))) }
@@ -267,8 +266,7 @@ fn step<'a>(w: Walk<'a>, m: usize) -> Walk<'a>
     }
 }
 
-// The gate after gate l: a step of the walk that stands there. Its parameters are plain, so that a loop along the gates needs no proof by
-// hand.
+// The gate after gate l: a step of the walk that stands there.
 fn gate_after(work: &[u16], m: usize, l: usize) -> usize
     requires { HasCapacity work.now m × (l < 2 * (m + 1)) }
     ensures { result ≡ gate_from work.now m (l + 1) (2 * (m + 1) - (l + 1)) }

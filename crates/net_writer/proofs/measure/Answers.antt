@@ -12,7 +12,7 @@ measure_words-requires c =
     let p = c.requires in
     let made = c.put_cell_records in
     let rest : List ℕ = drop (length (cell_records_of (cells_of a.lib) a.ids.now)) (replicate 833 0) in
-    let is = records_is a.lib a.ids.now (replicate 833 0) made.new.0 made.result made.ensures in (
+    let is = records_is a.lib a.ids.now (replicate 833 0) made.new.records made.result made.ensures in (
       subst (λ (b : List ℕ). GatesWritable a.work.now b a.h.size) (sym is) (gates_writable a.work.now a.lib a.ids.now a.h p.0 p.1 rest),
       named a.work.now a.lib a.ids.now a.h p.0 p.1 rest,
     )
@@ -22,7 +22,7 @@ returns c =
     let a = c.args in
     let made = c.put_cell_records in
     let rest : List ℕ = drop (length (cell_records_of (cells_of a.lib) a.ids.now)) (replicate 833 0) in
-    let is = records_is a.lib a.ids.now (replicate 833 0) made.new.0 made.result made.ensures in (
+    let is = records_is a.lib a.ids.now (replicate 833 0) made.new.records made.result made.ensures in (
       (λ g k. c.measure_words.ensures.0 ∙ ap (λ (b : List ℕ). measured_in a.work.now b a.h) is ∙ measured-represented a.work.now a.lib a.ids.now a.h g k rest),
       c.measure_words.ensures.1,
     )

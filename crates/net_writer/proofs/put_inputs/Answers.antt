@@ -26,7 +26,7 @@ pub loop-i-preserved : goal.loop-i-preserved
 loop-i-preserved c =
     let p = c.put_net-next in
     let next = rw (← c.input_net-net.ensures) at (inputs-next c.args.work.now c.args.m c.args.n c.loop-i.i (omega arith)) in
-    let h : p.result ≤ length p.new.0 = omega (arith, left c.requires.2 c.loop-i.invariant.1, simp length-append at (ap length next)) in
+    let h : p.result ≤ length p.new.out = omega (arith, left c.requires.2 c.loop-i.invariant.1, simp length-append at (ap length next)) in
     (omega arith, step c.requires.2 c.loop-i.invariant.1 _ _ _ _ next (then h c.put_byte-place.ensures p.ensures))
 
 pub shape_of-out : goal.shape_of-out
