@@ -1,0 +1,36 @@
+-- `genlib_call::gate_of` meets its contract: the figures, the delays and the table.
+use Rattle.base.specs.{◌≡◌, refl, sym, ap, ◌∙◌, some, [], ◌+◌, arith, length, drop, get_or}
+use Rattle.model.specs.{tokens, pins_of, delays_of, table_of}
+use Rattle.genlib_expression.specs.{part, rest_at, names_at}
+use Rattle.genlib_expression.proofs.{length-names}
+use Rattle.genlib_groups.specs.{lines_behind}
+use Rattle.genlib_groups.proofs.{value-some, value_none}
+use Rattle.genlib_call.proofs.GateValidation.{gate-found, no_area, no_delays, table_is, part-part, same-gate}
+use Rattle.genlib_call.proofs.gate_of.Goals as goal
+
+pub returns-in-Four : goal.returns-in-Four
+returns-in-Four c =
+    let a = c.args in
+    let w = a.w.now in
+    let ts = tokens w in
+    let lines = lines_behind a.s.now a.from in
+    let line = c.requires.1 in
+    let few = c.requires.2 in
+    let n = c.nth-name in
+    let named : part a.s.now (a.at + n.result.from) (a.at + n.result.to) ≡ get_or ts 1 [] =
+    part-part a.s.now w a.at n.result.from n.result.to line.fits line.same n.ensures.ordered n.ensures.within ∙ n.ensures.bytes in
+    let pins : a.p.n ≡ length (pins_of (drop 5 ts)) = sym (length-names w a.p) ∙ ap length few.names in
+    let table : c.table-table.result ≡ table_of (drop 5 ts) =
+    c.table-table.ensures
+    ∙ table_is (names_at w a.p) a.p.n (rest_at w c.nth-n.result.to) (drop 5 ts) few.names (sym (length-names w a.p)) c.nth-n.ensures.rest in
+    let found = gate-found lines ts _ _ (value-some _ _ c.in-Is.ensures) (ap (delays_of lines) (sym few.names) ∙ sym c.in-Four.ensures) in
+    ((omega (arith, n.ensures.ordered), omega (arith, n.ensures.within, line.fits)), ap some (same-gate _ _ named pins table) ∙ sym found, tt)
+
+pub returns-in-Broken-four_delays : goal.returns-in-Broken-four_delays
+returns-in-Broken-four_delays c =
+    let lines = lines_behind c.args.s.now c.args.from in
+    let delays = ap (delays_of lines) (sym c.requires.2.names) ∙ sym c.in-Broken-four_delays.ensures in
+    (tt, sym (no_delays lines (tokens c.args.w.now) _ (value-some _ _ c.in-Is.ensures) delays), refl)
+
+pub returns-in-Broken : goal.returns-in-Broken
+returns-in-Broken c = (tt, sym (no_area _ _ (value_none _ c.in-Broken.ensures)), refl)
