@@ -4,7 +4,7 @@ use Rattle.base_words.specs.{and_kind, kind_at, position_at}
 use Rattle.cut_functions.specs.{Early, Walked, cut_word}
 use Rattle.cut_functions.proofs.ConeWalks.{walked-known, walked_none, and-found, moved}
 use Rattle.cut_functions.proofs.cut_word.Goals as goal
-use Rattle.cut_functions.proofs.cut_word.Goals.{Else-kind-ne-AND, then-x-lt-MISSING, else-x-lt-MISSING, then-y-lt-MISSING, else-y-lt-MISSING}
+use Rattle.cut_functions.proofs.cut_word.Goals.{then-x-lt-MISSING, else-x-lt-MISSING, then-y-lt-MISSING, else-y-lt-MISSING}
 
 pub returns-then-base-t : goal.returns-then-base-t
 unfolding cut_word
