@@ -40,8 +40,8 @@ inverter_min cells own other (Matched x) = own
 inverter_min cells own other (Inverted c) = after other (get_or (cell_at cells c).mins 0 0)
 
 -- the two minimum arrivals of a variable's phases, negative where so asked
-abbrev pub field_own : List Cell → List ℕ → ℕ → ℕ → ℕ
-field_own cells w m l = own_min cells w m l (phase_at w m l).source
+abbrev pub own_at : List Cell → List ℕ → ℕ → ℕ → ℕ
+own_at cells w m l = own_min cells w m l (phase_at w m l).source
 
 -- the words with a minimum arrival stored
 abbrev pub put_min : List ℕ → ℕ → ℕ → ℕ → List ℕ
@@ -52,8 +52,8 @@ unfoldable pub retimed_step : List Cell → List ℕ → ℕ → ℕ → List �
 unfolding own_min inverter_min
 retimed_step cells w m v =
     put_min
-    (put_min w m (2 * v) (inverter_min cells (field_own cells w m (2 * v)) (field_own cells w m (2 * v + 1)) (phase_at w m (2 * v)).source))
-    m (2 * v + 1) (inverter_min cells (field_own cells w m (2 * v + 1)) (field_own cells w m (2 * v)) (phase_at w m (2 * v + 1)).source)
+    (put_min w m (2 * v) (inverter_min cells (own_at cells w m (2 * v)) (own_at cells w m (2 * v + 1)) (phase_at w m (2 * v)).source))
+    m (2 * v + 1) (inverter_min cells (own_at cells w m (2 * v + 1)) (own_at cells w m (2 * v)) (phase_at w m (2 * v + 1)).source)
 
 -- the words once the first n ordered variables are
 unfoldable pub retimed_up : List Cell → List ℕ → ℕ → ℕ → List ℕ

@@ -1,4 +1,5 @@
--- `net_timing::lines_len` meets its contract. The invariant: what is counted and what is left make the whole, at most 43 bytes for each output. The measure is the number of outputs left.
+-- `net_timing::lines_len` meets its contract. The invariant: what is counted and what is left make the whole, at most 43 bytes for each output. The measure is
+-- the number of outputs left.
 use Rattle.base.specs.{◌≡◌, sym, ap, subst, ℕ, ◌-◌, ◌/◌, ◌≤◌, arith, length, length-append}
 use Rattle.base_words.proofs.{capacity-need}
 use Rattle.net_timing.specs.{lines_from}
@@ -19,7 +20,8 @@ min_arrival-min_arrival-requires c =
     (capacity-need _ _ _ c.requires.0.capacity, subst (λ (x : ℕ). x / 2 ≤ c.args.m) (sym c.output-l.ensures) (c.requires.0.within c.loop-i.i (omega arith)))
 
 pub phase-p-requires : goal.phase-p-requires
-phase-p-requires c = min-arrival-requires c.before κs
+phase-p-requires c =
+    (capacity-need _ _ _ c.requires.0.capacity, subst (λ (x : ℕ). x / 2 ≤ c.args.m) (sym c.output-l.ensures) (c.requires.0.within c.loop-i.i (omega arith)))
 
 pub loop-i-preserved : goal.loop-i-preserved
 loop-i-preserved c =
@@ -35,9 +37,6 @@ returns c =
 
 pub overflow_cast-i : goal.overflow_cast-i
 overflow_cast-i c = omega arith
-
-pub line_len-len-requires : goal.line_len-len-requires
-line_len-len-requires c = tt
 
 pub overflow_add-len : goal.overflow_add-len
 overflow_add-len c = omega arith

@@ -21,7 +21,8 @@ min_arrival-min_arrival-requires c =
     (capacity-need _ _ _ c.requires.0.capacity, subst (λ (x : ℕ). x / 2 ≤ c.args.m) (sym c.output-l.ensures) (c.requires.0.within c.loop-i.i (omega arith)))
 
 pub phase-p-requires : goal.phase-p-requires
-phase-p-requires c = min-arrival-requires c.before κs
+phase-p-requires c =
+    (capacity-need _ _ _ c.requires.0.capacity, subst (λ (x : ℕ). x / 2 ≤ c.args.m) (sym c.output-l.ensures) (c.requires.0.within c.loop-i.i (omega arith)))
 
 pub put_line-next-requires : goal.put_line-next-requires
 put_line-next-requires c =
