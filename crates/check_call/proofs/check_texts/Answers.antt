@@ -1,5 +1,5 @@
 -- `check_call::check_texts` meets its contract: demand 1 from the functions below it, what the answer means from the definitions' law.
-use Rattle.base.specs.{ℕ, arith, List, length, ⊎_elim, ltb-true, ltb-false}
+use Rattle.base.specs.{ℕ, arith, List, length}
 use Rattle.model.specs.{CheckMemory}
 use Rattle.model.specs.declared.Checked.{Checked}
 use Rattle.promises.specs.{NetlistCheck}
@@ -7,6 +7,9 @@ use Rattle.theory_calls.proofs.{checked_memory}
 use Rattle.theory_check.proofs.{check_exactly, edited_compared, edited_meant, edited_equal, printed-accepted}
 use Rattle.check_call.proofs.CheckStages.{long-text, library-stops, library-read}
 use Rattle.check_call.proofs.check_texts.Goals as goal
+use Rattle.check_call.proofs.check_texts.Goals.{then-cells-gt65536-via-then-cells-gt65536}
+use Rattle.check_call.proofs.check_texts.Goals.{then-cells-gt65536-via-else-cells-gt65536+then-graph-gt65536}
+use Rattle.check_call.proofs.check_texts.Goals.{then-cells-gt65536-via-else-cells-gt65536+else-graph-gt65536+then-netlist-gt65536}
 
 -- what is promised of the definitions' answer, whatever is returned
 said : (library graph netlist work : List ℕ) (answer : Checked) (left : List ℕ) → CheckMemory library graph netlist work answer left → NetlistCheck library graph netlist work answer left
@@ -25,19 +28,30 @@ said library graph netlist work answer left m = record {
 pub returns-then-cells-gt65536 : goal.returns-then-cells-gt65536
 returns-then-cells-gt65536 c =
     let a = c.args in
-    said a.cells.now a.graph.now a.netlist.now a.work.now _ _ (long-text a.cells.now a.graph.now a.netlist.now a.work.now (λ x y z. ⊎_elim (λ w. omega arith) (⊎_elim (λ w. omega (arith, ltb-true)) (λ w. omega (arith, ltb-true))) c.then-cells-gt65536.branch))
+    said a.cells.now a.graph.now a.netlist.now a.work.now _ _
+    (long-text a.cells.now a.graph.now a.netlist.now a.work.now (λ x y z. elim c.then-cells-gt65536.branch [
+      | then-cells-gt65536-via-then-cells-gt65536 w ↦ omega arith
+      | then-cells-gt65536-via-else-cells-gt65536+then-graph-gt65536 w ↦ omega arith
+      | then-cells-gt65536-via-else-cells-gt65536+else-graph-gt65536+then-netlist-gt65536 w ↦ omega arith
+    ]))
 
 pub check_header-requires : goal.check_header-requires
 check_header-requires c =
     let a = c.args in
-    ((library-read a.cells.now a.graph.now a.netlist.now a.work.now (omega arith) (omega (arith, ltb-false)) (omega (arith, ltb-false)) c.read-l.result c.read-l.ensures.answer c.in-Accepted.is).fitting, omega (arith, ltb-false))
+    let r = library-read a.cells.now a.graph.now a.netlist.now a.work.now (omega arith) (omega arith) (omega arith) c.read-l.result
+    c.read-l.ensures.answer c.in-Accepted.is in
+    (r.fitting, omega arith)
 
 pub returns-in-Accepted : goal.returns-in-Accepted
 returns-in-Accepted c =
     let a = c.args in
-    said a.cells.now a.graph.now a.netlist.now a.work.now _ _ ((library-read a.cells.now a.graph.now a.netlist.now a.work.now (omega arith) (omega (arith, ltb-false)) (omega (arith, ltb-false)) c.read-l.result c.read-l.ensures.answer c.in-Accepted.is).goes _ _ c.check_header.ensures)
+    let r = library-read a.cells.now a.graph.now a.netlist.now a.work.now (omega arith) (omega arith) (omega arith) c.read-l.result
+    c.read-l.ensures.answer c.in-Accepted.is in
+    said a.cells.now a.graph.now a.netlist.now a.work.now _ _ (r.goes _ _ c.check_header.ensures)
 
 pub returns-in-Refused : goal.returns-in-Refused
 returns-in-Refused c =
     let a = c.args in
-    said a.cells.now a.graph.now a.netlist.now a.work.now _ _ (library-stops a.cells.now a.graph.now a.netlist.now a.work.now (omega arith) (omega (arith, ltb-false)) (omega (arith, ltb-false)) c.read-l.result c.read-l.ensures.answer _ _ c.in-Refused.is)
+    said a.cells.now a.graph.now a.netlist.now a.work.now _ _
+    (library-stops a.cells.now a.graph.now a.netlist.now a.work.now (omega arith) (omega arith) (omega arith) c.read-l.result
+    c.read-l.ensures.answer _ _ c.in-Refused.is)

@@ -1,0 +1,64 @@
+-- `check_call::load_graph` meets its contract: the graph behind its header, the topological order, then the netlist, or 11 to 14, 20, 21, 15 or 31.
+use Rattle.base.specs.{◌∙◌}
+use Rattle.graph_binary.proofs.{header-fit}
+use Rattle.check_call.proofs.CheckStages.{Reads, reading_loaded, reading_stops, order_asks, ordering_stops, many_stop, few_go, few-ordered}
+use Rattle.check_call.proofs.load_graph.Goals as goal
+use Rattle.check_call.proofs.load_graph.Goals.{In-Accepted}
+
+-- the graph that was read
+reads : (c : In-Accepted) → Reads c.args.lib c.args.graph.now c.args.h c.args.netlist.now c.load.new.work
+reads c =
+    let a = c.args in
+    let fit = header-fit a.graph.now a.h a.work.now c.requires.0 c.requires.1 in
+    reading_loaded a.lib a.graph.now a.h a.netlist.now a.work.now fit c.requires.0 c.load.result c.load.ensures.answer c.in-Accepted.is _ c.load.ensures.left
+
+pub order_graph-requires : goal.order_graph-requires
+order_graph-requires c =
+    let r = reads (goal.at.order_graph-requires c).In-Accepted in
+    order_asks c.load.new.work c.args.h r.graph r.loaded
+
+pub returns-then-h-gt12 : goal.returns-then-h-gt12
+returns-then-h-gt12 c =
+    let a = c.args in
+    let r = reads (goal.at.returns-then-h-gt12 c).In-Accepted in
+    many_stop c.load.new.work a.h r.graph r.loaded a.lib a.netlist.now c.order_graph.result c.order_graph.ensures.answer c.in-Accepted-order_graph.is
+    c.if-h-gt12.true
+    ∙ r.goes
+
+pub check_netlist-requires : goal.check_netlist-requires
+check_netlist-requires c =
+    let a = c.args in
+    let r = reads (goal.at.check_netlist-requires c).In-Accepted in (
+      (
+        r.graph,
+        few-ordered c.load.new.work a.h r.graph r.loaded a.lib a.netlist.now c.order_graph.result c.order_graph.ensures.answer
+            c.in-Accepted-order_graph.is c.if-h-gt12.false _ c.order_graph.ensures.left,
+      ),
+      c.requires.2,
+      c.requires.3,
+    )
+
+pub returns-else-h-gt12 : goal.returns-else-h-gt12
+returns-else-h-gt12 c =
+    let a = c.args in
+    let r = reads (goal.at.returns-else-h-gt12 c).In-Accepted in
+    c.check_netlist.ensures r.graph
+    (few-ordered c.load.new.work a.h r.graph r.loaded a.lib a.netlist.now c.order_graph.result c.order_graph.ensures.answer
+    c.in-Accepted-order_graph.is c.if-h-gt12.false _ c.order_graph.ensures.left)
+    ∙ few_go c.load.new.work a.h r.graph r.loaded a.lib a.netlist.now c.order_graph.result c.order_graph.ensures.answer
+    c.in-Accepted-order_graph.is c.if-h-gt12.false
+    ∙ r.goes
+
+pub returns-in-Refused-order_graph : goal.returns-in-Refused-order_graph
+returns-in-Refused-order_graph c =
+    let a = c.args in
+    let r = reads (goal.at.returns-in-Refused-order_graph c).In-Accepted in
+    ordering_stops c.load.new.work a.h r.graph r.loaded a.lib a.netlist.now c.order_graph.result c.order_graph.ensures.answer _ _
+    c.in-Refused-order_graph.is
+    ∙ r.goes
+
+pub returns-in-Refused : goal.returns-in-Refused
+returns-in-Refused c =
+    let a = c.args in
+    let fit = header-fit a.graph.now a.h a.work.now c.requires.0 c.requires.1 in
+    reading_stops a.lib a.graph.now a.h a.netlist.now a.work.now fit c.requires.0 c.load.result c.load.ensures.answer _ _ c.in-Refused.is
