@@ -1,15 +1,19 @@
 -- `tally_counting::read_timings` meets its contract. The invariant: what is expected from here on is what is left of all that is expected; the measure is the lines left.
-use Rattle.base.specs.{arith, sym, ◌∙◌, ⊎_elim, length}
+use Rattle.base.specs.{arith, sym, ◌∙◌, length}
 use Rattle.tally_counting.specs.{form_test, read_in}
 use Rattle.tally_counting.proofs.ExpectedNetlistLines.{timings-first, timings-step, timings-end, count_yes, count_no}
 use Rattle.tally_counting.proofs.read_timings.Goals as goal
+use Rattle.tally_counting.proofs.read_timings.Goals.{then-ranged, else-ranged}
 
 pub loop-k-init : goal.loop-k-init
 loop-k-init c =
     let a = c.args in (
       omega arith,
       timings-first (length a.s.now) (read_in a.s.now a.from) a.ranged a.outs c.if-ranged.n
-          (⊎_elim (λ y. count_yes a.ranged a.outs c.if-ranged.n y.0.taken (omega arith)) (λ y. count_no a.ranged a.outs c.if-ranged.n y.0.left (omega arith)) c.if-ranged.branch),
+          (elim c.if-ranged.branch [
+            | then-ranged y ↦ count_yes a.ranged a.outs c.if-ranged.n y.if-ranged.true (omega arith)
+            | else-ranged y ↦ count_no a.ranged a.outs c.if-ranged.n y.if-ranged.false (omega arith)
+          ]),
     )
 
 pub loop-k-preserved : goal.loop-k-preserved
@@ -30,7 +34,7 @@ pub expected_line-r-requires : goal.expected_line-r-requires
 expected_line-r-requires c = (omega arith, omega arith)
 
 pub overflow_add-k : goal.overflow_add-k
-overflow_add-k c = ⊎_elim (λ y. omega arith) (λ y. omega arith) c.if-ranged.branch
+overflow_add-k c = elim c.if-ranged.branch [ then-ranged y ↦ omega arith | else-ranged y ↦ omega arith ]
 
 pub loop-k-smaller : goal.loop-k-smaller
 loop-k-smaller c = omega arith
