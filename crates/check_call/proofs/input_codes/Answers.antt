@@ -12,7 +12,7 @@ slot-v-requires c = (c.requires.0, omega (arith, c.requires.1, c.loop-i-test.tru
 
 pub label_code-requires : goal.label_code-requires
 label_code-requires c =
-    omega (arith, c.shared_slice_known-1.given (slot_addr c.args.m (c.loop-i.i + 1)), c.slot-v.ensures)
+    omega (arith, c.type_inv.work (slot_addr c.args.m (c.loop-i.i + 1)), c.slot-v.ensures)
 
 pub offset_bounds-codes-i : goal.offset_bounds-codes-i
 offset_bounds-codes-i c = omega (arith, c.requires.2, c.loop-i-test.true)

@@ -25,7 +25,8 @@ loop-j-preserved c =
       omega arith,
       c.loop-j.invariant.1,
       subst (λ (p : Pin). Part a.l.now a.from a.n p.next (c.loop-j.j + 1) (set c.loop-j.codes c.loop-j.j p.code)) (sym q)
-          (part_step a.l.now a.from a.n c.loop-j.at c.loop-j.j c.loop-j.codes c.loop-j.invariant.2 c.loop-j-test.true c.loop-j.invariant.1 (λ e. c.if-code-eq0.false (ap (λ (p : Pin). p.code) q ∙ e))),
+          (part_step a.l.now a.from a.n c.loop-j.at c.loop-j.j c.loop-j.codes c.loop-j.invariant.2 c.loop-j-test.true c.loop-j.invariant.1
+          (λ e. c.if-code-eq0.false (ap (λ (p : Pin). p.code) q ∙ e))),
     )
 
 -- the words of the pins are bound, and the gate's own is expected

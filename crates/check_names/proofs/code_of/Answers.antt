@@ -9,19 +9,19 @@ loop-i-init c = (omega arith, sym (code-end c.args.w.now (length c.args.w.now) (
 
 pub overflow_mul-n : goal.overflow_mul-n
 overflow_mul-n c =
-    omega (arith, code_fits c.args.w.now (λ k. omega (arith, c.shared_slice_known-1.given k)) c.loop-i.i c.loop-i.n c.loop-i.invariant.0 c.loop-i.invariant.1 c.loop-i-test.true c.requires)
+    omega (arith, code_fits c.args.w.now (λ k. omega (arith, c.type_inv.w k)) c.loop-i.i c.loop-i.n c.loop-i.invariant.0 c.loop-i.invariant.1 c.loop-i-test.true c.requires)
 
 pub overflow_add-n : goal.overflow_add-n
 overflow_add-n c =
     omega (
       arith,
-      code_fits c.args.w.now (λ k. omega (arith, c.shared_slice_known-1.given k)) c.loop-i.i c.loop-i.n c.loop-i.invariant.0 c.loop-i.invariant.1 c.loop-i-test.true c.requires,
-      c.shared_slice_known-1.given (c.loop-i.i - 1),
+      code_fits c.args.w.now (λ k. omega (arith, c.type_inv.w k)) c.loop-i.i c.loop-i.n c.loop-i.invariant.0 c.loop-i.invariant.1 c.loop-i-test.true c.requires,
+      c.type_inv.w (c.loop-i.i - 1),
     )
 
 pub loop-i-preserved : goal.loop-i-preserved
 loop-i-preserved c =
-    (omega arith, ap (λ (b : ℕ). c.loop-i.n * 256 + b) c.widen.ensures ∙ code-more c.args.w.now (λ k. omega (arith, c.shared_slice_known-1.given k)) c.loop-i.i c.loop-i.n c.loop-i.invariant.0 c.loop-i.invariant.1 c.loop-i-test.true)
+    (omega arith, ap (λ (b : ℕ). c.loop-i.n * 256 + b) c.widen.ensures ∙ code-more c.args.w.now (λ k. omega (arith, c.type_inv.w k)) c.loop-i.i c.loop-i.n c.loop-i.invariant.0 c.loop-i.invariant.1 c.loop-i-test.true)
 
 pub returns : goal.returns
 returns c =

@@ -20,13 +20,14 @@ pub slice_bounds-cell_named-start : goal.slice_bounds-cell_named-start
 slice_bounds-cell_named-start c = omega (arith, c.space_from-end.ensures, space-from c.args.l.now (c.space_from-first.result + 1))
 
 pub slice_bounds-cell_named-end : goal.slice_bounds-cell_named-end
-slice_bounds-cell_named-end c = omega (arith, c.space_from-end.ensures, space-fits c.args.l.now (c.space_from-first.result + 1) (omega (arith, c.if-first-l.false)))
+slice_bounds-cell_named-end c = omega (arith, c.space_from-end.ensures, space-fits c.args.l.now (c.space_from-first.result + 1) (omega arith))
 
 pub returns-then-i-lib : goal.returns-then-i-lib
 returns-then-i-lib c =
     let a = c.args in
     c.no_gate-then-i-lib.ensures
-    ∙ sym ((at_places a.lib a.l.now c.requires.0 c.requires.1 c.space_from-first.result c.space_from-end.result c.space_from-first.ensures c.space_from-end.ensures c.if-first-l.false).0
+    ∙ sym ((at_places a.lib a.l.now c.requires.0 c.requires.1 c.space_from-first.result c.space_from-end.result c.space_from-first.ensures
+    c.space_from-end.ensures c.if-first-l.false).0
     (subst (λ (i : ℕ). a.lib.n ≤ i) c.cell_named-i.ensures c.if-i-lib.true))
 
 -- the cell found has four pins at most
@@ -34,7 +35,7 @@ few : (c : Else-i-lib) → (get_or c.args.lib.cells c.cell_named-i.result no_cel
 few c = c.requires.2 c.cell_named-i.result c.if-i-lib.false
 
 pub overflow_add-end : goal.overflow_add-end
-overflow_add-end c = omega (arith, c.space_from-end.ensures, space-fits c.args.l.now (c.space_from-first.result + 1) (omega (arith, c.if-first-l.false)))
+overflow_add-end c = omega (arith, c.space_from-end.ensures, space-fits c.args.l.now (c.space_from-first.result + 1) (omega arith))
 
 pub bound-b-requires : goal.bound-b-requires
 bound-b-requires c = few (goal.at.bound-b-requires c).Else-i-lib
@@ -46,7 +47,8 @@ says : (c : Else-i-lib) →
     ≡ gate_of (gate_of_fields (cells_of c.args.lib) 0 (fields c.args.l.now))
 says c =
     let a = c.args in
-    (at_places a.lib a.l.now c.requires.0 c.requires.1 c.space_from-first.result c.space_from-end.result c.space_from-first.ensures c.space_from-end.ensures c.if-first-l.false).1
+    (at_places a.lib a.l.now c.requires.0 c.requires.1 c.space_from-first.result c.space_from-end.result c.space_from-first.ensures
+    c.space_from-end.ensures c.if-first-l.false).1
     c.cell_named-i.result c.cell_named-i.ensures c.if-i-lib.false (few c)
 
 pub returns-then-net-eq0 : goal.returns-then-net-eq0
@@ -54,7 +56,8 @@ returns-then-net-eq0 c =
     let a = c.args in
     let cell = get_or a.lib.cells c.cell_named-i.result no_cell in
     c.no_gate-then-net-eq0.ensures
-    ∙ sym (gate-none cell.table cell.pins (fields_from a.l.now (c.space_from-end.result + 1)) (sym (ap (λ (x : Nets). x.net) c.bound-b.ensures) ∙ c.if-net-eq0.true))
+    ∙ sym (gate-none cell.table cell.pins (fields_from a.l.now (c.space_from-end.result + 1))
+    (sym (ap (λ (x : Nets). x.net) c.bound-b.ensures) ∙ c.if-net-eq0.true))
     ∙ says (goal.at.returns-then-net-eq0 c).Else-i-lib
 
 pub returns : goal.returns

@@ -1,5 +1,5 @@
--- `check_outputs::evaluate` meets its contract: inside a block nothing changes; where one begins the words of variables and drivers are their values, and the outputs
--- differ where these do.
+-- `check_outputs::evaluate` meets its contract: inside a block nothing changes; where one begins the words of variables and drivers are their
+-- values, and the outputs differ where these do.
 use Rattle.base.specs.{◌≡◌, sym, ◌∙◌, subst, arith, ℕ, ◌/◌, ◌<◌, rules}
 use Rattle.base_words.specs.{ordered_count}
 use Rattle.check_outputs.specs.{Slots, SlotsStep}
@@ -11,7 +11,8 @@ use Rattle.check_outputs.proofs.evaluate.Goals as goal
 pub fill_slots-requires : goal.fill_slots-requires
 fill_slots-requires c =
     let a = c.args in let p = c.requires.0.0 in
-    (subst (Slots a.work.now a.h.size a.h.inputs) (sym c.ordered_count-ordered.ensures) (slots-ready a.work.now a.h a.nets.now a.n a.refs.now a.order.now p.0 p.1 p.2), search rules)
+    let ready = slots-ready a.work.now a.h a.nets.now a.n a.refs.now a.order.now p.0 p.1 p.2 in
+    (subst (Slots a.work.now a.h.size a.h.inputs) (sym c.ordered_count-ordered.ensures) ready, search rules)
 
 pub fill_drivers-requires : goal.fill_drivers-requires
 fill_drivers-requires c =

@@ -25,7 +25,8 @@ bounds-variables-l c = omega (arith, inside (goal.at.bounds-variables-l c).After
 pub loop-k-preserved : goal.loop-k-preserved
 loop-k-preserved c =
     let a = c.args in let xs = c.loop-k.wrong in let k = c.loop-k.k in let w = a.work.now in
-    let word : ℕ → ℕ = λ j. differences (literal_word (output_at w a.m j) (get_or a.variables.now (output_at w a.m j / 2) 0)) (get_or a.drivers.now (a.first + j) 0) in (
+    let word : ℕ → ℕ = λ j.
+    differences (literal_word (output_at w a.m j) (get_or a.variables.now (output_at w a.m j / 2) 0)) (get_or a.drivers.now (a.first + j) 0) in (
       omega arith,
       filled_more xs (λ j. j) word k c.differing.result (omega (arith, c.loop-k.invariant.2, c.requires.1))
           (c.differing.ensures

@@ -18,8 +18,12 @@ pub put_inputs-b-requires : goal.put_inputs-b-requires
 unfolding text
 put_inputs-b-requires c =
     let a = c.args in
-    let room = fits a.work.now a.m a.n (λ i. let z = c.type_inv.work (slot_addr a.m (i + 1)) in omega arith) c.requires.3 in
-    (c.requires.1, c.requires.2, names-capacity _ (text ".inputs") (names_from (input_name a.work.now a.m) 0 a.n) c.put_bytes-a.new.out [] c.put_bytes-a.result 0 room c.put_bytes-a.ensures)
+    let room = fits a.work.now a.m a.n (λ i. let z = c.type_inv.work (slot_addr a.m (i + 1)) in omega arith) c.requires.3 in (
+      c.requires.1,
+      c.requires.2,
+      names-capacity _ (text ".inputs") (names_from (input_name a.work.now a.m) 0 a.n) c.put_bytes-a.new.out []
+          c.put_bytes-a.result 0 room c.put_bytes-a.ensures,
+    )
 
 -- the printed line's end is within the array
 ends : (c : After-put_inputs-b) → c.put_inputs-b.result ≤ length c.put_inputs-b.new.out
@@ -27,7 +31,8 @@ unfolding text
 ends c =
     let a = c.args in
     let room = fits a.work.now a.m a.n (λ i. let z = c.type_inv.work (slot_addr a.m (i + 1)) in omega arith) c.requires.3 in
-    printed-long _ (text ".inputs") (names_from (input_name a.work.now a.m) 0 a.n) c.put_bytes-a.new.out c.put_inputs-b.new.out c.put_bytes-a.result c.put_inputs-b.result room c.put_bytes-a.ensures c.put_inputs-b.ensures
+    printed-long _ (text ".inputs") (names_from (input_name a.work.now a.m) 0 a.n) c.put_bytes-a.new.out c.put_inputs-b.new.out
+    c.put_bytes-a.result c.put_inputs-b.result room c.put_bytes-a.ensures c.put_inputs-b.ensures
 
 pub slice_bounds-line-end : goal.slice_bounds-line-end
 slice_bounds-line-end c = ends (goal.at.slice_bounds-line-end c).After-put_inputs-b
@@ -42,5 +47,6 @@ returns c =
     let a = c.args in
     let room = fits a.work.now a.m a.n (λ i. let z = c.type_inv.work (slot_addr a.m (i + 1)) in omega arith) c.requires.3 in
     subst (λ (w : List ℕ). Expected a.s.now w a.at c.expected_line.result)
-    (printed-is _ (text ".inputs") (names_from (input_name a.work.now a.m) 0 a.n) c.put_bytes-a.new.out c.put_inputs-b.new.out c.put_bytes-a.result c.put_inputs-b.result room c.put_bytes-a.ensures c.put_inputs-b.ensures)
+    (printed-is _ (text ".inputs") (names_from (input_name a.work.now a.m) 0 a.n) c.put_bytes-a.new.out c.put_inputs-b.new.out
+    c.put_bytes-a.result c.put_inputs-b.result room c.put_bytes-a.ensures c.put_inputs-b.ensures)
     c.expected_line.ensures

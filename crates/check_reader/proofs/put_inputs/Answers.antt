@@ -39,8 +39,11 @@ put_word-next-requires c =
 
 pub loop-i-preserved : goal.loop-i-preserved
 loop-i-preserved c =
-    let t = (goal.at.loop-i-preserved c).After-slot-v in
-    (omega arith, step c.requires.2 c.loop-i.invariant.1 c.put_word-next.new.out c.put_word-next.result (32 ∷ 112 ∷ decimal c.slot-v.result) (later t) (next-name t) c.put_word-next.ensures)
+    let t = (goal.at.loop-i-preserved c).After-slot-v in (
+      omega arith,
+      step c.requires.2 c.loop-i.invariant.1 c.put_word-next.new.out c.put_word-next.result
+          (32 ∷ 112 ∷ decimal c.slot-v.result) (later t) (next-name t) c.put_word-next.ensures,
+    )
 
 pub shape_of-out : goal.shape_of-out
 shape_of-out c = kept c.requires.2 c.loop-i.invariant.1

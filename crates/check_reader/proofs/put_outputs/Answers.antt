@@ -27,8 +27,11 @@ put_word-next-requires c =
 
 pub loop-i-preserved : goal.loop-i-preserved
 loop-i-preserved c =
-    let n = c.args.n in let i = c.loop-i.i in
-    (omega arith, step c.requires.1 c.loop-i.invariant.1 c.put_word-next.new.out c.put_word-next.result (32 ∷ 111 ∷ decimal i) (later n i) (next-name n i c.loop-i-test.true) c.put_word-next.ensures)
+    let n = c.args.n in let i = c.loop-i.i in (
+      omega arith,
+      step c.requires.1 c.loop-i.invariant.1 c.put_word-next.new.out c.put_word-next.result
+          (32 ∷ 111 ∷ decimal i) (later n i) (next-name n i c.loop-i-test.true) c.put_word-next.ensures,
+    )
 
 pub shape_of-out : goal.shape_of-out
 shape_of-out c = kept c.requires.1 c.loop-i.invariant.1

@@ -9,7 +9,8 @@ use Rattle.check_reader.proofs.put_word.Goals.{After-put_bytes-next}
 one : (c : After-put_bytes-next)
     → Partly c.args.out.now c.put_bytes-next.new.out c.args.at c.put_bytes-next.result (32 ∷ c.args.letter ∷ decimal c.args.n) (decimal c.args.n)
 one c =
-    step c.requires (begin c.args.out.now c.args.at refl) c.put_bytes-next.new.out c.put_bytes-next.result (32 ∷ c.args.letter ∷ []) (decimal c.args.n) refl c.put_bytes-next.ensures
+    step c.requires (begin c.args.out.now c.args.at refl) c.put_bytes-next.new.out c.put_bytes-next.result
+    (32 ∷ c.args.letter ∷ []) (decimal c.args.n) refl c.put_bytes-next.ensures
 
 pub put_number-requires : goal.put_number-requires
 put_number-requires c =
