@@ -22,7 +22,7 @@ loop-i-preserved c =
     let a = c.args in
     let f : 0 + length (cell_lines c.args.lib c.args.t 0 c.args.lib.n) ≤ length c.args.out.now = omega (arith, c.requires.1) in
     let p = c.put_cell-at in let h : l.i < a.lib.n = omega arith in
-    (omega arith, step f l.invariant.1 p.new.0 p.result (cell_line (cells_of a.lib) a.t l.i) (cell_lines a.lib a.t (l.i + 1) (a.lib.n - (l.i + 1))) (cells-step a.lib a.t l.i a.lib.n h) p.ensures)
+    (omega arith, step f l.invariant.1 p.new.out p.result (cell_line (cells_of a.lib) a.t l.i) (cell_lines a.lib a.t (l.i + 1) (a.lib.n - (l.i + 1))) (cells-step a.lib a.t l.i a.lib.n h) p.ensures)
 
 pub shape_of-out : goal.shape_of-out
 shape_of-out c =

@@ -24,7 +24,7 @@ pub report_in-requires : goal.report_in-requires
 report_in-requires c =
     let a = c.args in
     let r = c.read-a in
-    let o = accepted (read_library a.cells.now) r.result r.ensures.0 c.in-Accepted.is in
+    let o = accepted (read_library a.cells.now) r.result r.ensures.answer c.in-Accepted.is in
     let w = c.in_width in
     let t = c.if-in_width.true in (
       subst Listed (sym o.is_library) (listed a.cells.now o.cells o.is_read),
@@ -36,7 +36,7 @@ pub returns-then-in_width : goal.returns-then-in_width
 returns-then-in_width c =
     let a = c.args in
     let r = c.read-a in
-    let o = accepted (read_library a.cells.now) r.result r.ensures.0 c.in-Accepted.is in
+    let o = accepted (read_library a.cells.now) r.result r.ensures.answer c.in-Accepted.is in
     let w = c.in_width in let t = c.if-in_width.true in
     let n = length a.text.now in
     let e : fitting (report_text (cells_of r.result.library) a.t) n ≡ report_of a.t a.cells.now n =
@@ -49,11 +49,11 @@ pub returns-else-in_width : goal.returns-else-in_width
 returns-else-in_width c =
     let a = c.args in
     let r = c.read-a in
-    let o = accepted (read_library a.cells.now) r.result r.ensures.0 c.in-Accepted.is in
+    let o = accepted (read_library a.cells.now) r.result r.ensures.answer c.in-Accepted.is in
     let w = c.in_width in
     refusal _ (report_of a.t a.cells.now (length a.text.now)) (refuses (report_of a.t a.cells.now (length a.text.now)) 28 64 a.text.now (report-over a.t a.cells.now (length a.text.now) (omega arith) o.cells o.is_read (sym w.ensures.0 ∙ c.if-in_width.false)))
 
 pub returns-in-Refused : goal.returns-in-Refused
 returns-in-Refused c =
     let a = c.args in let r = c.read-a in
-    refusal _ (report_of a.t a.cells.now (length a.text.now)) (refuses (report_of a.t a.cells.now (length a.text.now)) _ _ a.text.now (report-refused a.t a.cells.now (length a.text.now) (omega arith) _ _ (refused-back (read_library a.cells.now) r.result r.ensures.0 _ _ c.in-Refused.is)))
+    refusal _ (report_of a.t a.cells.now (length a.text.now)) (refuses (report_of a.t a.cells.now (length a.text.now)) _ _ a.text.now (report-refused a.t a.cells.now (length a.text.now) (omega arith) _ _ (refused-back (read_library a.cells.now) r.result r.ensures.answer _ _ c.in-Refused.is)))
