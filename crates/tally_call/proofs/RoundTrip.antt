@@ -4,7 +4,7 @@ use Rattle.model.specs.{Read, holds, fault, written_answer, written_after, read_
 use Rattle.model.specs.declared.Cell.{Cell}
 use Rattle.model.specs.declared.Tally.{Tally}
 use Rattle.model.specs.declared.Written.{Written}
-use Rattle.model.specs.declared.Written.TheVariants.{Length, Refused}
+use Rattle.model.specs.declared.Written.TheVariants.{Length}
 use Rattle.model.specs.declared.Verdict.TheVariants.{Accepted}
 use Rattle.promises.specs.TallyDemands.{Tallied, counted_with, ReadsBack}
 use Rattle.theory_tally.proofs.{tallied-none, tallied-more, reads-back}

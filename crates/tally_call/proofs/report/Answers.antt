@@ -11,5 +11,5 @@ returns c =
     let a = c.args in let t = c.load in
     let r = c.report in
     let answer : r.result ≡ written_answer (report_of (tally_of a.tally.now) a.cells.now (length a.text.now)) = r.ensures.0 ∙ ap (λ (x : Tally). written_answer (report_of x a.cells.now (length a.text.now))) t.ensures in
-    let bytes : r.new.1.1.0 ≡ written_after (report_of (tally_of a.tally.now) a.cells.now (length a.text.now)) a.text.now = r.ensures.1.0 ∙ ap (λ (x : Tally). written_after (report_of x a.cells.now (length a.text.now)) a.text.now) t.ensures in
-    was_reported a.cells.now a.tally.now a.text.now r.result r.new.1.1.0 answer bytes
+    let bytes : r.new.text ≡ written_after (report_of (tally_of a.tally.now) a.cells.now (length a.text.now)) a.text.now = r.ensures.1.0 ∙ ap (λ (x : Tally). written_after (report_of x a.cells.now (length a.text.now)) a.text.now) t.ensures in
+    was_reported a.cells.now a.tally.now a.text.now r.result r.new.text answer bytes

@@ -11,4 +11,4 @@ pub returns : goal.returns
 returns c =
     let p = c.put_column in
     let q = c.put_column-2 in let r = c.put_column-3 in
-    stored_is c.args.out.now c.args.t c.requires p.ensures.1 q.ensures.1 r.ensures.1 p.new.0 q.new.0 r.new.0 p.ensures.0 q.ensures.0 r.ensures.0
+    stored_is c.args.out.now c.args.t c.requires p.ensures.1 q.ensures.1 r.ensures.1 p.new.out q.new.out r.new.out p.ensures.0 q.ensures.0 r.ensures.0
