@@ -2,5 +2,5 @@
 pub mod GenlibFigures
 pub mod GenlibLineLaws
 pub mod GroupReading
-pub use GenlibLineLaws.{Bounded, bounded}
+pub use GenlibLineLaws.{bounded}
 pub use GroupReading.{value_none, value-some}

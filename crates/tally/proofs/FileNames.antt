@@ -1,7 +1,7 @@
 -- A file's name is ASCII.
 use Rattle.std.specs.Prelude.{◌+◌, ◌/◌, ◌%◌, ◌∷◌, ◌++◌, ◌<◌, ◌≤◌, ◌≡◌, MatchResult, IsOk, Result, Ok, Err}
 use Rattle.std.specs.Str.{IsAscii}
-use Rattle.base.specs.{ℕ, zero, suc, Bool, true, false, cond, List, [], arith, ltb, ltb-true, refl, sym, ap, subst, ◌∙◌, length, length-append, take, add-zero}
+use Rattle.base.specs.{ℕ, zero, suc, Bool, true, false, cond, List, [], arith, ltb, ltb-true, refl, sym, ap, subst, ◌∙◌, length, length-append, take}
 use Rattle.model.specs.{digits, decimal}
 use Rattle.base_words.specs.{put_at}
 use Rattle.base_words.proofs.{part-put, put_append}
