@@ -1,5 +1,5 @@
 -- The steps of the expression's readers: signs that step a value, names, brackets, and parts with a sign between them.
-use Rattle.base.specs.{ℕ, zero, suc, ◌+◌, ◌-◌, ◌≤◌, ◌<◌, add-one, sub-one, arith, ◌≡◌, refl, sym, ap, subst, ◌∙◌, Bool, true, false, not}
+use Rattle.base.specs.{ℕ, zero, suc, ◌+◌, ◌-◌, ◌≤◌, ◌<◌, add-one, sub-one, arith, ◌≡◌, refl, sym, ap, ◌∙◌, Bool, true, false, not}
 use Rattle.base.specs.{◌&&◌, ◌||◌, bit_and, bit_or}
 use Rattle.base.specs.{cond, none, some, List, [], ◌∷◌, map, ltb, length, drop, ltb-true, ltb-false}
 use Rattle.model.specs.{bit, from, same, flip, and_then, is_blank, is_sign, is_word, is_empty, Taken, begins, negated_by_signs, chain, quoted, close_bracket}
@@ -211,10 +211,6 @@ in_phase-row r odd t row e h k = ap (λ (x : ℕ). bit x row) e ∙ signed_row o
 -- a callee that answered `At v n` or nothing
 pub known : (w : List ℕ) (row : ℕ) (r s : Parsed) (t : Taken) → r ≡ s → taken_at w row r ≡ t → t ≡ taken_at w row s
 known w row r s t e f = sym f ∙ ap (taken_at w row) e
-
--- how far it went
-pub ends : (a m n v : ℕ) (r : Parsed) → r ≡ At v n → Within a m r → (a < n) × (n ≤ m)
-ends a m n v r e w = subst (Within a m) e w
 
 -- what starts later starts here
 pub later : (a b m : ℕ) (r : Parsed) → a ≤ b → Within b m r → Within a m r
