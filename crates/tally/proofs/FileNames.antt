@@ -34,10 +34,10 @@ written_ascii w w' out k at end tail fits h n r =
     let long : length (decimal k ++ tail) ≡ length (decimal k) + length tail = length-append (decimal k) tail in
     let whole : end ≡ length (decimal k ++ tail) = omega (arith, r.ends, n.0, long) in
     let all : out ≡ put_at w 0 (decimal k ++ tail) =
-        r.leaves ∙ ap (λ (v : List ℕ). put_at v at tail) n.1 ∙ ap (λ (j : ℕ). put_at (put_at w 0 (decimal k)) j tail) n.0
-        ∙ put_append w 0 (decimal k) tail (omega arith) in
+    r.leaves ∙ ap (λ (v : List ℕ). put_at v at tail) n.1 ∙ ap (λ (j : ℕ). put_at (put_at w 0 (decimal k)) j tail) n.0
+    ∙ put_append w 0 (decimal k) tail (omega arith) in
     let back : take end out ≡ decimal k ++ tail =
-        ap (λ (j : ℕ). take j out) whole ∙ ap (take (length (decimal k ++ tail))) all ∙ part-put w 0 (decimal k ++ tail) (omega (arith, long)) in
+    ap (λ (j : ℕ). take j out) whole ∙ ap (take (length (decimal k ++ tail))) all ∙ part-put w 0 (decimal k ++ tail) (omega (arith, long)) in
     subst IsAscii (sym back) (append_ascii (decimal k) tail (digits_ascii (suc k) k [] (λ i. search arith)) h)
 
 -- what cannot fail has a value

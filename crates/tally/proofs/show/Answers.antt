@@ -14,4 +14,4 @@ slice_bounds-put-end-in-Length g c =
     let r = c.report in
     let a = c.args in
     let h = report-within a.t a.cells.now (length a.text.now) c.in-Length.n (sym c.in-Length.is ∙ r.ensures.0) in
-    omega (arith, length-take c.in-Length.n r.new.1.1.0)
+    omega (arith, length-take c.in-Length.n r.new.text)
