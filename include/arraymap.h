@@ -10,7 +10,7 @@
  *   Stack    ARRAYMAP_STACK bytes are enough for every call. Measured on x86-64, with texts that need a deep stack, a call takes up to
  *              arraymap_map            1,150 KB
  *              arraymap_map_pairs      1,150 KB
- *              arraymap_map_two        1,150 KB
+ *              arraymap_map_two          450 KB
  *              arraymap_map_two_pairs  1,150 KB
  *              arraymap_check          1,050 KB
  *              arraymap_cells              6 KB

@@ -24,7 +24,7 @@
 //! |---|---|--:|
 //! | [`map`], [`map_in`] | `arraymap_map` | 1,150 KB |
 //! | [`map_pairs`], [`map_pairs_in`] | `arraymap_map_pairs` | 1,150 KB |
-//! | [`map_two`] | `arraymap_map_two` | 1,150 KB |
+//! | [`map_two`] | `arraymap_map_two` | 450 KB |
 //! | [`map_two_pairs`] | `arraymap_map_two_pairs` | 1,150 KB |
 //! | [`check`], [`check_in`] | `arraymap_check` | 1,050 KB |
 //! | [`cells`] | `arraymap_cells` | 6 KB |

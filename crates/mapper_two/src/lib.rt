@@ -2,7 +2,7 @@
 #![tactic(auto)]
 
 ghost use Rattle.std.specs.Prelude.{◌≡◌};
-ghost use Rattle.base.specs.{true};
+ghost use Rattle.base.specs.{true, false};
 ghost use Rattle.model.specs.declared.Answer.TheVariants.{Refused};
 ghost use Rattle.promises.specs.{MappingTwo};
 ghost use Rattle.mapper.specs.{LibraryRead};
@@ -89,7 +89,9 @@ fn map_headers(
     }
 }
 
-// The listed cells and their pairs, or 30: "when cells and pairs exceed 256, after 6, place 0".
+// The listed cells and their pairs, or 30: "when cells and pairs exceed 256, after 6, place 0". Either match table stands in a frame of its own: a call
+// has room on its stack for one.
+#[inline(never)]
 fn map_pairs(
     g1: &[u8],
     a1: &[u8],
@@ -115,7 +117,30 @@ fn map_pairs(
     map_headers(g1, a1, g2, a2, lib, ids, ranged, &mut matches, work, t1, t2)
 }
 
-// The cells that both channels are mapped with: "Where a call wants them", pairs too. A call without pairs does not pay for their part of the match table.
+// The listed cells alone. A call without pairs does not pay for their part of the match table.
+#[inline(never)]
+fn map_listed(
+    g1: &[u8],
+    a1: &[u8],
+    g2: &[u8],
+    a2: &[u8],
+    lib: Library,
+    ranged: bool,
+    work: &mut [u16],
+    t1: &mut [u8],
+    t2: &mut [u8],
+) -> Two
+    requires { LibraryRead lib }
+    ensures { CellsMapped false ranged lib g1.now a1.now t1.old g2.now a2.now t2.old
+        work.old result work.new t1.new t2.new }
+{
+    let none = [0u16; 1];
+    let ids = &none[..0];
+    let mut matches = cells_matching::empty_match_table();
+    map_headers(g1, a1, g2, a2, lib, ids, ranged, &mut matches, work, t1, t2)
+}
+
+// The cells that both channels are mapped with: "Where a call wants them", pairs too.
 fn map_cells(
     g1: &[u8],
     a1: &[u8],
@@ -135,10 +160,7 @@ fn map_cells(
     if paired {
         return map_pairs(g1, a1, g2, a2, lib, ranged, work, t1, t2);
     }
-    let none = [0u16; 1];
-    let ids = &none[..0];
-    let mut matches = cells_matching::empty_match_table();
-    map_headers(g1, a1, g2, a2, lib, ids, ranged, &mut matches, work, t1, t2)
+    map_listed(g1, a1, g2, a2, lib, ranged, work, t1, t2)
 }
 
 // Two channels mapped: each netlist at the start of its text memory, or its refusal. `promises.TwoDemands.TwoPromised` is the page of what is promised.

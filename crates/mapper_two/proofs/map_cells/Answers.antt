@@ -1,10 +1,7 @@
 -- `mapper_two::map_cells` meets its contract: with pairs, or with the listed cells alone.
-use Rattle.base.specs.{sym, subst, Bool, false, []}
+use Rattle.base.specs.{sym, subst, Bool}
 use Rattle.model.specs.{channel_of}
-use Rattle.cells_pairs.proofs.{with_none}
-use Rattle.mapper.proofs.{joinable_of, all-few, plain_ok, blank-listed}
 use Rattle.mapper_two.specs.{TwoLeft}
-use Rattle.mapper_two.proofs.ChannelMemory.{two-done}
 use Rattle.mapper_two.proofs.map_cells.Goals as goal
 
 pub returns-then-paired : goal.returns-then-paired
@@ -12,17 +9,13 @@ returns-then-paired c =
     let a = c.args in
     let x = channel_of a.g1.now a.a1.now a.t1.now in
     let y = channel_of a.g2.now a.a2.now a.t2.now in
-    subst (λ (b : Bool). TwoLeft b a.ranged a.lib x y a.work.now a.t1.now a.t2.now c.map_pairs.result c.map_pairs.new.work c.map_pairs.new.t1 c.map_pairs.new.t2) (sym c.if-paired.true) c.map_pairs.ensures
-
-pub map_headers-requires : goal.map_headers-requires
-map_headers-requires c =
-    (plain_ok c.args.lib c.requires, blank-listed c.args.lib c.requires c.empty_match_table-matches.ensures)
+    subst (λ (b : Bool). TwoLeft b a.ranged a.lib x y a.work.now a.t1.now a.t2.now c.map_pairs.result c.map_pairs.new.work c.map_pairs.new.t1 c.map_pairs.new.t2)
+    (sym c.if-paired.true) c.map_pairs.ensures
 
 pub returns : goal.returns
 returns c =
     let a = c.args in
     let x = channel_of a.g1.now a.a1.now a.t1.now in
     let y = channel_of a.g2.now a.a2.now a.t2.now in
-    subst (λ (b : Bool). TwoLeft b a.ranged a.lib x y a.work.now a.t1.now a.t2.now c.map_headers.result c.map_headers.new.work c.map_headers.new.t1 c.map_headers.new.t2) (sym c.if-paired.false)
-    (two-done false a.ranged a.lib [] (with_none a.lib (joinable_of a.lib c.requires)) x y a.work.now a.t1.now a.t2.now _
-    (all-few a.lib [] (plain_ok a.lib c.requires)) _ _ _ c.map_headers.ensures)
+    subst (λ (b : Bool). TwoLeft b a.ranged a.lib x y a.work.now a.t1.now a.t2.now c.map_listed.result c.map_listed.new.work c.map_listed.new.t1 c.map_listed.new.t2)
+    (sym c.if-paired.false) c.map_listed.ensures
