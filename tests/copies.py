@@ -11,6 +11,7 @@ SAID = re.compile(r"^(?:\./)?(\S+?):\d+:\d+: error: (?:`([^`\s]+)`: )?(.*)|^note
 FOLLOWS = re.compile(r"was not admitted|was rejected, were not checked")
 # One that tells of a name that an edit took away, and of no law.
 NAMES = re.compile(r"can(not)? be named|is not in scope|has no field|is no name")
+BUILT = pathlib.Path("out", "rlib")
 # The libraries that each crate of crates.txt uses, and its row there.
 NEEDS, ROWS = {}, {}
 for _row in (ROOT / "crates.txt").read_text().splitlines():
@@ -27,13 +28,16 @@ def below(crate):
     return found | ({crate: None} if crate in NEEDS else {})
 
 
-def copy_of(copy, crates):
-    """Copies crates, with what they depend on. A check there begins with what `rt` kept of the same crates in other copies on this machine."""
+def copy_of(copy, crates, built=()):
+    """Copies crates, with what they depend on, and of the crates named as built what `rt ci` or `rt lib` built here. A check there begins with what `rt` kept of
+    the same crates in other copies on this machine."""
     listed = {name: None for crate in crates for name in below(crate)}
     (copy / "crates").mkdir(parents=True)
     (copy / "crates.txt").write_text("".join(ROWS[name] + "\n" for name in ROWS if name in listed))
     for name in listed:
         shutil.copytree(ROOT / "crates" / name, copy / "crates" / name, ignore=shutil.ignore_patterns("out"))
+        if name in built and (ROOT / "crates" / name / BUILT).exists():
+            shutil.copytree(ROOT / "crates" / name / BUILT, copy / "crates" / name / BUILT)
 
 
 def rt(folder, *words):
