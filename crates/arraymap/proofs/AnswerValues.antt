@@ -1,9 +1,6 @@
 -- The values of each case of an answer, from the equation that the functions of answers promise.
 use Rattle.base.specs.{◌≡◌, ap, ◌∙◌}
-use Rattle.model.specs.{written_pair, result_of}
-use Rattle.model.specs.declared.Checked.{Checked}
-use Rattle.model.specs.declared.Verdict.{Verdict}
-use Rattle.model.specs.declared.Written.{Written}
+use Rattle.model.specs.{written_pair, result_of, Checked, Verdict, Written}
 use Rattle.arraymap.specs.{TextValues, VerdictValues, CheckedValues, answered_text, checked_answer, verdict_pair}
 use Rattle.arraymap.specs.declared.ArraymapAnswer.{ArraymapAnswer}
 use Rattle.arraymap.specs.declared.ArraymapChecked.{ArraymapChecked}

@@ -1,11 +1,9 @@
 -- What the exported calls answer, leave of the lent memory, and promise.
+use Rattle.model.specs.{Checked, Verdict, Written}
 use Rattle.std.specs.Prelude.{◌≡◌}
 use Rattle.base.specs.{ℕ, Bool, List}
 use Rattle.model.specs.{call_of, map_texts, returned_by, text_after, work_after, TwoCall, channel_of, two_call_of, needs_of, map_two, two_work_after}
 use Rattle.promises.specs.Promised.{Promised}
-use Rattle.model.specs.declared.Checked.{Checked}
-use Rattle.model.specs.declared.Verdict.{Verdict}
-use Rattle.model.specs.declared.Written.{Written}
 use Rattle.promises.specs.{TwoPromised, Conversion, NetlistCount, TallyReport, NetlistCheck}
 use Rattle.arraymap.specs.CallAnswers.{answered, TextValues, VerdictValues, CheckedValues}
 use Rattle.arraymap.specs.declared.ArraymapAnswer.{ArraymapAnswer}

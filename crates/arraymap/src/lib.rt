@@ -7,7 +7,7 @@ ghost use Rattle.model.specs.{returned, written_pair, result_of};
 ghost use Rattle.arraymap.specs.{Called, CalledTwo, CalledGenlib, CalledCount, CalledReport, CalledCheck};
 ghost use Rattle.arraymap.specs.{answered, answered_text, checked_answer, verdict_pair};
 
-use model::{Answer, Checked, Two, Verdict, Written};
+use model::{Answer, Comparison, Refusal, Two};
 
 // "Success returns number 0, the netlist's length and the three figures of its `# gates` line; a refusal its number, its place and zero figures".
 #[repr(C)]
@@ -33,22 +33,31 @@ fn values(number: usize, value: usize, gates: u32, area: u32, arrival: u32) -> A
     }
 }
 
-fn answer(a: Answer) -> ArraymapAnswer
-    ensures { result ≡ answered (returned a) }
-{
-    match a {
-        Answer::Mapped(n, f) => values(0, n, f.gates, f.area, f.arrival),
-        Answer::Refused(number, place) => values(number, place, 0, 0, 0),
+impl From<Answer> for ArraymapAnswer {
+    ghost from_gives = { λ a r. r ≡ answered (returned a) };
+
+    #[tactic(auto, unfolding(model::specs::returned))]
+    fn from(a: Answer) -> ArraymapAnswer {
+        match a {
+            Ok(m) => {
+                let f = m.figures;
+                values(0, m.length, f.gates, f.area, f.arrival)
+            }
+            Err(r) => values(r.number, r.place, 0, 0, 0),
+        }
     }
 }
 
 // "Success, here and for later written texts, returns 0 and the length".
-fn text_answer(a: Written) -> ArraymapAnswer
-    ensures { result ≡ answered_text (written_pair a) }
-{
-    match a {
-        Written::Length(n) => values(0, n, 0, 0, 0),
-        Written::Refused(number, place) => values(number, place, 0, 0, 0),
+impl From<Result<usize, Refusal>> for ArraymapAnswer {
+    ghost from_gives = { λ a r. r ≡ answered_text (written_pair a) };
+
+    #[tactic(auto, unfolding(model::specs::written_pair))]
+    fn from(a: Result<usize, Refusal>) -> ArraymapAnswer {
+        match a {
+            Ok(n) => values(0, n, 0, 0, 0),
+            Err(r) => values(r.number, r.place, 0, 0, 0),
+        }
     }
 }
 
@@ -64,7 +73,7 @@ pub extern "C" fn arraymap_map(
     ensures { Called false cells.now graph.now arrivals.now work.old text.old
         result work.new text.new }
 {
-    answer(mapper::map_texts(cells, graph, arrivals, false, work, text))
+    mapper::map_texts(cells, graph, arrivals, false, work, text).into()
 }
 
 // The same with pairs of cells: "Where a call wants them".
@@ -79,7 +88,7 @@ pub extern "C" fn arraymap_map_pairs(
     ensures { Called true cells.now graph.now arrivals.now work.old text.old
         result work.new text.new }
 {
-    answer(mapper::map_texts(cells, graph, arrivals, true, work, text))
+    mapper::map_texts(cells, graph, arrivals, true, work, text).into()
 }
 
 // "Read GATE and PIN lines and write our cell text": the cell text of a genlib text, into lent bytes.
@@ -87,16 +96,19 @@ pub extern "C" fn arraymap_map_pairs(
 pub extern "C" fn arraymap_cells(genlib: &[u8], text: &mut [u8]) -> ArraymapAnswer
     ensures { CalledGenlib genlib.now text.old result text.new }
 {
-    text_answer(genlib_call::convert(genlib, text))
+    genlib_call::convert(genlib, text).into()
 }
 
 // A verdict: number 0 and value 0 where nothing is refused.
-fn verdict_answer(v: Verdict) -> ArraymapAnswer
-    ensures { result ≡ answered_text (verdict_pair v) }
-{
-    match v {
-        Verdict::Accepted => values(0, 0, 0, 0, 0),
-        Verdict::Refused(number, place) => values(number, place, 0, 0, 0),
+impl From<Result<(), Refusal>> for ArraymapAnswer {
+    ghost from_gives = { λ a r. r ≡ answered_text (verdict_pair a) };
+
+    #[tactic(auto, unfolding(crate::specs::verdict_pair))]
+    fn from(a: Result<(), Refusal>) -> ArraymapAnswer {
+        match a {
+            Ok(()) => values(0, 0, 0, 0, 0),
+            Err(r) => values(r.number, r.place, 0, 0, 0),
+        }
     }
 }
 
@@ -105,7 +117,7 @@ fn verdict_answer(v: Verdict) -> ArraymapAnswer
 pub extern "C" fn arraymap_count(cells: &[u8], netlist: &[u8], tally: &mut [u64]) -> ArraymapAnswer
     ensures { CalledCount cells.now netlist.now tally.old result tally.new }
 {
-    verdict_answer(tally_call::count(cells, netlist, tally))
+    tally_call::count(cells, netlist, tally).into()
 }
 
 // "Report a line per cell in library order .. then `total`": the report of a tally of 97 numbers, into lent bytes.
@@ -113,7 +125,7 @@ pub extern "C" fn arraymap_count(cells: &[u8], netlist: &[u8], tally: &mut [u64]
 pub extern "C" fn arraymap_report(cells: &[u8], tally: &[u64], text: &mut [u8]) -> ArraymapAnswer
     ensures { CalledReport cells.now tally.now text.old result text.new }
 {
-    text_answer(tally_call::report(cells, tally, text))
+    tally_call::report(cells, tally, text).into()
 }
 
 // An answer for each channel.
@@ -124,14 +136,15 @@ pub struct ArraymapTwo {
     pub second: ArraymapAnswer,
 }
 
-fn answers(t: Two) -> ArraymapTwo
-    ensures { (result.first ≡ answered (returned t.first)) × (result.second ≡ answered (returned t.second)) }
-{
-    let a = t.first;
-    let b = t.second;
-    let first = answer(a);
-    let second = answer(b);
-    ArraymapTwo { first, second }
+impl From<Two> for ArraymapTwo {
+    ghost from_gives = { λ t r. (r.first ≡ answered (returned t.first)) × (r.second ≡ answered (returned t.second)) };
+
+    fn from(t: Two) -> ArraymapTwo {
+        ArraymapTwo {
+            first: t.first.into(),
+            second: t.second.into(),
+        }
+    }
 }
 
 // Maps two channels over one library text and lent words: of each a graph text and an arrivals' text, with bytes lent to it. The same bytes and words may
@@ -150,9 +163,10 @@ pub extern "C" fn arraymap_map_two(
     ensures { CalledTwo false cells.now graph1.now arrivals1.now graph2.now arrivals2.now
         work.old text1.old text2.old result work.new text1.new text2.new }
 {
-    answers(mapper_two::map_two(
+    mapper_two::map_two(
         cells, graph1, arrivals1, graph2, arrivals2, false, work, text1, text2,
-    ))
+    )
+    .into()
 }
 
 // The same with pairs of cells, for both channels.
@@ -170,9 +184,10 @@ pub extern "C" fn arraymap_map_two_pairs(
     ensures { CalledTwo true cells.now graph1.now arrivals1.now graph2.now arrivals2.now
         work.old text1.old text2.old result work.new text1.new text2.new }
 {
-    answers(mapper_two::map_two(
+    mapper_two::map_two(
         cells, graph1, arrivals1, graph2, arrivals2, true, work, text1, text2,
-    ))
+    )
+    .into()
 }
 
 // What a check answers: 0 where the netlist is accepted, 1 with "the lowest setting that differs" and "that setting's first wrong output", 2
@@ -195,13 +210,16 @@ fn checked(verdict: u64, first: usize, second: usize) -> ArraymapChecked
     }
 }
 
-fn checked_answer(c: Checked) -> ArraymapChecked
-    ensures { result ≡ checked_answer (result_of c) }
-{
-    match c {
-        Checked::Accepted => checked(0, 0, 0),
-        Checked::Differs(assignment, output) => checked(1, assignment, output),
-        Checked::Refused(number, place) => checked(2, number, place),
+impl From<Result<Comparison, Refusal>> for ArraymapChecked {
+    ghost from_gives = { λ c r. r ≡ checked_answer (result_of c) };
+
+    #[tactic(auto, unfolding(model::specs::result_of))]
+    fn from(c: Result<Comparison, Refusal>) -> ArraymapChecked {
+        match c {
+            Ok(Comparison::Equal) => checked(0, 0, 0),
+            Ok(Comparison::Differs(assignment, output)) => checked(1, assignment, output),
+            Err(r) => checked(2, r.number, r.place),
+        }
     }
 }
 
@@ -215,5 +233,5 @@ pub extern "C" fn arraymap_check(
 ) -> ArraymapChecked
     ensures { CalledCheck cells.now graph.now netlist.now work.old result work.new }
 {
-    checked_answer(check_call::check_texts(cells, graph, netlist, work))
+    check_call::check_texts(cells, graph, netlist, work).into()
 }

@@ -3,7 +3,7 @@
 #![tactic(auto)]
 
 ghost use Rattle.std.specs.Prelude.{◌≡◌, ◌^◌, ◌<◌};
-ghost use Rattle.base.specs.{count_trailing_zeros, replicate};
+ghost use Rattle.base.specs.{replicate};
 ghost use Rattle.base_bitset.specs.{added, removed, lowest_of};
 
 // 64 words of 64 bits, and the word about them.
@@ -17,6 +17,7 @@ pub fn none() -> [u64; WORDS]
     [0u64; WORDS]
 }
 
+#[tactic(auto, using(crate::proofs::WordBits::power))]
 fn one_at(j: usize) -> u64
     requires { j < 64 }
     ensures { result ≡ 2 ^ j }
@@ -24,12 +25,7 @@ fn one_at(j: usize) -> u64
     1u64 << j
 }
 
-fn zeros(x: u64) -> usize
-    ensures { result ≡ count_trailing_zeros 64 x }
-{
-    u64::trailing_zeros(x) as usize
-}
-
+#[tactic(auto, unfolding(crate::specs::added))]
 pub fn add(bits: &mut [u64; WORDS], v: usize)
     requires { v < 4096 }
     ensures { bits.new ≡ added bits.old v }
@@ -41,6 +37,7 @@ pub fn add(bits: &mut [u64; WORDS], v: usize)
     bits[TOP] = top;
 }
 
+#[tactic(auto, unfolding(crate::specs::removed))]
 pub fn remove(bits: &mut [u64; WORDS], v: usize)
     requires { v < 4096 }
     ensures { bits.new ≡ removed bits.old v }
@@ -55,6 +52,7 @@ pub fn remove(bits: &mut [u64; WORDS], v: usize)
 }
 
 // The lowest number of the set, or 4,096.
+#[tactic(auto, using(std::proofs::lemmas::Nat::trailing_le), unfolding(crate::specs::lowest_of))]
 pub fn lowest(bits: &[u64; WORDS]) -> usize
     ensures { result ≡ lowest_of bits.now }
 {
@@ -62,6 +60,6 @@ pub fn lowest(bits: &[u64; WORDS]) -> usize
     if top == 0 {
         return 4096;
     }
-    let i = zeros(top);
-    64 * i + zeros(bits[i])
+    let i = top.trailing_zeros() as usize;
+    64 * i + bits[i].trailing_zeros() as usize
 }

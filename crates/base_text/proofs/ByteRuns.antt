@@ -3,24 +3,24 @@
 --     run-..           what the next byte makes of it
 --     zero-first, low_first     a field that begins with a zero or with no digit
 --     whole-..         a field that is all of a text
-use Rattle.base.specs.{◌≡◌, refl, sym, ap, ◌∙◌, Bool, true, false, Option, none, some, List, [], ◌∷◌, ℕ, suc, ◌+◌, ◌-◌, ◌*◌, ◌≤◌, ◌<◌}
+use Rattle.base.specs.{◌≡◌, refl, sym, ap, ◌∙◌, Bool, true, false, Option, None, Some, List, [], ◌∷◌, ℕ, suc, ◌+◌, ◌-◌, ◌*◌, ◌≤◌, ◌<◌}
 use Rattle.base.specs.{add-one, arith, eqb, length, drop, get_or, length-drop, drop-cons, take_all, below_more, eqb-true, eqb-false, ne_eqb}
 use Rattle.model.specs.{as_digits, number}
 use Rattle.base_text.specs.declared.Cursor.{Cursor}
-use Rattle.base_text.specs.declared.Number.TheVariants.{Value as Found, Broken as NoNumber}
 use Rattle.base_text.specs.{pick_bytes, end_of, stops, word_of, word_at, end_at, number_of, number_at, closed_at}
 use Rattle.base_text.proofs.Decimal.{number_other, number_large, number-all, number-empty, value-step, value-end, zero-alone}
 use Rattle.base_text.proofs.Decimal.{zero_leads}
+use Rattle.base_text.proofs.FoundNumbers.{found-number, found-cursor}
 use Rattle.base_text.proofs.TextWords.{end_other, word-step, word-space, word_line, word_out, end_le, part-is}
 
 -- ---- a field that ends at a place, and one that goes on
 
 module _ (s : List ℕ) (at n : ℕ) where
-  pub closed_none : word_at s at ≡ [] → closed_at s at n ≡ Found n (record { at = at })
+  pub closed_none : word_at s at ≡ [] → closed_at s at n ≡ Some (n, record { at = at })
   unfolding closed_at
   closed_none e = rw e
 
-  pub closed_some : (b : ℕ) (w : List ℕ) → word_at s at ≡ b ∷ w → closed_at s at n ≡ NoNumber
+  pub closed_some : (b : ℕ) (w : List ℕ) → word_at s at ≡ b ∷ w → closed_at s at n ≡ None
   unfolding closed_at
   closed_some b w e = let z : eqb (length (word_at s at)) 0 ≡ false = ne_eqb (length (word_at s at)) 0 (λ q. omega (arith, ap length e, q)) in rw z
 
@@ -44,11 +44,11 @@ inner s at l h = word-step s at l (λ e. omega arith) (end_other s at l (λ e. o
 -- ---- the number at a place, by what its field is as a number
 
 module _ (s : List ℕ) (at : ℕ) where
-  pub number-none : number (word_at s at) ≡ none → number_at s at ≡ NoNumber
+  pub number-none : number (word_at s at) ≡ None → number_at s at ≡ None
   unfolding number_at
   number-none e = rw e
 
-  number-some : (n end : ℕ) → number (word_at s at) ≡ some n → end_at s at ≡ end → number_at s at ≡ Found n (record { at = end })
+  number-some : (n end : ℕ) → number (word_at s at) ≡ Some n → end_at s at ≡ end → number_at s at ≡ Some (n, record { at = end })
   unfolding number_at
   number-some n end e f = rw (e, f)
 
@@ -99,7 +99,7 @@ module _ (s : List ℕ) (from n at : ℕ) (r : Run s from n at) where
       ∙ ap (λ (b : ℕ). as_digits (n * 10 + (b - 48)) (drop (at - from + 1) (word_at s from))) h.byte
 
   -- all of the field is read
-  run-done : from < length s → 48 < get_or s from 0 → from < at → word_at s at ≡ [] → number_at s from ≡ Found n (record { at = at })
+  run-done : from < length s → 48 < get_or s from 0 → from < at → word_at s at ≡ [] → number_at s from ≡ Some (n, record { at = at })
   unfolding end_at
   run-done f first b e =
       let w : List ℕ = word_at s from in
@@ -124,15 +124,15 @@ module _ (s : List ℕ) (from n at : ℕ) (r : Run s from n at) where
           digits = λ k m. below_more (λ (i : ℕ). (48 ≤ get_or (word_at s from) i 0) × (get_or (word_at s from) i 0 ≤ 57)) (at - from) r.digits (omega (arith, h.byte), omega (arith, h.byte)) k (omega arith);
         }
 
-    pub run_large : 48 ≤ get_or s at 0 → 65535 < n * 10 + (get_or s at 0 - 48) → number_at s from ≡ NoNumber
+    pub run_large : 48 ≤ get_or s at 0 → 65535 < n * 10 + (get_or s at 0 - 48) → number_at s from ≡ None
     run_large a c =
         let h = here (inner s at l (omega arith)) in
         number-none s from (number_large (word_at s from) (n * 10 + (get_or s at 0 - 48)) (at - from + 1) (next-value h) c)
 
-    no_digit : (48 ≤ get_or s at 0 → get_or s at 0 ≤ 57 → ⊥) → Here → number_at s from ≡ NoNumber
+    no_digit : (48 ≤ get_or s at 0 → get_or s at 0 ≤ 57 → ⊥) → Here → number_at s from ≡ None
     no_digit o h = number-none s from (number_other (word_at s from) (at - from) h.inside (λ d. o (omega (arith, h.byte, d.0)) (omega (arith, h.byte, d.1))))
 
-    pub run_other : 57 < get_or s at 0 → number_at s from ≡ NoNumber
+    pub run_other : 57 < get_or s at 0 → number_at s from ≡ None
     run_other a = no_digit (λ x y. omega arith) (here (inner s at l (omega arith)))
 
     -- a byte before the digits ends the field, or breaks it
@@ -149,7 +149,7 @@ module _ (s : List ℕ) (from n at : ℕ) (r : Run s from n at) where
         go (ends e) = run-done f first (lower r.low apart) e ∙ sym (closed_none s at n e)
         go (goes e) = no_digit (λ x y. omega arith) (here e) ∙ sym (closed_some s at n (get_or s at 0) (word_at s (at + 1)) e)
 
-  pub run_end : from < length s → 48 < get_or s from 0 → length s ≤ at → number_at s from ≡ Found n (record { at = at })
+  pub run_end : from < length s → 48 < get_or s from 0 → length s ≤ at → number_at s from ≡ Some (n, record { at = at })
   run_end f first l = run-done f first (omega arith) (word_out s at l)
 
 -- ---- the first byte
@@ -175,10 +175,10 @@ module _ (s : List ℕ) (at : ℕ) (l : at < length s) where
           number-none s at (zero_leads (word_at s at) head (λ o. omega (arith, more, o))) ∙ sym (closed_some s (at + 1) 0 b w e)
 
   -- a byte before the digits begins no number
-  pub low_first : get_or s at 0 < 48 → number_at s at ≡ NoNumber
+  pub low_first : get_or s at 0 < 48 → number_at s at ≡ None
   low_first a = number-none s at (go (next s at l))
     where
-      go : Next s at → number (word_at s at) ≡ none
+      go : Next s at → number (word_at s at) ≡ None
       go (ends e) = ap number e ∙ number-empty
       go (goes e) =
           let h : get_or (word_at s at) 0 0 ≡ get_or s at 0 = ap (λ (x : List ℕ). get_or x 0 0) e in
@@ -203,7 +203,7 @@ module _ (w : List ℕ) where
       sym (part-is w 0 (length w) (sym e)) ∙ take_all (length w - 0) w n
 
   -- a field that ends before the text does: what stands there is no digit
-  word_some : (end_at w 0 ≡ length w → ⊥) → number w ≡ none
+  word_some : (end_at w 0 ≡ length w → ⊥) → number w ≡ None
   unfolding end_at word_at
   word_some e =
       let end : ℕ = length (word_of w) in
@@ -214,25 +214,25 @@ module _ (w : List ℕ) where
       let z : ◌≡◌ {A = ℕ} 0 1 = cc (past_word w) in
       omega arith)
 
-  whole-found : (n : ℕ) (c : Cursor) → number_at w 0 ≡ Found n c → (number (word_at w 0) ≡ some n) × (c.at ≡ end_at w 0)
+  whole-found : (n : ℕ) (c : Cursor) → number_at w 0 ≡ Some (n, c) → (number (word_at w 0) ≡ Some n) × (c.at ≡ end_at w 0)
   unfolding number_at
   whole-found n c e = go (number (word_at w 0)) refl e
     where
-      go : (o : Option ℕ) → number (word_at w 0) ≡ o → number_of o (end_at w 0) ≡ Found n c → (number (word_at w 0) ≡ some n) × (c.at ≡ end_at w 0)
-      go none p q = let z : ◌≡◌ {A = ℕ} 0 1 = cc in absurd (omega arith)
-      go (some k) p q = let k≡n : k ≡ n = cc in let c≡ : record { at = end_at w 0 } ≡ c = cc in (p ∙ ap some k≡n, sym (ap (λ (x : Cursor). x.at) c≡))
+      go : (o : Option ℕ) → number (word_at w 0) ≡ o → number_of o (end_at w 0) ≡ Some (n, c) → (number (word_at w 0) ≡ Some n) × (c.at ≡ end_at w 0)
+      go None p q = let z : ◌≡◌ {A = ℕ} 0 1 = cc in absurd (omega arith)
+      go (Some k) p q = (p ∙ ap Some (found-number q), sym (ap (λ (x : Cursor). x.at) (found-cursor q)))
 
-  pub whole_is : (n : ℕ) (c : Cursor) → number_at w 0 ≡ Found n c → c.at ≡ length w → number w ≡ some n
+  pub whole_is : (n : ℕ) (c : Cursor) → number_at w 0 ≡ Some (n, c) → c.at ≡ length w → number w ≡ Some n
   whole_is n c e l = let f = whole-found n c e in ap number (sym (word-all (sym f.1 ∙ l))) ∙ f.0
 
-  pub whole-not : (n : ℕ) (c : Cursor) → number_at w 0 ≡ Found n c → (c.at ≡ length w → ⊥) → number w ≡ none
+  pub whole-not : (n : ℕ) (c : Cursor) → number_at w 0 ≡ Some (n, c) → (c.at ≡ length w → ⊥) → number w ≡ None
   whole-not n c e l = word_some (λ q. l ((whole-found n c e).1 ∙ q))
 
-  pub whole-none : number_at w 0 ≡ NoNumber → number w ≡ none
+  pub whole-none : number_at w 0 ≡ None → number w ≡ None
   unfolding number_at
   whole-none e = go (number (word_at w 0)) (eqb (end_at w 0) (length w)) refl refl e
     where
-      go : (o : Option ℕ) (t : Bool) → number (word_at w 0) ≡ o → eqb (end_at w 0) (length w) ≡ t → number_of o (end_at w 0) ≡ NoNumber → number w ≡ none
-      go (some k) t p r q = let z : ◌≡◌ {A = ℕ} 0 1 = cc in absurd (omega arith)
-      go none true p r q = ap number (sym (word-all (eqb-true (end_at w 0) (length w) r))) ∙ p
-      go none false p r q = word_some (eqb-false (end_at w 0) (length w) r)
+      go : (o : Option ℕ) (t : Bool) → number (word_at w 0) ≡ o → eqb (end_at w 0) (length w) ≡ t → number_of o (end_at w 0) ≡ None → number w ≡ None
+      go (Some k) t p r q = let z : ◌≡◌ {A = ℕ} 0 1 = cc in absurd (omega arith)
+      go None true p r q = ap number (sym (word-all (eqb-true (end_at w 0) (length w) r))) ∙ p
+      go None false p r q = word_some (eqb-false (end_at w 0) (length w) r)

@@ -4,7 +4,7 @@
 --     past-at       and then the place past them is the place past the line
 --     field_ten     a line of one field that byte 10 alone ends
 use Rattle.base.specs.{ℕ, zero, suc, ◌+◌, ◌≤◌, ◌<◌, zero-add, arith, ◌≡◌, refl, sym, ap, ◌∙◌, subst, Bool, true, false, cond, ◌&&◌, Option}
-use Rattle.base.specs.{none, some, List, [], ◌∷◌, ◌++◌, reverse, append-nil, reverse-cons, eqb, ltb, eqb-suc-suc, length, drop, get_or}
+use Rattle.base.specs.{None, Some, List, [], ◌∷◌, ◌++◌, reverse, append-nil, reverse-cons, eqb, ltb, eqb-suc-suc, length, drop, get_or}
 use Rattle.base.specs.{length-append, length-drop, drop_of_length-le, append_snoc, get_or-append_seam, drop-append-add, drop-drop, drop_at}
 use Rattle.base.specs.{get_or-drop, drop-cons, ne_eqb, eqb-true, lt-ltb, le-ltb}
 use Rattle.model.specs.{and_then, only, onto, split, Line, ended, closing, lines_from, fields}
@@ -314,7 +314,7 @@ some_field [] = omega arith
 some_field (b ∷ l) = split-some (eqb b 32) b (fields l)
 
 -- nothing is found where what is there does not pass
-none_then : (e : Bool) (ws : List (List ℕ)) (n : ℕ) → eqb (length ws) n ≡ false → and_then (only e ws) (of_length n) ≡ none
+none_then : (e : Bool) (ws : List (List ℕ)) (n : ℕ) → eqb (length ws) n ≡ false → and_then (only e ws) (of_length n) ≡ None
 unfolding and_then only of_length
 none_then true ws n h = rw h
 none_then false ws n h = refl
@@ -328,7 +328,7 @@ cons_then false true w ws vs n h = let z : ◌≡◌ {A = ℕ} 0 1 = cc in absur
 cons_then true t w ws vs n h = rw (eqb-suc-suc (length ws) n) (go (eqb (length ws) n) t h)
   where
     go : (u v : Bool) → only u ws ≡ only v vs → only u (w ∷ ws) ≡ only v (w ∷ vs)
-    go true true k = let q : ws ≡ vs = cc in ap (λ (x : List (List ℕ)). some (w ∷ x)) q
+    go true true k = let q : ws ≡ vs = cc in ap (λ (x : List (List ℕ)). Some (w ∷ x)) q
     go false false k = refl
     go true false k = let z : ◌≡◌ {A = ℕ} 0 1 = cc in absurd (omega arith)
     go false true k = let z : ◌≡◌ {A = ℕ} 0 1 = cc in absurd (omega arith)

@@ -2,7 +2,7 @@
 --     dec_small, dec_big      the digits of a number, by its last one
 --     number-..               what a field is as a number, by what the reader met in it
 use Rattle.base.specs.{ℕ, zero, suc, ◌+◌, ◌-◌, ◌*◌, ◌/◌, ◌%◌, ◌^◌, ◌≤◌, ◌<◌, not-suc-le-zero, pow-suc, add-one, arith, ◌≡◌, refl, sym, ap}
-use Rattle.base.specs.{◌∙◌, subst, Bool, true, false, not, cond, none, some, List, [], ◌∷◌, ◌++◌, append-nil, T, ltb, nltb→le, length}
+use Rattle.base.specs.{◌∙◌, subst, Bool, true, false, not, cond, None, Some, List, [], ◌∷◌, ◌++◌, append-nil, T, ltb, nltb→le, length}
 use Rattle.base.specs.{length-append, drop, get_or, drop_of_length-le, append_snoc, drop-cons, ltb-true, ltb-false, lt-ltb, le-ltb, le-leb}
 use Rattle.base.specs.{lt-leb}
 use Rattle.model.specs.{same, only, digits, decimal, as_digits, number}
@@ -164,25 +164,25 @@ value_on n (b ∷ w) pos d =
     go v e f = e ∙ ap (λ (l : List ℕ). l ++ w) f ∙ append_snoc (decimal n) b w
 
 -- a byte that is no digit
-pub number_other : (w : List ℕ) (i : ℕ) → i < length w → ((48 ≤ get_or w i 0) × (get_or w i 0 ≤ 57) → ⊥) → number w ≡ none
+pub number_other : (w : List ℕ) (i : ℕ) → i < length w → ((48 ≤ get_or w i 0) × (get_or w i 0 ≤ 57) → ⊥) → number w ≡ None
 unfolding number only
 number_other w i h other =
     rw (not_same w (decimal (as_digits 0 w)) (λ e. other (digit_at w i (subst Digits (sym e) (dec_digits (as_digits 0 w))) h)), and-false)
 
 -- a value so far that is too large
-pub number_large : (w : List ℕ) (n i : ℕ) → as_digits 0 w ≡ as_digits n (drop i w) → 65535 < n → number w ≡ none
+pub number_large : (w : List ℕ) (n i : ℕ) → as_digits 0 w ≡ as_digits n (drop i w) → 65535 < n → number w ≡ None
 unfolding number only
 number_large w n i e h =
     let big : 65535 < as_digits 0 w = omega (arith, value_grows n (drop i w)) in
     rw (lt-leb (as_digits 0 w) 65535 big)
 
 -- no digit at all
-pub number-empty : number [] ≡ none
+pub number-empty : number [] ≡ None
 unfolding number only as_digits same decimal digits
 number-empty = refl
 
 -- a leading zero
-pub number-zero : number (48 ∷ []) ≡ some 0
+pub number-zero : number (48 ∷ []) ≡ Some 0
 unfolding number only as_digits same decimal digits
 number-zero = refl
 
@@ -205,17 +205,17 @@ head-zero : (n c : ℕ) (w : List ℕ) → decimal n ≡ 48 ∷ c ∷ w → ⊥
 head-zero zero c w e = let z : 1 ≡ suc (suc (length w)) = ap length (sym (dec_small 0 (omega arith)) ∙ e) in omega arith
 head-zero (suc n) c w e = let z : 48 < 48 = subst (λ (l : List ℕ). 48 < get_or l 0 0) e (first_above (suc n) (omega arith)) in omega arith
 
-pub number-zeros : (b : ℕ) (w : List ℕ) → number (48 ∷ b ∷ w) ≡ none
+pub number-zeros : (b : ℕ) (w : List ℕ) → number (48 ∷ b ∷ w) ≡ None
 unfolding number only
 number-zeros b w = rw (not_same (48 ∷ b ∷ w) (decimal (as_digits 0 (48 ∷ b ∷ w))) (λ e. head-zero (as_digits 0 (48 ∷ b ∷ w)) b w (sym e)), and-false)
 
 -- the same, by the tests that the reader makes
-pub zero-alone : (w : List ℕ) → get_or w 0 0 ≡ 48 → length w ≡ 1 → number w ≡ some 0
+pub zero-alone : (w : List ℕ) → get_or w 0 0 ≡ 48 → length w ≡ 1 → number w ≡ Some 0
 zero-alone [] e l = absurd (omega arith)
 zero-alone (b ∷ []) e l = ap (λ (x : ℕ). number (x ∷ [])) e ∙ number-zero
 zero-alone (b ∷ c ∷ w) e l = absurd (omega arith)
 
-pub zero_leads : (w : List ℕ) → get_or w 0 0 ≡ 48 → (length w ≡ 1 → ⊥) → number w ≡ none
+pub zero_leads : (w : List ℕ) → get_or w 0 0 ≡ 48 → (length w ≡ 1 → ⊥) → number w ≡ None
 zero_leads [] e l = number-empty
 zero_leads (b ∷ []) e l = absurd (l refl)
 zero_leads (b ∷ c ∷ w) e l = ap (λ (x : ℕ). number (x ∷ c ∷ w)) e ∙ number-zeros c w
@@ -236,7 +236,7 @@ whole b w is ne =
 
 -- and a value that is small enough
 pub number-all : (w : List ℕ) (n : ℕ) → 0 < length w → (get_or w 0 0 ≡ 48 → ⊥) → ((k : ℕ) → k < length w → (48 ≤ get_or w k 0) × (get_or w k 0 ≤ 57))
-    → as_digits 0 w ≡ n → n ≤ 65535 → number w ≡ some n
+    → as_digits 0 w ≡ n → n ≤ 65535 → number w ≡ Some n
 unfolding number only
 number-all [] n h ne d e l = absurd (not-suc-le-zero h)
 number-all (b ∷ w) n h ne d e l =

@@ -1,6 +1,6 @@
 -- A field and the byte behind it, at places that do not hang on what was found before. A reader of a line of fields is shown by these to be a function of
 -- what stands in each field and behind it (the crate library's Forms).
-use Rattle.base.specs.{ℕ, zero, suc, ◌+◌, ◌≡◌, refl, Bool, true, false, Option, none, some, List, drop}
+use Rattle.base.specs.{ℕ, zero, suc, ◌+◌, ◌≡◌, refl, Bool, true, false, Option, None, Some, List, drop}
 use Rattle.model.specs.{number, hex_table}
 use Rattle.base_text.specs.{end_of, stops, word_at, end_at, is_byte, byte_at, line_end_at, number_of, number_at, table_at, then_byte, then_end}
 use Rattle.base_text.specs.{number_then, number_end, table_then}
@@ -16,9 +16,9 @@ nth s q (suc k) = past s (nth s q k)
 
 -- a value that counts only if the byte behind it is the right one
 abbrev pub then_o : Option ℕ → Bool → Option ℕ
-then_o none t = none
-then_o (some n) true = some n
-then_o (some n) false = none
+then_o None t = None
+then_o (Some n) true = Some n
+then_o (Some n) false = None
 
 -- what a test finds in the field at q, with the byte b behind it
 abbrev pub found : (List ℕ → Option ℕ) → List ℕ → ℕ → ℕ → Option ℕ
@@ -39,9 +39,9 @@ then_is j s q b = go (j (word_at s q)) (is_byte s (end_at s q) b) refl
   where
     go : (o : Option ℕ) (t : Bool) → is_byte s (end_at s q) b ≡ t
         → then_byte s (number_of o (end_at s q)) b ≡ number_of (then_o o t) (past s q)
-    go none t e = refl
-    go (some n) true e = rw e
-    go (some n) false e = rw e
+    go None t e = refl
+    go (Some n) true e = rw e
+    go (Some n) false e = rw e
 
 pub number_is : (s : List ℕ) (q b : ℕ) → number_then s q b ≡ number_of (found number s q b) (past s q)
 unfolding number_then number_at
@@ -53,9 +53,9 @@ number-end-is s q = go (number (word_at s q)) (stops (drop (end_at s q) s)) refl
   where
     go : (o : Option ℕ) (t : Bool) → stops (drop (end_at s q) s) ≡ t
         → then_end s (number_of o (end_at s q)) ≡ number_of (then_o o t) (past_end s q)
-    go none t e = refl
-    go (some n) true e = rw e
-    go (some n) false e = rw e
+    go None t e = refl
+    go (Some n) true e = rw e
+    go (Some n) false e = rw e
 
 pub table_is : (s : List ℕ) (q b : ℕ) → table_then s q b ≡ number_of (found hex_table s q b) (past s q)
 unfolding table_then table_at

@@ -1,9 +1,7 @@
 -- Laws of the field at a place: where it ends, and its bytes.
 use Rattle.base.specs.{ℕ, zero, suc, ◌+◌, ◌-◌, ◌≤◌, ◌<◌, add-zero, add-one, arith, ◌≡◌, refl, sym, ap, ◌∙◌, Bool, true, false, ◌&&◌, List}
 use Rattle.base.specs.{[], ◌∷◌, eqb, length, take, drop, get_or, length-drop, drop_of_length-le, drop-cons, eq-eqb, ne_eqb, lt-ltb, ltb-true}
-use Rattle.base.specs.{Option, none, some}
-use Rattle.base_text.specs.declared.Number.TheVariants.{Value as Found, Broken as NoNumber}
-use Rattle.base_text.specs.declared.Step.TheVariants.{To, Broken as NoStep}
+use Rattle.base.specs.{Option, None, Some}
 use Rattle.base_text.proofs.Bytes.{and-false}
 use Rattle.base_text.specs.{pick_bytes, pick_n, end_of, stops, word_of, word_at, end_at, number_of, step_of}
 
@@ -151,24 +149,24 @@ part-is s at end e = ap (λ (k : ℕ). take (k - at) (drop at s)) e ∙ word-par
 
 -- a field that a test q takes, and one that it does not
 module _ (q : List ℕ → Option ℕ) (s : List ℕ) (at end : ℕ) (e : end ≡ end_at s at) where
-  pub found_at : (n : ℕ) → q (take (end - at) (drop at s)) ≡ some n → Found n (record { at = end }) ≡ number_of (q (word_at s at)) (end_at s at)
+  pub found_at : (n : ℕ) → q (take (end - at) (drop at s)) ≡ Some n → Some (n, record { at = end }) ≡ number_of (q (word_at s at)) (end_at s at)
   found_at n f =
-      let h : q (word_at s at) ≡ some n = ap q (sym (part-is s at end e)) ∙ f in
+      let h : q (word_at s at) ≡ Some n = ap q (sym (part-is s at end e)) ∙ f in
       rw (h, sym e)
 
-  pub not_at : q (take (end - at) (drop at s)) ≡ none → NoNumber ≡ number_of (q (word_at s at)) (end_at s at)
+  pub not_at : q (take (end - at) (drop at s)) ≡ None → None ≡ number_of (q (word_at s at)) (end_at s at)
   not_at f =
-      let h : q (word_at s at) ≡ none = ap q (sym (part-is s at end e)) ∙ f in
+      let h : q (word_at s at) ≡ None = ap q (sym (part-is s at end e)) ∙ f in
       rw h
 
 -- the same for a test
 module _ (q : List ℕ → Bool) (s : List ℕ) (at end : ℕ) (e : end ≡ end_at s at) where
-  pub passes_at : q (take (end - at) (drop at s)) ≡ true → To (record { at = end }) ≡ step_of (q (word_at s at)) (end_at s at)
+  pub passes_at : q (take (end - at) (drop at s)) ≡ true → Some (record { at = end }) ≡ step_of (q (word_at s at)) (end_at s at)
   passes_at f =
       let h : q (word_at s at) ≡ true = ap q (sym (part-is s at end e)) ∙ f in
       rw (h, sym e)
 
-  pub fails_at : q (take (end - at) (drop at s)) ≡ false → NoStep ≡ step_of (q (word_at s at)) (end_at s at)
+  pub fails_at : q (take (end - at) (drop at s)) ≡ false → None ≡ step_of (q (word_at s at)) (end_at s at)
   fails_at f =
       let h : q (word_at s at) ≡ false = ap q (sym (part-is s at end e)) ∙ f in
       rw h

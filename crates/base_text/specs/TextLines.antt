@@ -1,6 +1,6 @@
 -- A line of a text, and its fields from a place on: what a reader that goes from field to field meets.
 use Rattle.std.specs.Prelude.{◌+◌, ◌&&◌, ◌∷◌}
-use Rattle.base.specs.{ℕ, zero, suc, Bool, true, false, Option, none, some, List, [], ltb, length, take, drop}
+use Rattle.base.specs.{ℕ, zero, suc, Bool, true, false, Option, None, Some, List, [], ltb, length, take, drop}
 use Rattle.model.specs.{same, and_then, Line, next_of}
 use Rattle.base_text.specs.declared.Span.{Span}
 use Rattle.base_text.specs.TextFields.{pick_bytes, pick_n, end_of, stops, word_at, end_at, is_byte, on_number, number_then, number_end}
@@ -57,5 +57,5 @@ after_at (suc k) s at = after_at k s (end_at s at + 1)
 -- the number at a place and k more, a space behind each but the last and a line's end behind that
 unfoldable pub numbers_at : ℕ → List ℕ → ℕ → Option (List ℕ)
 unfolding number_then number_end
-numbers_at zero s at = on_number (number_end s at) (λ n c. some (n ∷ [])) none
-numbers_at (suc k) s at = on_number (number_then s at 32) (λ n c. and_then (numbers_at k s c.at) (λ ns. some (n ∷ ns))) none
+numbers_at zero s at = on_number (number_end s at) (λ n c. Some (n ∷ [])) None
+numbers_at (suc k) s at = on_number (number_then s at 32) (λ n c. and_then (numbers_at k s c.at) (λ ns. Some (n ∷ ns))) None

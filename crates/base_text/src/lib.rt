@@ -5,29 +5,15 @@
 
 ghost use Rattle.std.specs.Prelude.{◌≡◌, ◌∷◌, ◌+◌, ◌/◌, ◌%◌, ◌≤◌, ◌<◌};
 ghost use Rattle.base.specs.{[], length, get_or, drop};
-ghost use Rattle.model.specs.{all, same, decimal, number, hex_digit, hex_from, hex_table, is_letter, is_name_byte, is_name, name_bytes};
+ghost use Rattle.model.specs.{same, decimal, number, hex_digit, hex_from, hex_table, is_letter, is_name_byte, is_name, name_bytes};
 ghost use Rattle.base_words.specs.{put_at};
-ghost use Rattle.base_text.specs.{Wrote, end_of, end_at, value_of, byte_at, line_end_at, number_at, table_at, name_at, closed_at, then_byte};
-ghost use Rattle.base_text.specs.{in_class, span_end, then_end, number_then, number_end, table_then, difference_at, span_at, first_is};
+ghost use Rattle.base_text.specs.{Wrote, end_of, end_at, byte_at, line_end_at, number_at, table_at, name_at, closed_at};
+ghost use Rattle.base_text.specs.{in_class, span_end, number_then, number_end, table_then, difference_at, span_at, first_is};
 
-// A position in a text. The text itself is a parameter of each method.
+// A position in a text. The text itself is a parameter of each method. What a method read is its number, if it has one, and the cursor past it.
 #[derive(Clone, Copy)]
 pub struct Cursor {
     pub at: usize,
-}
-
-// What a field says as a number.
-#[derive(Clone, Copy)]
-pub enum Value {
-    Is(u16),
-    Broken,
-}
-
-// A number that was read, with the cursor past it.
-#[derive(Clone, Copy)]
-pub enum Number {
-    Value(u16, Cursor),
-    Broken,
 }
 
 // A line: "where the contents stop and where the next line begins"; both are one place where the text ends first.
@@ -35,13 +21,6 @@ pub enum Number {
 pub struct Span {
     pub stop: usize,
     pub next: usize,
-}
-
-// The cursor past what was read.
-#[derive(Clone, Copy)]
-pub enum Step {
-    To(Cursor),
-    Broken,
 }
 
 // ---- lines and fields
@@ -67,8 +46,7 @@ pub fn ends_at(s: &[u8], at: usize) -> usize
 pub fn line(s: &[u8], from: usize) -> Span
     ensures { result ≡ span_at s.now from }
 {
-    let mut at = from;
-    while at < s.len() {
+    for at in from..s.len() {
         let n = ends_at(s, at);
         if n != 0 {
             return Span {
@@ -76,40 +54,31 @@ pub fn line(s: &[u8], from: usize) -> Span
                 next: at + n,
             };
         }
-        at += 1;
     }
-    Span { stop: at, next: at }
+    let end = from.max(s.len());
+    Span {
+        stop: end,
+        next: end,
+    }
 }
 
 // Where the field at `from` ends: at the next space, line's end or end of text.
 pub fn field_end(s: &[u8], from: usize) -> usize
     ensures { result ≡ end_at s.now from }
 {
-    let mut at = from;
-    while at < s.len() {
+    for at in from..s.len() {
         if s[at] == 32 || ends_at(s, at) != 0 {
             return at;
         }
-        at += 1;
     }
-    at
+    from.max(s.len())
 }
 
 // The same bytes.
 pub fn same_bytes(a: &[u8], b: &[u8]) -> bool
     ensures { result ≡ same a.now b.now }
 {
-    if a.len() != b.len() {
-        return false;
-    }
-    let mut i = 0;
-    while i < a.len() {
-        if a[i] != b[i] {
-            return false;
-        }
-        i += 1;
-    }
-    true
+    a == b
 }
 
 // A text's first line has its end, and these contents.
@@ -124,95 +93,76 @@ pub fn first_is(s: &[u8], first: Span, bytes: &[u8]) -> bool
 // ---- numbers
 
 // A number whose digits end at a place: it is one only if its field ends there.
-fn closed(s: &[u8], at: usize, n: u16) -> Number
+fn closed(s: &[u8], at: usize, n: u16) -> Option<(u16, Cursor)>
     ensures { result ≡ closed_at s.now at n }
 {
     if s.len() <= at || s[at] == 32 || ends_at(s, at) != 0 {
-        return Number::Value(n, Cursor { at });
+        return Some((n, Cursor { at }));
     }
-    Number::Broken
+    None
 }
 
 // "decimal, 0 to 65,535, without leading zeros": the field at a place where no zero begins it, its digits and its end in one pass.
-fn digits_at(s: &[u8], from: usize) -> Number
+fn digits_at(s: &[u8], from: usize) -> Option<(u16, Cursor)>
     requires { (from < length s.now) × (48 < get_or s.now from 0) }
     ensures { result ≡ number_at s.now from }
 {
     let mut n: u32 = 0;
-    let mut at = from;
-    while at < s.len() {
+    for at in from..s.len() {
         let b = s[at];
         if b < 48 {
             return closed(s, at, n as u16);
         }
         if b > 57 {
-            return Number::Broken;
+            return None;
         }
-        n = n * 10 + (b as u32 - 48);
+        n = n * 10 + (u32::from(b) - 48);
         if n > 65535 {
-            return Number::Broken;
+            return None;
         }
-        at += 1;
     }
-    Number::Value(n as u16, Cursor { at })
+    Some((n as u16, Cursor { at: s.len() }))
 }
 
 // The same for a field of its own: "decimal, 0 to 65,535, without leading zeros".
-pub fn number_of(w: &[u8]) -> Value
-    ensures { result ≡ value_of (number w.now) }
+pub fn number_of(w: &[u8]) -> Option<u16>
+    ensures { result ≡ number w.now }
 {
-    let c = Cursor { at: 0 };
-    match c.number(w) {
-        Number::Value(n, d) => {
-            if d.at == w.len() {
-                Value::Is(n)
-            } else {
-                Value::Broken
-            }
-        }
-        Number::Broken => Value::Broken,
-    }
+    let (n, past) = Cursor { at: 0 }.number(w)?;
+    if past.at == w.len() { Some(n) } else { None }
 }
 
 // ---- "four lower-case hexadecimal digits"
 
 // The value of a digit of the foundry's match table: "Write it as listed cases, digits and letters by range, so that they can tick them off." A digit's
 // value is its distance from `0`, a letter's ten and its distance from `a`; no other byte is a digit.
-fn hex_digit(b: u8) -> Value
-    ensures { result ≡ value_of (hex_digit b) }
+fn hex_digit(b: u8) -> Option<u16>
+    ensures { result ≡ hex_digit b }
 {
     match b {
-        b'0'..=b'9' => Value::Is((b - b'0') as u16),
-        b'a'..=b'f' => Value::Is((b - b'a') as u16 + 10),
-        _ => Value::Broken,
+        b'0'..=b'9' => Some(u16::from(b - b'0')),
+        b'a'..=b'f' => Some(u16::from(b - b'a') + 10),
+        _ => None,
     }
 }
 
-fn hex_pair(a: u8, b: u8) -> Value
-    ensures { result ≡ value_of (hex_from 0 (a ∷ b ∷ [])) }
+fn hex_pair(a: u8, b: u8) -> Option<u16>
+    ensures { result ≡ hex_from 0 (a ∷ b ∷ []) }
 {
-    match hex_digit(a) {
-        Value::Is(h) => match hex_digit(b) {
-            Value::Is(l) => Value::Is(h * 16 + l),
-            Value::Broken => Value::Broken,
-        },
-        Value::Broken => Value::Broken,
-    }
+    let high = hex_digit(a)?;
+    let low = hex_digit(b)?;
+    Some(high * 16 + low)
 }
 
-pub fn hex_of(w: &[u8]) -> Value
-    ensures { result ≡ value_of (hex_table w.now) }
+pub fn hex_of(w: &[u8]) -> Option<u16>
+    ensures { result ≡ hex_table w.now }
 {
     if w.len() != 4 {
-        return Value::Broken;
+        return None;
     }
-    match hex_pair(w[0], w[1]) {
-        Value::Is(h) => match hex_pair(w[2], w[3]) {
-            Value::Is(l) => Value::Is(h * 256 + l),
-            Value::Broken => Value::Broken,
-        },
-        Value::Broken => Value::Broken,
-    }
+    let high = hex_pair(w[0], w[1])?;
+    let low = hex_pair(w[2], w[3])?;
+    Some(high * 256 + low)
 }
 
 // ---- "A name is 1 to 8 letters, digits or underscores, a letter first."
@@ -233,58 +183,49 @@ pub fn is_name_byte(b: u8) -> bool
     is_letter(b) || (b == b'_' || (b >= b'0' && b <= b'9'))
 }
 
-fn name_bytes_from(w: &[u8], from: usize) -> bool
-    ensures { result ≡ all is_name_byte (drop from w.now) }
-{
-    let mut i = from;
-    while i < w.len() {
-        if !is_name_byte(w[i]) {
-            return false;
-        }
-        i += 1;
-    }
-    true
-}
-
 pub fn is_name(w: &[u8]) -> bool
     ensures { result ≡ is_name w.now }
 {
-    w.len() != 0 && (w.len() <= 8 && (is_letter(w[0]) && name_bytes_from(w, 1)))
+    match w {
+        [first, rest @ ..] => is_letter(*first)
+            && (rest.len() <= 7 && rest.iter().all(|b| is_name_byte(*b))),
+        [] => false,
+    }
 }
 
 // ---- the cursor
 
 impl Cursor {
     // One given byte.
-    pub fn byte(self, s: &[u8], b: u8) -> Step
+    pub fn byte(self, s: &[u8], b: u8) -> Option<Cursor>
         ensures { result ≡ byte_at s.now self.at b }
     {
         let at = self.at;
         if s.len() <= at || s[at] != b {
-            return Step::Broken;
+            return None;
         }
-        Step::To(Cursor { at: at + 1 })
+        Some(Cursor { at: at + 1 })
     }
 
     // The end of a line: the cursor is where the next line begins.
-    pub fn line_end(self, s: &[u8]) -> Step
+    pub fn line_end(self, s: &[u8]) -> Option<Cursor>
         ensures { result ≡ line_end_at s.now self.at }
     {
         let at = self.at;
         let n = ends_at(s, at);
         if n == 0 {
-            return Step::Broken;
+            return None;
         }
-        Step::To(Cursor { at: at + n })
+        Some(Cursor { at: at + n })
     }
 
     // A number's field.
-    pub fn number(self, s: &[u8]) -> Number
+    pub fn number(self, s: &[u8]) -> Option<(u16, Cursor)>
         ensures { result ≡ number_at s.now self.at }
     {
         let from = self.at;
         if s.len() <= from {
-            return Number::Broken;
+            return None;
         }
         if s[from] > 48 {
             return digits_at(s, from);
@@ -292,117 +233,96 @@ impl Cursor {
         if s[from] == 48 {
             return closed(s, from + 1, 0);
         }
-        Number::Broken
+        None
     }
 
     // A table's field.
-    pub fn table(self, s: &[u8]) -> Number
+    pub fn table(self, s: &[u8]) -> Option<(u16, Cursor)>
         ensures { result ≡ table_at s.now self.at }
     {
         let from = self.at;
         if s.len() <= from {
-            return Number::Broken;
+            return None;
         }
         let end = field_end(s, from);
-        match hex_of(&s[from..end]) {
-            Value::Is(n) => Number::Value(n, Cursor { at: end }),
-            Value::Broken => Number::Broken,
-        }
+        let n = hex_of(&s[from..end])?;
+        Some((n, Cursor { at: end }))
     }
 
     // A name's field: the cursor past it says how long it is.
-    pub fn name(self, s: &[u8]) -> Step
+    pub fn name(self, s: &[u8]) -> Option<Cursor>
         ensures { result ≡ name_at s.now self.at }
     {
         let from = self.at;
         if s.len() <= from {
-            return Step::Broken;
+            return None;
         }
         let end = field_end(s, from);
         if is_name(&s[from..end]) {
-            return Step::To(Cursor { at: end });
+            return Some(Cursor { at: end });
         }
-        Step::Broken
+        None
     }
 
     // "A difference is in groups of seven bits, lowest first, the top bit set on all but the last byte"; one that "takes more than two bytes" is broken.
-    pub fn difference(self, s: &[u8]) -> Number
+    pub fn difference(self, s: &[u8]) -> Option<(u16, Cursor)>
         ensures { result ≡ difference_at s.now self.at }
     {
         let at = self.at;
         if s.len() <= at {
-            return Number::Broken;
+            return None;
         }
         let low = s[at];
         if low < 128 {
-            return Number::Value(low as u16, Cursor { at: at + 1 });
+            return Some((u16::from(low), Cursor { at: at + 1 }));
         }
         if s.len() <= at + 1 || s[at + 1] >= 128 {
-            return Number::Broken;
+            return None;
         }
         let high = s[at + 1];
-        Number::Value(low as u16 - 128 + 128 * high as u16, Cursor { at: at + 2 })
+        Some((
+            u16::from(low) - 128 + 128 * u16::from(high),
+            Cursor { at: at + 2 },
+        ))
     }
 
     // A number's field, and the byte that must stand behind it.
-    pub fn number_then(self, s: &[u8], b: u8) -> Number
+    // Stays: the new form is no plainer: `table_then` has these two lines too, and a function over the field's reader would need clauses on what that answers.
+    pub fn number_then(self, s: &[u8], b: u8) -> Option<(u16, Cursor)>
         ensures { result ≡ number_then s.now self.at b }
     {
-        then_byte(self.number(s), s, b)
+        let (n, past) = self.number(s)?;
+        Some((n, past.byte(s, b)?))
     }
 
     // A number's field that ends its line.
-    pub fn number_end(self, s: &[u8]) -> Number
+    pub fn number_end(self, s: &[u8]) -> Option<(u16, Cursor)>
         ensures { result ≡ number_end s.now self.at }
     {
-        then_end(self.number(s), s)
+        let (n, past) = self.number(s)?;
+        Some((n, past.line_end(s)?))
     }
 
     // A table's field, and the byte behind it.
-    pub fn table_then(self, s: &[u8], b: u8) -> Number
+    pub fn table_then(self, s: &[u8], b: u8) -> Option<(u16, Cursor)>
         ensures { result ≡ table_then s.now self.at b }
     {
-        then_byte(self.table(s), s, b)
-    }
-}
-
-// What was found counts only if the byte b stands behind it.
-fn then_byte(found: Number, s: &[u8], b: u8) -> Number
-    ensures { result ≡ then_byte s.now found b }
-{
-    match found {
-        Number::Value(n, c) => match c.byte(s, b) {
-            Step::To(d) => Number::Value(n, d),
-            Step::Broken => Number::Broken,
-        },
-        Number::Broken => Number::Broken,
-    }
-}
-
-// What was found counts only if the line ends behind it.
-fn then_end(found: Number, s: &[u8]) -> Number
-    ensures { result ≡ then_end s.now found }
-{
-    match found {
-        Number::Value(n, c) => match c.line_end(s) {
-            Step::To(d) => Number::Value(n, d),
-            Step::Broken => Number::Broken,
-        },
-        Number::Broken => Number::Broken,
+        let (n, past) = self.table(s)?;
+        Some((n, past.byte(s, b)?))
     }
 }
 
 // ---- bytes and numbers written
 
 // All of `from`, from byte `at` on.
+// Stays: beside `base_words::put`, one for both is no plainer, as `put_at` would have to be of any type. `copy_from_slice` becomes a call of `memmove`
+// here, where C programs are promised that the archive needs `memcpy` and `memset` alone.
 pub fn put(out: &mut [u8], at: usize, from: &[u8])
     requires { at + length from.now ≤ length out.old }
     ensures { out.new ≡ put_at out.old at from.now }
 {
-    let mut i = 0;
-    while i < from.len() {
+    for i in 0..from.len() {
         out[at + i] = from[i];
-        i += 1;
     }
 }
 
@@ -471,7 +391,8 @@ pub fn put_number(out: &mut [u8], at: usize, n: u32) -> usize
 
 // "Spaces or tabs part words"; digits; the bytes of a name, "letters, digits and underscores"; those of a name or a figure; all but the space, which
 // "separates fields".
-#[derive(Clone, Copy)]
+// Stays: a closure in its place is no plainer, as the classes are the definitions' own (`in_class`), and a caller's closure would need a proof of its test.
+#[derive(Clone, Copy, PartialEq, Eq)]
 pub enum Class {
     Blank,
     Digit,
@@ -496,12 +417,10 @@ pub fn is_of(class: Class, b: u8) -> bool
 pub fn span_end(w: &[u8], from: usize, class: Class) -> usize
     ensures { result ≡ span_end (in_class class) w.now from }
 {
-    let mut at = from;
-    while at < w.len() {
+    for at in from..w.len() {
         if !is_of(class, w[at]) {
             return at;
         }
-        at += 1;
     }
-    at
+    from.max(w.len())
 }

@@ -39,13 +39,6 @@ const ROWS: [[u8; 16]; 24] = [
 // aaaa, cccc, f0f0 and ff00, the first lowest.
 const LEAVES: u64 = 0xff00f0f0ccccaaaa;
 
-// An entry of a table, as an index.
-fn index_of(x: u8) -> usize
-    ensures { result ≡ x }
-{
-    x as usize
-}
-
 // The rows that an order makes of rows 0 to 15.
 pub fn rows(order: usize) -> [u8; 16]
     requires { order < 24 }
@@ -77,6 +70,7 @@ pub fn place(order: usize, j: usize) -> usize
 }
 
 // "bit r is the cell's value in row r".
+#[tactic(auto, using(crate::proofs::Tables::value_shift))]
 pub fn bit(table: u16, r: usize) -> bool
     requires { r < 16 }
     ensures { result ≡ value table r }
@@ -93,11 +87,12 @@ fn value_at(pins: u16, table: u16, row: usize) -> bool
 }
 
 // A table with a row put below those that it has.
+#[tactic(auto, unfolding(model::specs::one))]
 fn with_row(b: bool, t: u16) -> u16
     requires { t < 32768 }
     ensures { result ≡ one b + 2 * t }
 {
-    if b { 1 + 2 * t } else { 2 * t }
+    u16::from(b) + 2 * t
 }
 
 // The 16 rows of a cell under an order and mask 0, from the last row down.
@@ -107,10 +102,8 @@ pub fn first_table(pins: u16, table: u16, order: usize) -> u16
 {
     let rs = rows(order);
     let mut t: u16 = 0;
-    let mut r: usize = 16;
-    while r > 0 {
-        r -= 1;
-        t = with_row(value_at(pins, table, index_of(rs[r])), t);
+    for r in (0..16).rev() {
+        t = with_row(value_at(pins, table, usize::from(rs[r])), t);
     }
     t
 }
@@ -138,6 +131,7 @@ fn crossed_at(order: usize, mask: usize, j: usize, t: u16) -> u16
 }
 
 // The table of a cell under an order and a mask, from that of mask 0.
+#[tactic(auto, unfolding(crate::specs::permuted))]
 pub fn permuted(order: usize, mask: usize, t: u16) -> u16
     requires { order < 24 }
     ensures { result ≡ permuted (places_of order) mask t }
@@ -166,6 +160,7 @@ fn root_bit(r: u16, pin: usize, pins: usize, b: bool, j: usize) -> bool
 }
 
 // The root's row.
+#[tactic(auto, unfolding(crate::specs::root_row))]
 fn root_row(r: u16, pin: usize, pins: usize, b: bool) -> u16
     requires { (pins ≤ 4) × (1 ≤ pins) }
     ensures { (result ≡ root_row r pin pins b) × (result < 16) }
@@ -181,11 +176,9 @@ fn pair_value(root: Cell, pin: usize, inner: Cell, r: u16) -> bool
     requires { (pin < 4) × (1 ≤ inner.pins) × (inner.pins ≤ 4) × (r < 16) }
     ensures { result ≡ value root.table (root_row r pin inner.pins (value inner.table (r / 2 ^ pin % 2 ^ inner.pins))) }
 {
-    let n = inner.pins;
-    let row = r as usize;
-    let b = value_at(n, inner.table, row >> pin);
-    let q = root_row(r, pin, n as usize, b);
-    bit(root.table, q as usize)
+    let b = value_at(inner.pins, inner.table, usize::from(r) >> pin);
+    let q = root_row(r, pin, usize::from(inner.pins), b);
+    bit(root.table, usize::from(q))
 }
 
 // The table of a pair, from its last row down.
@@ -193,10 +186,9 @@ pub fn pair_table(root: Cell, pin: usize, inner: Cell) -> u16
     requires { (pin < root.pins) × (1 ≤ inner.pins) × (root.pins + inner.pins ≤ 5) }
     ensures { result ≡ pair_table root pin inner }
 {
-    let mut r: u16 = 1 << (root.pins + inner.pins - 1);
+    let rows = 1u16 << (root.pins + inner.pins - 1);
     let mut t: u16 = 0;
-    while r > 0 {
-        r -= 1;
+    for r in (0..rows).rev() {
         t = with_row(pair_value(root, pin, inner, r), t);
     }
     t
@@ -205,6 +197,7 @@ pub fn pair_table(root: Cell, pin: usize, inner: Cell) -> u16
 // ---- phases and leaves
 
 // "For the negative phase the cut's function is complemented."
+#[tactic(auto, unfolding(model::specs::phase_table))]
 pub fn complement(t: u16) -> u16
     ensures { result ≡ phase_table true t }
 {
@@ -212,6 +205,7 @@ pub fn complement(t: u16) -> u16
 }
 
 // A table in a phase.
+#[tactic(auto, unfolding(model::specs::phase_table))]
 pub fn in_phase(neg: bool, t: u16) -> u16
     ensures { result ≡ phase_table neg t }
 {
@@ -229,6 +223,7 @@ pub fn pattern(i: usize) -> u16
 // ---- literals
 
 // The other phase of a literal's variable.
+#[tactic(auto, unfolding(model::specs::opposite, model::specs::literal, model::specs::negated, model::specs::var_of))]
 pub fn opposite(l: usize) -> usize
     requires { l < 65536 }
     ensures { (result ≡ opposite l) × (result ≤ 65536) }
@@ -244,18 +239,10 @@ pub fn masked(v: usize, mask: usize, j: usize) -> usize
     2 * v + (mask >> j) % 2
 }
 
-// A leaf as an index.
-fn leaf(v: u16) -> usize
-    ensures { (result ≡ v) × (result < 65536) }
-{
-    v as usize
-}
-
 // The net that feeds pin j: "each pin needing its leaf in the mask's phase".
 pub fn pin_net(leaves: [u16; 4], order: usize, mask: usize, j: usize) -> usize
     requires { (order < 24) × (j < 4) }
     ensures { (result ≡ pin_net (places_of order) mask leaves j) × (result < 131072) }
 {
-    let i = place(order, j);
-    masked(leaf(leaves[i]), mask, j)
+    masked(usize::from(leaves[place(order, j)]), mask, j)
 }

@@ -9,8 +9,8 @@ pub mod CutFunctions
 pub mod MinArrivals
 pub mod CutColumns
 pub mod PhaseWords
-pub use WordStores.{get_put, get_put-above, get_put-below, length-put, put_append, put-more, put-none, put_one, put_taken, put-zeros}
-pub use WordRanges.{part_apart, part-put, put_whole, word-apart, word-put, zero-put}
+pub use WordStores.{get_put, get_put-above, get_put-below, length-put, put_append, put-more, put-none, put_one}
+pub use WordRanges.{part_apart, part-put, word-apart, word-put, zero-put}
 pub use ColumnAddresses.{capacity_for, capacity-need}
 pub use StoredCuts.{count-listed, cut-listed, cut-same, cuts-more, cuts-same, four-leaves, good_get, represented-count, represented-cut, none-listed}
 pub use StoredCuts.{put_list_above, put_list_below, put_list_cuts, put_list_length, put_list_middle, put_list_other, put_list_sound}

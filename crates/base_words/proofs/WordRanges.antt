@@ -8,17 +8,11 @@
 --     read-put                    it is read out of the words that were put
 --     read-apart                  it is as before, where its words and those do not meet
 --     word-put, word-apart        so for one word
-use Rattle.base.specs.{◌≡◌, refl, sym, ap, ◌∙◌, Bool, true, false, List, [], ◌∷◌, ◌++◌, append-nil, ℕ, ◌+◌, ◌-◌, ◌≤◌, ◌<◌, add-zero}
+use Rattle.base.specs.{◌≡◌, refl, sym, ap, ◌∙◌, Bool, true, false, List, [], ◌∷◌, ℕ, ◌+◌, ◌-◌, ◌≤◌, ◌<◌, add-zero}
 use Rattle.base.specs.{zero-add, arith, ltb, leb, ltb-true, ltb-false, leb-true, leb-false, length, take, drop, get_or, length-take}
-use Rattle.base.specs.{length-drop, length-replicate, get_or-replicate, drop-length, get_or-take, get_or-drop, ext_get_or}
+use Rattle.base.specs.{length-drop, length-replicate, get_or-replicate, get_or-take, get_or-drop, ext_get_or}
 use Rattle.base_words.specs.{put_at, zeros}
 use Rattle.base_words.proofs.WordStores.{length-put, get_put, get_put-below, get_put-above}
-
-pub put_whole : (w vs : List ℕ) → length vs ≡ length w → put_at w 0 vs ≡ vs
-unfolding put_at
-put_whole w vs h =
-    let e : 0 + length vs ≡ length w = omega arith in
-    ap (λ (n : ℕ). vs ++ drop n w) e ∙ ap (λ (x : List ℕ). vs ++ x) (drop-length w) ∙ append-nil vs
 
 -- n words from a and k words from b on have no word in common
 pub record Apart (a n b k : ℕ) : Type 0 where

@@ -6,11 +6,12 @@
 --     put-zeros, put_taken        such a loop that clears, or copies
 --     put_one                     one store
 --     put_append                  words put right behind others
-use Rattle.base.specs.{◌≡◌, sym, ap, ◌∙◌, List, [], ◌∷◌, ◌++◌, append_assoc, ℕ, suc, ◌+◌, ◌-◌, ◌≤◌, ◌<◌, add-zero, add-one, arith, length}
-use Rattle.base.specs.{take, drop, get_or, set, length-append, length-take, length-drop, take-append-drop, get_or-append, length-replicate}
-use Rattle.base.specs.{replicate-append-replicate, take_at, get_or-append-add, length-take-le, get_or-take, get_or-drop, set_split, drop-cons}
+--     put_part                    words written as a slice of the list
+use Rattle.base.specs.{◌≡◌, sym, ap, ◌∙◌, List, [], ◌∷◌, ◌++◌, append_assoc, ℕ, suc, ◌+◌, ◌-◌, ◌≤◌, ◌<◌, refl, add-zero, add-one, arith, length}
+use Rattle.base.specs.{take, drop, get_or, set, length-append, length-take, length-drop, take-append-drop, get_or-append}
+use Rattle.base.specs.{take_at, get_or-append-add, length-take-le, get_or-take, get_or-drop, set_split, drop-cons}
 use Rattle.base.specs.{set_at, append_snoc, take-suc, drop-append-add, drop-drop}
-use Rattle.base_words.specs.{put_at, zeros}
+use Rattle.base_words.specs.{put_at}
 
 module _ (w : List ℕ) (at : ℕ) (vs : List ℕ) (fits : at + length vs ≤ length w) where
   pub length-put : length (put_at w at vs) ≡ length w
@@ -59,13 +60,6 @@ pub put_one : (w : List ℕ) (at v : ℕ) → at < length w → set w at v ≡ p
 unfolding put_at
 put_one w at v h = rw add-one (set_split w at v h)
 
--- a step of a loop that clears: n zeros become n + 1
-pub put-zeros : (w : List ℕ) (at n : ℕ) → at + n < length w → set (put_at w at (zeros n)) (at + n) 0 ≡ put_at w at (zeros (n + 1))
-put-zeros w at n h =
-    let l : length (zeros n) ≡ n = length-replicate n 0 in let e : at + n ≡ at + length (zeros n) = omega arith in
-    ap (λ (k : ℕ). set (put_at w at (zeros n)) k 0) e ∙ put-more w at (zeros n) 0 (omega arith)
-    ∙ ap (put_at w at) (replicate-append-replicate n 1 0)
-
 -- a step of a loop that copies: the first n of vs become the first n + 1
 pub put_taken : (w : List ℕ) (at : ℕ) (vs : List ℕ) (n : ℕ) → at + n < length w → n < length vs
     → set (put_at w at (take n vs)) (at + n) (get_or vs n 0) ≡ put_at w at (take (n + 1) vs)
@@ -90,3 +84,8 @@ put_append w at us vs h =
     ∙ append_assoc (take at w) us (vs ++ drop (n + length vs) w)
     ∙ ap (λ (x : List ℕ). take at w ++ x) (sym (append_assoc us vs (drop (n + length vs) w)))
     ∙ ap (λ (k : ℕ). take at w ++ ((us ++ vs) ++ drop k w)) f
+
+-- a slice of w from a on, and so long as vs, with vs written into it
+pub put_part : (w : List ℕ) (a k : ℕ) (ys vs : List ℕ) → ys ≡ vs → k ≡ length vs → take a w ++ (ys ++ drop k (drop a w)) ≡ put_at w a vs
+unfolding put_at
+put_part w a k ys vs same n = rw (same, n, drop-drop (length vs) a w) refl

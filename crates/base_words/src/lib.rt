@@ -4,12 +4,14 @@
 ghost use Rattle.std.specs.Prelude.{◌≡◌, ◌+◌, ◌-◌, ◌*◌, ◌/◌, ◌≤◌, ◌<◌, ◌∷◌};
 ghost use Rattle.base.specs.{[], length, get_or, replicate};
 ghost use Rattle.model.specs.{cut_limit, need, absent, is_input_source, is_inverted};
-ghost use Rattle.base_words.specs.{put_at, zeros, ordered_count, HasCapacity, HasCapacityFor, kind_at, kind_addr, left_at, left_addr, right_at, right_addr};
+ghost use Rattle.base_words.specs.{put_at, zeros, ordered_count, HasCapacity, HasCapacityFor, kind_at, kind_addr};
+ghost use Rattle.base_words.specs.{left_at, left_addr, right_at, right_addr};
 ghost use Rattle.base_words.specs.{slot_at, slot_addr, position_at, position_addr, count_at, count_addr, needed_at, needed_addr, input_arrival_at};
-ghost use Rattle.base_words.specs.{input_arrival_addr};
-ghost use Rattle.base_words.specs.{positive_addr, negative_addr, cut_addr, lists_from, output_at, output_addr, min_arrival_addr, min_arrival_at, min_arrival_words};
-ghost use Rattle.base_words.specs.{cut_of, function_of, put_cut, put_functions, put_node, MatchFits, match_word, PhaseFits, kind_source};
-ghost use Rattle.base_words.specs.{phase_words, phase_in, positive_at, negative_at, phase_at, makes_gate, is_needed, put_needed};
+ghost use Rattle.base_words.specs.{input_arrival_addr, positive_addr, negative_addr, cut_addr, lists_from, output_at, output_addr};
+ghost use Rattle.base_words.specs.{min_arrival_addr, min_arrival_at, min_arrival_words};
+ghost use Rattle.base_words.specs.{cut_of, function_of, put_cut, put_functions, put_node, MatchFits, match_word, SourceFits, PhaseFits};
+ghost use Rattle.base_words.specs.{kind_source, source_words, arrival_words, phase_words, phase_in, positive_at, negative_at, phase_at, makes_gate};
+ghost use Rattle.base_words.specs.{is_needed, put_needed};
 
 use model::{Cut, Header, Match, Phase, Source};
 
@@ -23,6 +25,7 @@ const TABLES: usize = 16 + BLOCK;
 const OUTPUTS: usize = TABLES + LIMIT;
 
 // The kinds of a node, as `kind` reads them.
+// Stays: numbers, since a word holds any of 65,536: `kind_at`, of which the contracts here and the theorems above speak, is the word itself.
 pub const UNDEFINED: usize = 0;
 
 pub const CONSTANT: usize = 1;
@@ -32,6 +35,7 @@ pub const INPUT: usize = 2;
 pub const AND: usize = 3;
 
 // "124(M+1) + O 16-bit words".
+#[tactic(auto, unfolding(model::specs::need))]
 pub fn need_words(m: usize, outputs: usize) -> usize
     requires { (m ≤ 65535) × (outputs ≤ 65535) }
     ensures { result ≡ need m outputs }
@@ -39,25 +43,14 @@ pub fn need_words(m: usize, outputs: usize) -> usize
     OUTPUTS * (m + 1) + outputs
 }
 
-fn index_of(x: u16) -> usize
-    ensures { result ≡ x }
-{
-    x as usize
-}
-
-fn widen(x: u16) -> u32
-    ensures { result ≡ x }
-{
-    x as u32
-}
-
 fn word(work: &[u16], at: usize) -> usize
     requires { at < length work.now }
     ensures { result ≡ get_or work.now at 0 }
 {
-    index_of(work[at])
+    usize::from(work[at])
 }
 
+#[tactic(auto, using(crate::proofs::WordStores::put_one))]
 fn set_word(work: &mut [u16], at: usize, x: u16)
     requires { at < length work.old }
     ensures { work.new ≡ put_at work.old at (x ∷ []) }
@@ -75,12 +68,47 @@ pub fn ordered_count(h: Header) -> usize
 
 // ---- the columns of one word for each variable
 
+// Which of them is whose.
+// Stays: a name for each column, over `entry` and `set_entry`: each has a record of its own in the contracts (`left_addr`, `right_at`), and a call that
+// names a column by a constant is no plainer than one that names it by the function.
+const KINDS: usize = 0;
+
+const LEFTS: usize = 1;
+
+const RIGHTS: usize = 2;
+
+const ORDER: usize = 3;
+
+const PLACES: usize = 4;
+
+const COUNTS: usize = 5;
+
+const NEEDS: usize = 6;
+
+const ARRIVALS: usize = 7;
+
+// The word of variable v in column c.
+fn entry(work: &[u16], c: usize, m: usize, v: usize) -> usize
+    requires { HasCapacity work.now m × (c ≤ 6) × (v ≤ m) }
+    ensures { result ≡ get_or work.now (c * (m + 1) + v) 0 }
+{
+    word(work, c * (m + 1) + v)
+}
+
+fn set_entry(work: &mut [u16], c: usize, m: usize, v: usize, x: usize)
+    requires { HasCapacity work.old m × (c ≤ 6) × (v ≤ m) × (x < 65536) }
+    ensures { work.new ≡ put_at work.old (c * (m + 1) + v) (x ∷ []) }
+{
+    set_word(work, c * (m + 1) + v, x as u16);
+}
+
 // What a variable is: `UNDEFINED`, `CONSTANT`, `INPUT` or `AND`.
+// Stays: a name for each column, as said of `KINDS`.
 pub fn kind(work: &[u16], m: usize, v: usize) -> usize
     requires { HasCapacity work.now m × (v ≤ m) }
     ensures { result ≡ kind_at work.now m v }
 {
-    word(work, v)
+    entry(work, KINDS, m, v)
 }
 
 // The left operand's literal.
@@ -88,7 +116,7 @@ pub fn left(work: &[u16], m: usize, v: usize) -> usize
     requires { HasCapacity work.now m × (v ≤ m) }
     ensures { result ≡ left_at work.now m v }
 {
-    word(work, m + 1 + v)
+    entry(work, LEFTS, m, v)
 }
 
 // The right operand's literal.
@@ -96,7 +124,7 @@ pub fn right(work: &[u16], m: usize, v: usize) -> usize
     requires { HasCapacity work.now m × (v ≤ m) }
     ensures { result ≡ right_at work.now m v }
 {
-    word(work, 2 * (m + 1) + v)
+    entry(work, RIGHTS, m, v)
 }
 
 // The i-th ordered variable.
@@ -104,7 +132,7 @@ pub fn slot(work: &[u16], m: usize, i: usize) -> usize
     requires { HasCapacity work.now m × (i ≤ m) }
     ensures { result ≡ slot_at work.now m i }
 {
-    word(work, 3 * (m + 1) + i)
+    entry(work, ORDER, m, i)
 }
 
 // 1 and the variable's slot, 0 while it is not ordered.
@@ -112,7 +140,7 @@ pub fn order_position(work: &[u16], m: usize, v: usize) -> usize
     requires { HasCapacity work.now m × (v ≤ m) }
     ensures { result ≡ position_at work.now m v }
 {
-    word(work, 4 * (m + 1) + v)
+    entry(work, PLACES, m, v)
 }
 
 // How many cuts a variable has.
@@ -120,7 +148,7 @@ pub fn count(work: &[u16], m: usize, v: usize) -> usize
     requires { HasCapacity work.now m × (v ≤ m) }
     ensures { result ≡ count_at work.now m v }
 {
-    word(work, 5 * (m + 1) + v)
+    entry(work, COUNTS, m, v)
 }
 
 // Bit 0: the positive phase is needed; bit 1: the negative.
@@ -128,7 +156,7 @@ pub fn needed(work: &[u16], m: usize, v: usize) -> usize
     requires { HasCapacity work.now m × (v ≤ m) }
     ensures { result ≡ needed_at work.now m v }
 {
-    word(work, 6 * (m + 1) + v)
+    entry(work, NEEDS, m, v)
 }
 
 // When an input arrives.
@@ -136,66 +164,68 @@ pub fn input_arrival(work: &[u16], m: usize, v: usize) -> u32
     requires { HasCapacity work.now m × (v ≤ m) }
     ensures { result ≡ input_arrival_at work.now m v }
 {
-    widen(work[7 * (m + 1) + v])
+    u32::from(work[ARRIVALS * (m + 1) + v])
 }
 
+// Stays: a name for each column, as said of `KINDS`.
 pub fn set_kind(work: &mut [u16], m: usize, v: usize, x: usize)
     requires { HasCapacity work.old m × (v ≤ m) × (x < 65536) }
     ensures { work.new ≡ put_at work.old (kind_addr m v) (x ∷ []) }
 {
-    set_word(work, v, x as u16);
+    set_entry(work, KINDS, m, v, x);
 }
 
 pub fn set_left(work: &mut [u16], m: usize, v: usize, x: usize)
     requires { HasCapacity work.old m × (v ≤ m) × (x < 65536) }
     ensures { work.new ≡ put_at work.old (left_addr m v) (x ∷ []) }
 {
-    set_word(work, m + 1 + v, x as u16);
+    set_entry(work, LEFTS, m, v, x);
 }
 
 pub fn set_right(work: &mut [u16], m: usize, v: usize, x: usize)
     requires { HasCapacity work.old m × (v ≤ m) × (x < 65536) }
     ensures { work.new ≡ put_at work.old (right_addr m v) (x ∷ []) }
 {
-    set_word(work, 2 * (m + 1) + v, x as u16);
+    set_entry(work, RIGHTS, m, v, x);
 }
 
 pub fn set_slot(work: &mut [u16], m: usize, i: usize, x: usize)
     requires { HasCapacity work.old m × (i ≤ m) × (x < 65536) }
     ensures { work.new ≡ put_at work.old (slot_addr m i) (x ∷ []) }
 {
-    set_word(work, 3 * (m + 1) + i, x as u16);
+    set_entry(work, ORDER, m, i, x);
 }
 
 pub fn set_order_position(work: &mut [u16], m: usize, v: usize, x: usize)
     requires { HasCapacity work.old m × (v ≤ m) × (x < 65536) }
     ensures { work.new ≡ put_at work.old (position_addr m v) (x ∷ []) }
 {
-    set_word(work, 4 * (m + 1) + v, x as u16);
+    set_entry(work, PLACES, m, v, x);
 }
 
 pub fn set_count(work: &mut [u16], m: usize, v: usize, x: usize)
     requires { HasCapacity work.old m × (v ≤ m) × (x ≤ cut_limit) }
     ensures { work.new ≡ put_at work.old (count_addr m v) (x ∷ []) }
 {
-    set_word(work, 5 * (m + 1) + v, x as u16);
+    set_entry(work, COUNTS, m, v, x);
 }
 
 pub fn set_needed(work: &mut [u16], m: usize, v: usize, x: usize)
     requires { HasCapacity work.old m × (v ≤ m) × (x < 65536) }
     ensures { work.new ≡ put_at work.old (needed_addr m v) (x ∷ []) }
 {
-    set_word(work, 6 * (m + 1) + v, x as u16);
+    set_entry(work, NEEDS, m, v, x);
 }
 
 pub fn set_input_arrival(work: &mut [u16], m: usize, v: usize, x: u16)
     requires { HasCapacity work.old m × (v ≤ m) }
     ensures { work.new ≡ put_at work.old (input_arrival_addr m v) (x ∷ []) }
 {
-    set_word(work, 7 * (m + 1) + v, x);
+    set_word(work, ARRIVALS * (m + 1) + v, x);
 }
 
 // What a variable is: its kind and its operands.
+#[tactic(auto, unfolding(crate::specs::put_node))]
 pub fn store_node(work: &mut [u16], m: usize, v: usize, kind: usize, left: usize, right: usize)
     requires { HasCapacity work.old m × (v ≤ m) × (kind < 65536) × (left < 65536) × (right < 65536) }
     ensures { work.new ≡ put_node work.old m v kind left right }
@@ -206,6 +236,7 @@ pub fn store_node(work: &mut [u16], m: usize, v: usize, kind: usize, left: usize
 }
 
 // Whether the phase of a literal is needed.
+#[tactic(auto, unfolding(crate::specs::is_needed))]
 pub fn is_needed(work: &[u16], m: usize, l: usize) -> bool
     requires { HasCapacity work.now m × (l / 2 ≤ m) }
     ensures { result ≡ is_needed work.now m l }
@@ -219,6 +250,7 @@ pub fn is_needed(work: &[u16], m: usize, l: usize) -> bool
 }
 
 // The phase of a literal is needed from now on.
+#[tactic(auto, unfolding(crate::specs::put_needed))]
 pub fn mark_needed(work: &mut [u16], m: usize, l: usize)
     requires { HasCapacity work.old m × (l / 2 ≤ m) }
     ensures { work.new ≡ put_needed work.old m l }
@@ -234,34 +266,28 @@ pub fn mark_needed(work: &mut [u16], m: usize, l: usize)
 // ---- words from a place on
 
 // All of `from`, from word `at` on.
+#[tactic(auto, using(crate::proofs::WordStores::put_part))]
 pub fn put(work: &mut [u16], at: usize, from: &[u16])
     requires { at + length from.now ≤ length work.old }
     ensures { work.new ≡ put_at work.old at from.now }
 {
-    let mut i = 0;
-    while i < from.len() {
-        work[at + i] = from[i];
-        i += 1;
-    }
+    work[at..at + from.len()].copy_from_slice(from);
 }
 
 // Zeros from word a up to, not including, word b.
+#[tactic(auto, using(crate::proofs::WordStores::put_part))]
 pub fn clear(work: &mut [u16], a: usize, b: usize)
     requires { (a ≤ b) × (b ≤ length work.old) }
     ensures { work.new ≡ put_at work.old a (zeros (b - a)) }
 {
-    let mut i = a;
-    while i < b {
-        work[i] = 0;
-        i += 1;
-    }
+    work[a..b].fill(0);
 }
 
 // "all zero after a later one and after success"
 pub fn clear_all(work: &mut [u16])
     ensures { work.new ≡ replicate (length work.old) 0 }
 {
-    clear(work, 0, work.len());
+    work.fill(0);
 }
 
 // All columns zero: nothing is defined, ordered, counted, needed or chosen.
@@ -291,6 +317,7 @@ fn column(m: usize) -> usize
 }
 
 // The size of cut k of variable v: "scan sizes alone".
+#[tactic(auto, unfolding(crate::specs::cut_of, crate::specs::cut_by))]
 pub fn cut_size(work: &[u16], m: usize, v: usize, k: usize) -> usize
     requires { HasCapacity work.now m × (v ≤ m) × (k < cut_limit) }
     ensures { result ≡ (cut_of work.now m v k).count }
@@ -299,6 +326,7 @@ pub fn cut_size(work: &[u16], m: usize, v: usize, k: usize) -> usize
 }
 
 // Leaf i of cut k of variable v.
+#[tactic(auto, using(crate::proofs::StoredCuts::leaf_word_lem))]
 pub fn leaf(work: &[u16], m: usize, v: usize, k: usize, i: usize) -> u16
     requires { HasCapacity work.now m × (v ≤ m) × (k < cut_limit) × (i < 4) }
     ensures { result ≡ get_or (cut_of work.now m v k).leaves i 0 }
@@ -307,6 +335,7 @@ pub fn leaf(work: &[u16], m: usize, v: usize, k: usize, i: usize) -> u16
 }
 
 // Cut k of variable v.
+#[tactic(auto, unfolding(crate::specs::cut_of, crate::specs::cut_by))]
 pub fn load_cut(work: &[u16], m: usize, v: usize, k: usize) -> Cut
     requires { HasCapacity work.now m × (v ≤ m) × (k < cut_limit) }
     ensures { result ≡ cut_of work.now m v k }
@@ -322,6 +351,7 @@ pub fn load_cut(work: &[u16], m: usize, v: usize, k: usize) -> Cut
 }
 
 // The five words of cut k of variable v.
+#[tactic(auto, using(crate::proofs::StoredCuts::five_stores))]
 pub fn store_cut(work: &mut [u16], m: usize, v: usize, k: usize, ws: [u16; 5])
     requires { HasCapacity work.old m × (v ≤ m) × (k < cut_limit) }
     ensures { work.new ≡ put_cut work.old m v k ws }
@@ -336,6 +366,7 @@ pub fn store_cut(work: &mut [u16], m: usize, v: usize, k: usize, ws: [u16; 5])
 }
 
 // The function of cut k of v.
+#[tactic(auto, unfolding(crate::specs::function_of))]
 pub fn function(work: &[u16], m: usize, v: usize, k: usize) -> usize
     requires { HasCapacity work.now m × (v ≤ m) × (k < cut_limit) }
     ensures { result ≡ function_of work.now m v k }
@@ -343,11 +374,27 @@ pub fn function(work: &[u16], m: usize, v: usize, k: usize) -> usize
     word(work, TABLES * (m + 1) + LIMIT * v + k)
 }
 
+#[tactic(auto, unfolding(crate::specs::put_functions))]
 pub fn set_function(work: &mut [u16], m: usize, v: usize, k: usize, x: u16)
     requires { HasCapacity work.old m × (v ≤ m) × (k < cut_limit) }
     ensures { work.new ≡ put_functions work.old m v k (x ∷ []) }
 {
     set_word(work, TABLES * (m + 1) + LIMIT * v + k, x);
+}
+
+// ---- numbers of two words, the low half first
+
+fn long(work: &[u16], at: usize) -> u32
+    requires { at + 2 ≤ length work.now }
+    ensures { result ≡ get_or work.now at 0 + get_or work.now (at + 1) 0 * 65536 }
+{
+    u32::from(work[at]) + u32::from(work[at + 1]) * 65536
+}
+
+fn halves(x: u32) -> [u16; 2]
+    ensures { result ≡ arrival_words x }
+{
+    [(x % 65536) as u16, (x / 65536) as u16]
 }
 
 // ---- minimum arrivals, in the words of the functions
@@ -357,23 +404,25 @@ pub fn min_arrival(work: &[u16], m: usize, l: usize) -> u32
     requires { HasCapacity work.now m × (l / 2 ≤ m) }
     ensures { result ≡ min_arrival_at work.now m l }
 {
-    let at = TABLES * (m + 1) + 2 * l;
-    let min_arrival = widen(work[at]);
-    let high = widen(work[at + 1]);
-    min_arrival + high * 65536
+    long(work, TABLES * (m + 1) + 2 * l)
 }
 
 pub fn set_min_arrival(work: &mut [u16], m: usize, l: usize, t: u32)
     requires { HasCapacity work.old m × (l / 2 ≤ m) }
     ensures { work.new ≡ put_at work.old (min_arrival_addr m l) (min_arrival_words t) }
 {
-    let ws = [(t % 65536) as u16, (t / 65536) as u16];
-    put(work, TABLES * (m + 1) + 2 * l, &ws);
+    put(work, TABLES * (m + 1) + 2 * l, &halves(t));
 }
 
 // ---- phases
 
+// Behind the columns of one word stand those of four.
+const POSITIVES: usize = 8;
+
+const NEGATIVES: usize = 12;
+
 // The source of a kind, with the cell and the word of the cut, order and mask.
+// Stays: the kind is a number, the upper byte of a stored word (`kind_source`).
 fn source_of(kind: usize, cell: usize, b: usize) -> Source
     ensures { result ≡ kind_source kind cell b }
 {
@@ -394,15 +443,17 @@ fn source_of(kind: usize, cell: usize, b: usize) -> Source
 }
 
 // The phase in the four words from `at` on.
+#[tactic(auto, unfolding(crate::specs::phase_in))]
 fn phase_in(work: &[u16], at: usize) -> Phase
     requires { at + 4 ≤ length work.now }
     ensures { result ≡ phase_in work.now at }
 {
-    let arrival = work[at + 2] as u32 + work[at + 3] as u32 * 65536;
     let a = word(work, at);
-    let b = word(work, at + 1);
-    let source = source_of(a / 256, a % 256, b);
-    Phase { source, arrival }
+    let source = source_of(a / 256, a % 256, word(work, at + 1));
+    Phase {
+        source,
+        arrival: long(work, at + 2),
+    }
 }
 
 fn cell_word(m: Match) -> u16
@@ -419,36 +470,44 @@ fn match_word(m: Match) -> u16
     ((m.cut * 24 + m.order) * 16 + m.mask) as u16
 }
 
+// The first two words of a phase: its source.
+fn source_words(s: Source) -> [u16; 2]
+    requires { SourceFits s }
+    ensures { result ≡ source_words s }
+{
+    match s {
+        Source::Input => [256, 0],
+        Source::Cell(m) => [cell_word(m), match_word(m)],
+        Source::Inverter(c) => [(768 + c) as u16, 0],
+        Source::Nothing => [0, 0],
+    }
+}
+
 // The four words of a phase.
+#[tactic(auto, unfolding(crate::specs::phase_words))]
 fn phase_words(p: Phase) -> [u16; 4]
     requires { PhaseFits p }
     ensures { result ≡ phase_words p }
 {
-    let min_arrival = (p.arrival % 65536) as u16;
-    let high = (p.arrival / 65536) as u16;
-    let source = p.source;
-    match source {
-        Source::Input => [256, 0, min_arrival, high],
-        Source::Cell(m) => [cell_word(m), match_word(m), min_arrival, high],
-        Source::Inverter(c) => [(768 + c) as u16, 0, min_arrival, high],
-        Source::Nothing => [0, 0, min_arrival, high],
-    }
+    let [a, b] = source_words(p.source);
+    let [low, high] = halves(p.arrival);
+    [a, b, low, high]
 }
 
 fn store_phase(work: &mut [u16], at: usize, p: Phase)
     requires { (at + 4 ≤ length work.old) × PhaseFits p }
     ensures { work.new ≡ put_at work.old at (phase_words p) }
 {
-    let ws = phase_words(p);
-    put(work, at, &ws);
+    put(work, at, &phase_words(p));
 }
 
 // The positive phase of v.
+// Stays: a name for each phase: the contracts name `positive_at` and `negative_at`, and a flag would be a number for a kind.
 pub fn positive(work: &[u16], m: usize, v: usize) -> Phase
     requires { HasCapacity work.now m × (v ≤ m) }
     ensures { result ≡ positive_at work.now m v }
 {
-    phase_in(work, 8 * (m + 1) + 4 * v)
+    phase_in(work, POSITIVES * (m + 1) + 4 * v)
 }
 
 // The negative phase of v.
@@ -456,10 +515,11 @@ pub fn negative(work: &[u16], m: usize, v: usize) -> Phase
     requires { HasCapacity work.now m × (v ≤ m) }
     ensures { result ≡ negative_at work.now m v }
 {
-    phase_in(work, 12 * (m + 1) + 4 * v)
+    phase_in(work, NEGATIVES * (m + 1) + 4 * v)
 }
 
 // The phase of a literal.
+#[tactic(auto, unfolding(model::specs::phase_of, model::specs::negated, model::specs::var_of))]
 pub fn phase(work: &[u16], m: usize, l: usize) -> Phase
     requires { HasCapacity work.now m × (l / 2 ≤ m) }
     ensures { result ≡ phase_at work.now m l }
@@ -471,68 +531,51 @@ pub fn phase(work: &[u16], m: usize, l: usize) -> Phase
     }
 }
 
+// Stays: a name for each phase, as `positive`.
 pub fn set_positive(work: &mut [u16], m: usize, v: usize, p: Phase)
     requires { HasCapacity work.old m × (v ≤ m) × PhaseFits p }
     ensures { work.new ≡ put_at work.old (positive_addr m v) (phase_words p) }
 {
-    store_phase(work, 8 * (m + 1) + 4 * v, p);
+    store_phase(work, POSITIVES * (m + 1) + 4 * v, p);
 }
 
 pub fn set_negative(work: &mut [u16], m: usize, v: usize, p: Phase)
     requires { HasCapacity work.old m × (v ≤ m) × PhaseFits p }
     ensures { work.new ≡ put_at work.old (negative_addr m v) (phase_words p) }
 {
-    store_phase(work, 12 * (m + 1) + 4 * v, p);
+    store_phase(work, NEGATIVES * (m + 1) + 4 * v, p);
 }
 
 // Whether a phase has no source.
+#[tactic(auto, unfolding(model::specs::absent))]
 pub fn is_absent(p: Phase) -> bool
     ensures { result ≡ absent p.source }
 {
-    let s = p.source;
-    match s {
-        Source::Input => false,
-        Source::Cell(_) => false,
-        Source::Inverter(_) => false,
-        Source::Nothing => true,
-    }
+    matches!(p.source, Source::Nothing)
 }
 
 // Whether it is an input's own net.
+#[tactic(auto, unfolding(model::specs::is_input_source))]
 pub fn is_input_source(p: Phase) -> bool
     ensures { result ≡ is_input_source p.source }
 {
-    let s = p.source;
-    match s {
-        Source::Input => true,
-        Source::Cell(_) => false,
-        Source::Inverter(_) => false,
-        Source::Nothing => false,
-    }
+    matches!(p.source, Source::Input)
 }
 
 // Whether an inverter drives it.
+#[tactic(auto, unfolding(model::specs::is_inverted))]
 pub fn is_inverted(p: Phase) -> bool
     ensures { result ≡ is_inverted p.source }
 {
-    let s = p.source;
-    match s {
-        Source::Input => false,
-        Source::Cell(_) => false,
-        Source::Inverter(_) => true,
-        Source::Nothing => false,
-    }
+    matches!(p.source, Source::Inverter(_))
 }
 
 // Whether a gate drives it.
+#[tactic(auto, unfolding(crate::specs::makes_gate))]
 pub fn makes_gate(p: Phase) -> bool
     ensures { result ≡ makes_gate p.source }
 {
-    if is_absent(p) {
-        false
-    } else {
-        !is_input_source(p)
-    }
+    !is_absent(p) && !is_input_source(p)
 }
 
 // ---- outputs

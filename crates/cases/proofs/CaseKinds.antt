@@ -1,6 +1,6 @@
 -- What the computed examples share: texts, kinds of case, and what it is for a case to hold.
 use Prim.Native.String.{String}
-use Rattle.base.specs.{ℕ, Bool, true, false, ◌&&◌, Option, none, some, List, [], ◌∷◌, ◌++◌, eqb, get_or}
+use Rattle.base.specs.{ℕ, Bool, true, false, ◌&&◌, Option, None, Some, List, [], ◌∷◌, ◌++◌, eqb, get_or}
 use Rattle.model.specs.{same, each, text, orders, row_map, And, cuts_of, cut_table, Outcome, refused, mapped, Read, fault, next}
 use Rattle.model.specs.{holds as reads, read_header, read_graph, ascii_text, Call, map_texts, Returned, Wire, read_blif, read_figures}
 use Rattle.model.specs.Graph.{Graph}
@@ -94,21 +94,21 @@ same_cuts (c ∷ cs) [] = false
 same_cuts (c ∷ cs) (d ∷ ds) = same c d && same_cuts cs ds
 
 unfoldable pub are_said : ℕ → ℕ → ℕ → Option Figures → Bool
-are_said count area arrival none = false
-are_said count area arrival (some f) = eqb count f.gates && (eqb area f.area && eqb arrival f.arrival)
+are_said count area arrival None = false
+are_said count area arrival (Some f) = eqb count f.gates && (eqb area f.area && eqb arrival f.arrival)
 
 unfoldable pub nothing_said : Option Figures → Bool
-nothing_said none = true
-nothing_said (some f) = false
+nothing_said None = true
+nothing_said (Some f) = false
 
 unfoldable pub are_wires : List (List ℕ) → List (List ℕ) → Option Blif → Bool
 unfolding same_cuts each
-are_wires outs nets none = false
-are_wires outs nets (some n) = same_cuts outs n.outputs && same_cuts nets (each (λ (x : Wire). x.source ∷ x.target ∷ []) n.wires)
+are_wires outs nets None = false
+are_wires outs nets (Some n) = same_cuts outs n.outputs && same_cuts nets (each (λ (x : Wire). x.source ∷ x.target ∷ []) n.wires)
 
 unfoldable pub no_netlist : Option Blif → Bool
-no_netlist none = true
-no_netlist (some n) = false
+no_netlist None = true
+no_netlist (Some n) = false
 
 -- the first of some ANDs
 unfoldable pub is_and : ℕ → ℕ → ℕ → List And → Bool

@@ -1,9 +1,10 @@
 -- Edited netlists checked from the texts on, against the definitions by computing: each refusal's place, the lowest assignment that differs and its first wrong
 -- output, worked out by hand from the document.
+use Rattle.std.specs.Prelude.{Ok}
 use Prim.Native.String.{String}
 use Rattle.base.specs.{ℕ, Bool, ◌&&◌, List, [], ◌∷◌, ◌++◌, T, eqb, replicate}
-use Rattle.model.specs.{all, same, text, CheckResult, check_texts, result_of, checked_work}
-use Rattle.model.specs.declared.Checked.TheVariants.{Accepted, Differs, Refused}
+use Rattle.model.specs.{refused_with, all, same, text, CheckResult, check_texts, result_of, checked_work}
+use Rattle.model.specs.declared.Comparison.TheVariants.{Equal, Differs}
 use Rattle.cases.proofs.{library, with, listing, graph_b, head_b}
 
 -- a check's texts, with so many words lent, and what is returned
@@ -218,10 +219,10 @@ output-lines_hold = tt
 
 -- "Work memory is unchanged by every refusal tried up to 10, and all zero after a later one and after success."
 pub check_work_left : T (
-    same (checked_work (Refused 10 0) (7 ∷ 8 ∷ [])) (7 ∷ 8 ∷ [])
-    && (same (checked_work (Refused 19 0) (7 ∷ 8 ∷ [])) (7 ∷ 8 ∷ [])
-    && (same (checked_work (Refused 33 37) (7 ∷ 8 ∷ [])) (0 ∷ 0 ∷ [])
-    && (same (checked_work (Differs 1 0) (7 ∷ 8 ∷ [])) (0 ∷ 0 ∷ []) && same (checked_work Accepted (7 ∷ 8 ∷ [])) (0 ∷ 0 ∷ []))))
+    same (checked_work (refused_with 10 0) (7 ∷ 8 ∷ [])) (7 ∷ 8 ∷ [])
+    && (same (checked_work (refused_with 19 0) (7 ∷ 8 ∷ [])) (7 ∷ 8 ∷ [])
+    && (same (checked_work (refused_with 33 37) (7 ∷ 8 ∷ [])) (0 ∷ 0 ∷ [])
+    && (same (checked_work (Ok (Differs 1 0)) (7 ∷ 8 ∷ [])) (0 ∷ 0 ∷ []) && same (checked_work (Ok Equal) (7 ∷ 8 ∷ [])) (0 ∷ 0 ∷ []))))
     )
 unfolding same checked_work
 check_work_left = tt

@@ -1,10 +1,11 @@
 -- The marked cases A to K of the document, from the texts on, matches and ties, and what a call leaves and returns, checked against the definitions
 -- by computing.
+use Rattle.std.specs.Prelude.{Ok}
 use Prim.Native.String.{String}
 use Rattle.base.specs.{ℕ, Bool, false, ◌&&◌, List, [], ◌∷◌, ◌++◌, T, eqb, replicate}
-use Rattle.model.specs.{all, same, need, text, refused, mapped, Refusal, verdict_refusal, read_header, header_answer, header_refusal, header_values}
+use Rattle.model.specs.{all, same, need, text, refused, mapped, Verdict, refused_with, verdict_refusal, read_header, header_answer, header_values}
 use Rattle.model.specs.{call_of, map_texts, answer_of, returned, returned_by, text_after, work_after}
-use Rattle.model.specs.declared.Verdict.TheVariants.{Accepted, Refused}
+use Rattle.model.specs.declared.Refusal.{Refusal}
 use Rattle.cases.proofs.{library, listing, with, graph_b, graph_c, graph_f, Case, given, map_text, holds, is_returned, prints, gives, refuses}
 use Rattle.cases.proofs.{lists, computes, takes}
 
@@ -176,16 +177,22 @@ returns_are = tt
 unfoldable pub is_refusal : ℕ → ℕ → Refusal → Bool
 is_refusal number place r = eqb number r.number && eqb place r.place
 
+abbrev pub accepted : Verdict
+accepted = Ok tt
+
+abbrev pub refused_five : Verdict
+refused_five = refused_with 5 86
+
 -- the number and place of each case of the other answers, and a header's values
 pub rulings_are : T (
-    is_refusal 0 0 (verdict_refusal Accepted)
-    && (is_refusal 5 86 (verdict_refusal (Refused 5 86))
-    && (is_refusal 0 0 (header_refusal (header_answer (read_header (text graph_b))))
-    && (is_refusal 8 0 (header_refusal (header_answer (read_header (text "aag 1 0 1 0 0\n"))))
+    is_refusal 0 0 (verdict_refusal accepted)
+    && (is_refusal 5 86 (verdict_refusal refused_five)
+    && (is_refusal 0 0 (verdict_refusal (header_answer (read_header (text graph_b))))
+    && (is_refusal 8 0 (verdict_refusal (header_answer (read_header (text "aag 1 0 1 0 0\n"))))
     && (same (header_values (header_answer (read_header (text graph_b)))) (3 ∷ 2 ∷ 0 ∷ 1 ∷ 1 ∷ [])
     && same (header_values (header_answer (read_header (text "aag 1 0 1 0 0\n")))) []))))
     )
-unfolding is_refusal verdict_refusal header_refusal header_answer header_values read_header text graph_b same
+unfolding is_refusal verdict_refusal header_answer header_values read_header text graph_b same
 rulings_are = tt
 
 -- "124(M+1) + O words", so that the 32,768 of the program are those of "260 variables with up to 404 outputs"

@@ -1,5 +1,5 @@
 -- Request N10, "Delays given as a range", by computing: the `# timing` lines, either names line, 6 and 27, and the lines read back.
-use Rattle.base.specs.{ℕ, Bool, true, false, ◌&&◌, Option, none, some, List, [], ◌∷◌, ◌++◌, map, T, length}
+use Rattle.base.specs.{ℕ, Bool, true, false, ◌&&◌, Option, None, Some, List, [], ◌∷◌, ◌++◌, map, T, length}
 use Rattle.model.specs.{all, same, each, text, refused, work_after, TimingLine, read_timings}
 use Rattle.cases.proofs.{prints, prints_timed, gives, refuses, lacks, suffices, holds, same_cuts, library, listing, with, graph_b}
 use Rattle.cases.proofs.{graph_c, arrives, longer, ranged}
@@ -84,12 +84,12 @@ work_left_lem = tt
 -- a text's lines say these names, and these low and high arrivals one after the other
 unfoldable pub are_said : List (List ℕ) → List ℕ → Option (List TimingLine) → Bool
 unfolding same_cuts same each
-are_said os ns none = false
-are_said os ns (some xs) = same_cuts os (map (λ (x : TimingLine). x.output) xs) && same ns (each (λ (x : TimingLine). x.low ∷ x.high ∷ []) xs)
+are_said os ns None = false
+are_said os ns (Some xs) = same_cuts os (map (λ (x : TimingLine). x.output) xs) && same ns (each (λ (x : TimingLine). x.low ∷ x.high ∷ []) xs)
 
 unfoldable pub not_said : Option (List TimingLine) → Bool
-not_said none = true
-not_said (some xs) = false
+not_said None = true
+not_said (Some xs) = false
 
 pub lines-read : T (
     are_said [] [] (read_timings listing)

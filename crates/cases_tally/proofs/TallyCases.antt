@@ -1,7 +1,7 @@
 -- Request N11, "Which cells do our designs use?", by computing: B's netlist counted, each kind of line broken once, 28, and the report.
 use Prim.Native.String.{String}
 use Rattle.base.specs.{ℕ, ◌-◌, ◌+◌, ◌^◌, Bool, false, ◌&&◌, List, [], ◌∷◌, ◌++◌, map, T, eqb, length, take, drop, replicate}
-use Rattle.model.specs.{all, same, each, text, Read, fault, holds as reads, empty_tally, count_text, counted_answer, report_of}
+use Rattle.model.specs.{all, same, each, text, Read, fault, holds as reads, empty_tally, count_text, tally_after, report_of}
 use Rattle.model.specs.declared.Tally.{Tally}
 use Rattle.cases.proofs.{library, listing, ranged}
 
@@ -207,6 +207,6 @@ unfolding all holds tallied five
 everywhere_hold = tt
 
 -- "A refused netlist adds nothing", and takes nothing away
-pub refused-kept : T (same_tally (counted_answer once (count_text once library [])).tally once)
-unfolding same_tally counted_answer count_text once library
+pub refused-kept : T (same_tally (tally_after once (count_text once library [])) once)
+unfolding same_tally tally_after count_text once library
 refused-kept = tt

@@ -57,20 +57,35 @@ fresh-run pins line o i e f l h =
     let x : ℕ = 384 * line + 16 * o + i in
     and_none (ltb (mask_of x) (2 ^ pins)) (eqb (order_of x % run_of pins) 0) (ne_eqb (order_of x % run_of pins) 0 (past pins line o i e f l h))
 
--- whole runs are left
-pub run-all : (pins : ℕ) → 24 % run_of pins ≡ 0
-unfolding run_of
-run-all zero = omega arith
-run-all (suc zero) = omega arith
-run-all (suc (suc zero)) = omega arith
-run-all (suc (suc (suc pins))) = omega arith
-
 run_none : (pins : ℕ) → 0 % run_of pins ≡ 0
 unfolding run_of
 run_none zero = omega arith
 run_none (suc zero) = omega arith
 run_none (suc (suc zero)) = omega arith
 run_none (suc (suc (suc pins))) = omega arith
+
+pub run_some : (pins : ℕ) → 0 < run_of pins
+unfolding run_of
+run_some zero = omega arith
+run_some (suc zero) = omega arith
+run_some (suc (suc zero)) = omega arith
+run_some (suc (suc (suc pins))) = omega arith
+
+pub runs_all : (pins : ℕ) → 24 / run_of pins * run_of pins ≡ 24
+unfolding run_of
+runs_all zero = refl
+runs_all (suc zero) = refl
+runs_all (suc (suc zero)) = refl
+runs_all (suc (suc (suc pins))) = refl
+
+-- the orders from the i-th run on
+pub runs_left : (pins i : ℕ) → 0 < i → i ≤ 24 / run_of pins → (0 < i * run_of pins) × (i * run_of pins ≤ 24) × (i * run_of pins % run_of pins ≡ 0)
+    × (i * run_of pins - run_of pins ≡ (i - 1) * run_of pins) × ((i - 1) * run_of pins % run_of pins ≡ 0)
+unfolding run_of
+runs_left zero i l h = (omega arith, omega arith, omega arith, omega arith, omega arith)
+runs_left (suc zero) i l h = (omega arith, omega arith, omega arith, omega arith, omega arith)
+runs_left (suc (suc zero)) i l h = (omega arith, omega arith, omega arith, omega arith, omega arith)
+runs_left (suc (suc (suc pins))) i l h = (omega arith, omega arith, omega arith, omega arith, omega arith)
 
 pub run_fits : (pins o : ℕ) → 0 < o → o % run_of pins ≡ 0 → (1 ≤ run_of pins) × (run_of pins ≤ o) × ((o - run_of pins) % run_of pins ≡ 0)
 unfolding run_of

@@ -6,19 +6,18 @@ use Rattle.model.specs.{no_cell, is_inverter, absent, earlier, choose, no_phase,
 use Rattle.model.specs.declared.Cell.{Cell}
 use Rattle.model.specs.declared.Phase.{Phase}
 use Rattle.model.specs.declared.Source.TheVariants.{Inverter as Inverted}
-use Rattle.cells_matching.specs.declared.Inverter.{Inverter}
-use Rattle.cells_matching.specs.declared.Inverter.TheVariants.{Is, Missing}
-use Rattle.cells_matching.specs.{quicker, tried, inverter_from, inverter_of, inverted}
+use Rattle.std.specs.Prelude.{Some, None}
+use Rattle.cells_matching.specs.{Inverter, quicker, tried, inverter_from, inverter_of, inverted}
 use Rattle.cells_matching.proofs.BestMatch.{by_bool, by_less, none-absent, earlier-none, earlier_assoc, earlier-first, earlier_strict}
 use Rattle.cells_matching.proofs.BestMatch.{earlier_tie}
 
 -- ---- one cell
 
-pub quicker_less : (l e line d : ℕ) → d < e → quicker (Is l e) line d ≡ Is line d
+pub quicker_less : (l e line d : ℕ) → d < e → quicker (Some (l, e)) line d ≡ Some (line, d)
 unfolding quicker
 quicker_less l e line d h = rw (lt-ltb d e h)
 
-pub quicker-not : (l e line d : ℕ) → e ≤ d → quicker (Is l e) line d ≡ Is l e
+pub quicker-not : (l e line d : ℕ) → e ≤ d → quicker (Some (l, e)) line d ≡ Some (l, e)
 unfolding quicker
 quicker-not l e line d h = rw (le-ltb d e h)
 
@@ -52,14 +51,14 @@ tried_nameless best c line p t n = rw (eq-eqb c.pins 1 p, eq-eqb c.table 1 t, le
 
 inverted-absent : (b : Inverter) (other : Phase) → absent other.source ≡ true → inverted b other ≡ no_phase
 unfolding inverted
-inverted-absent Missing other e = refl
-inverted-absent (Is l d) other e = rw e
+inverted-absent None other e = refl
+inverted-absent (Some (l, d)) other e = rw e
 
 -- the phase of one inverter
 through : ℕ → ℕ → Phase → Phase
 through line d other = record { source = Inverted line; arrival = other.arrival + d }
 
-inverted_present : (line d : ℕ) (other : Phase) → absent other.source ≡ false → inverted (Is line d) other ≡ through line d other
+inverted_present : (line d : ℕ) (other : Phase) → absent other.source ≡ false → inverted (Some (line, d)) other ≡ through line d other
 unfolding inverted through
 inverted_present line d other e = rw e
 
@@ -75,8 +74,8 @@ module _ (other : Phase) where
   -- no inverter after the last
   end_present : (b : Inverter) → absent other.source ≡ false → inverted b other ≡ earlier (inverted b other) no_phase
   unfolding inverted
-  end_present Missing e = sym (earlier-none no_phase)
-  end_present (Is l d) e =
+  end_present None e = sym (earlier-none no_phase)
+  end_present (Some (l, d)) e =
       inverted_present l d other e
       ∙ sym (ap (λ (z : Phase). earlier z no_phase) (inverted_present l d other e) ∙ earlier-first (through l d other) no_phase (through_present l d other) none-absent)
 
@@ -88,8 +87,8 @@ module _ (other : Phase) where
   -- one inverter more
   quicker-is : (b : Inverter) (line d : ℕ) → absent other.source ≡ false → inverted (quicker b line d) other ≡ earlier (inverted b other) (through line d other)
   unfolding quicker inverted
-  quicker-is Missing line d e = inverted_present line d other e ∙ sym (earlier-none (through line d other))
-  quicker-is (Is l f) line d e = by_less d f
+  quicker-is None line d e = inverted_present line d other e ∙ sym (earlier-none (through line d other))
+  quicker-is (Some (l, f)) line d e = by_less d f
       (λ h. ap (λ (z : Inverter). inverted z other) (quicker_less l f line d h) ∙ inverted_present line d other e
       ∙ sym (ap (λ (z : Phase). earlier z (through line d other)) (inverted_present l f other e)
       ∙ earlier_strict (through l f other) (through line d other) (through_present l f other) (through_present line d other) (omega (arith, through-arrival l f other, through-arrival line d other))))
@@ -141,14 +140,14 @@ module _ (other : Phase) where
   from-line [] b line = end b
   from-line (c ∷ cs) b line = from-line cs (tried b c line) (suc line) ∙ one_cell c cs b line
 
-missing-none : (other p : Phase) → earlier (inverted Missing other) p ≡ p
+missing-none : (other p : Phase) → earlier (inverted None other) p ≡ p
 unfolding inverted
 missing-none other p = earlier-none p
 
 -- "Inverters: smallest delay, then first line."
 pub inverter-chosen : (cells : List Cell) (p other : Phase) → choose (p ∷ inverter_phases cells 0 other) ≡ earlier p (inverted (inverter_of cells) other)
 unfolding choose inverter_of
-inverter-chosen cells p other = ap (earlier p) (sym (from-line other cells Missing 0 ∙ first))
+inverter-chosen cells p other = ap (earlier p) (sym (from-line other cells None 0 ∙ first))
   where
-    first : earlier (inverted Missing other) (choose (inverter_phases cells 0 other)) ≡ choose (inverter_phases cells 0 other)
+    first : earlier (inverted None other) (choose (inverter_phases cells 0 other)) ≡ choose (inverter_phases cells 0 other)
     first = missing-none other (choose (inverter_phases cells 0 other))

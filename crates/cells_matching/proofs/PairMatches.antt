@@ -13,7 +13,7 @@ use Rattle.model.specs.declared.Cell.{Cell}
 use Rattle.model.specs.declared.Library.{Library}
 use Rattle.cells_pairs.specs.{pair_of_id, cells_by, Coded}
 use Rattle.cells_pairs.proofs.{by_listed_lem, by_pair, by_length, joined-pins}
-use Rattle.cells_matching.specs.declared.Inverter.{Inverter}
+use Rattle.cells_matching.specs.{Inverter}
 use Rattle.cells_matching.specs.{LibraryInBounds, Matchable, cell_matched, list_matched, MatchTable, Blank, quicker, tried, inverter_from}
 use Rattle.cells_matching.specs.{inverter_of}
 use Rattle.cells_matching.proofs.BestMatch.{by_less}

@@ -11,4 +11,5 @@ unfoldable pub use MatchTableLayout.{Linked, cell_matched, delay_of, is_listed, 
 unfoldable pub use MatchTableLayout.{timed, word_of}
 pub use BestVariant.{ArrivalsBounded, TimesOf, VariantInBounds, last_time, infinite, unmatched, unmatched_under, waits}
 unfoldable pub use BestVariant.{Quick, arrival_at, arrival_of, best_from, best_of, best_under, better, largest, phase_as, pin_at, tabled_arrival_at, time_of}
+pub use Inverters.{Inverter}
 unfoldable pub use Inverters.{inverted, inverter_from, inverter_of, quicker, tried}

@@ -12,7 +12,7 @@ ghost use Rattle.model.specs.declared.Cell.{Cell};
 ghost use Rattle.base_truth.specs.{places_of, permuted};
 ghost use Rattle.cells_pairs.specs.{cells_by, Coded};
 ghost use Rattle.cells_matching.specs.{LibraryInBounds, match_of, run_of, pick_addr, match_table_length, pick_pin, pick_of, masked, delay_of, pushed, passed};
-ghost use Rattle.cells_matching.specs.{timed, cell_matched, list_matched, MatchTable, is_listed, Blank, infinite, ArrivalsBounded, waits, VariantInBounds};
+ghost use Rattle.cells_matching.specs.{timed, cell_matched, list_matched, MatchTable, is_listed, Blank, ArrivalsBounded, waits, VariantInBounds};
 ghost use Rattle.cells_matching.specs.{tabled_arrival_at, better, best_under, phase_as, quicker, tried, inverter_of};
 
 use model::{Cell, Library, Match, Phase, Source};
@@ -31,33 +31,20 @@ const DELAYS: usize = 65536;
 const VARIANTS: usize = 66560;
 
 // A variant with its arrival, NEVER where there is no match.
+// Stays: the new form is no plainer: a variant is tried against the arrival, which is the bound of the search where there is no match yet.
 #[derive(Clone, Copy)]
 pub struct Best {
     pub variant: u32,
     pub arrival: u32,
 }
 
-// The quickest inverter: its line and its delay.
-#[derive(Clone, Copy)]
-pub enum Inverter {
-    Is(usize, u16),
-    Missing,
-}
-
 // ---- the match table
 
-// A match table with nothing on it.
-pub fn empty_match_table() -> [u32; MATCH_TABLE]
-    ensures { Blank 32 result }
+// A match table with nothing on it, for as many cells as N words hold.
+pub fn empty_match_table<const N: usize>() -> [u32; N]
+    ensures { (n : ℕ) → match_table_length n ≤ N → Blank n result }
 {
-    [0u32; MATCH_TABLE]
-}
-
-// The same for pairs too.
-pub fn empty_paired_match_table() -> [u32; PAIRED_MATCH_TABLE]
-    ensures { Blank 256 result }
-{
-    [0u32; PAIRED_MATCH_TABLE]
+    [0; N]
 }
 
 // A variant, with its pick, put at the head of the bucket of its table.
@@ -65,7 +52,7 @@ fn push(t: u16, x: usize, p: u32, matches: &mut [u32])
     requires { (x < 98304) × (pick_addr x < length matches.old) }
     ensures { matches.new ≡ pushed t x p matches.old }
 {
-    let i = t as usize;
+    let i = usize::from(t);
     let at = VARIANTS + 2 * x;
     matches[at] = matches[i];
     matches[i] = (x + 1) as u32;
@@ -77,7 +64,7 @@ fn pick_pin(pins: u16, order: usize, j: usize) -> usize
     requires { (order < 24) × (j < 4) }
     ensures { (result ≡ pick_pin pins (places_of order) 0 j) × (result ≤ 8) }
 {
-    if j < pins as usize {
+    if j < usize::from(pins) {
         2 * base_truth::place(order, j)
     } else {
         8
@@ -121,9 +108,7 @@ fn put_order(pins: u16, table: u16, line: usize, order: usize, matches: &mut [u3
     let first = base_truth::first_table(pins, table, order);
     let word = first_word(pins, line, order);
     let x = 384 * line + 16 * order;
-    let mut mask: usize = 1 << pins;
-    while mask > 0 {
-        mask -= 1;
+    for mask in (0..1 << pins).rev() {
         put(first, order, mask, x + mask, word, matches);
     }
 }
@@ -132,13 +117,12 @@ fn put_order(pins: u16, table: u16, line: usize, order: usize, matches: &mut [u3
 fn run_of(pins: u16) -> usize
     ensures { result ≡ run_of pins }
 {
-    if pins > 2 {
-        return 1;
+    match pins {
+        0 => 24,
+        1 => 6,
+        2 => 2,
+        _ => 1,
     }
-    if pins == 2 {
-        return 2;
-    }
-    if pins == 1 { 6 } else { 24 }
 }
 
 // The delay of pin j, none for an absent pin.
@@ -146,7 +130,7 @@ fn delay_of(pins: u16, delays: [u32; 4], j: usize) -> u32
     requires { j < 4 }
     ensures { result ≡ delay_of pins delays j }
 {
-    if j < pins as usize { delays[j] } else { 0 }
+    if j < usize::from(pins) { delays[j] } else { 0 }
 }
 
 fn put_delays(pins: u16, delays: [u32; 4], line: usize, matches: &mut [u32])
@@ -166,10 +150,8 @@ fn put_variants(pins: u16, table: u16, line: usize, matches: &mut [u32])
     ensures { matches.new ≡ passed pins table (384 * line) 384 matches.old }
 {
     let run = run_of(pins);
-    let mut order: usize = 24;
-    while order > 0 {
-        order -= run;
-        put_order(pins, table, line, order, matches);
+    for i in (0..24 / run).rev() {
+        put_order(pins, table, line, i * run, matches);
     }
 }
 
@@ -205,9 +187,7 @@ pub fn build(cells: &[Cell], matches: &mut [u32])
     requires { (length cells.now ≤ 256) × ((c : ℕ) → (cell_at cells.now c).pins ≤ 4) × (match_table_length (length cells.now) ≤ length matches.old) }
     ensures { matches.new ≡ list_matched cells.now 0 matches.old }
 {
-    let mut i = cells.len();
-    while i > 0 {
-        i -= 1;
+    for i in (0..cells.len()).rev() {
         match_listed(cells, i, matches);
     }
 }
@@ -228,9 +208,7 @@ pub fn build_pairs(lib: Library, ids: &[u16], matches: &mut [u32])
     ensures { matches.new ≡ list_matched (drop lib.n (cells_by (cells_of lib) ids.now)) lib.n matches.old }
 {
     let n = lib.n;
-    let mut i = ids.len();
-    while i > 0 {
-        i -= 1;
+    for i in (0..ids.len()).rev() {
         match_pair(lib, ids, n + i, matches);
     }
 }
@@ -242,21 +220,7 @@ pub fn is_listed(matches: &[u32], f: u16) -> bool
     requires { 65536 ≤ length matches.now }
     ensures { result ≡ is_listed matches.now f }
 {
-    matches[f as usize] != 0
-}
-
-// A word as an index.
-fn index_of(x: u32) -> usize
-    ensures { result ≡ x }
-{
-    x as usize
-}
-
-fn add_delay(t: u32, d: u32) -> u32
-    requires { (t ≤ infinite) × (d < 131072) }
-    ensures { result ≡ t + d }
-{
-    t + d
+    matches[usize::from(f)] != 0
 }
 
 // "feeding arrival plus pin delay".
@@ -264,13 +228,7 @@ fn pin_time(matches: &[u32], times: &[u32; 16], select: usize, at: usize) -> u32
     requires { (select < 16) × (at < length matches.now) × (get_or matches.now at 0 < 131072) × ArrivalsBounded times.now }
     ensures { result ≡ waits matches.now times.now select at }
 {
-    add_delay(times[select], matches[at])
-}
-
-fn larger(a: u32, b: u32) -> u32
-    ensures { result ≡ max a b }
-{
-    if a < b { b } else { a }
+    times[select] + matches[at]
 }
 
 // Variant x tried against the best before it, which stays unless x is strictly earlier: one pin that is not earlier is enough.
@@ -278,7 +236,7 @@ fn try_variant(matches: &[u32], times: &[u32; 16], x: usize, b: Best) -> Best
     requires { VariantInBounds matches.now x × ArrivalsBounded times.now }
     ensures { result ≡ better b x (tabled_arrival_at matches.now times.now x) }
 {
-    let s = index_of(matches[VARIANTS + 2 * x + 1]);
+    let s = matches[VARIANTS + 2 * x + 1] as usize;
     let at = DELAYS + s / 65536;
     let t = pin_time(matches, times, s % 16, at);
     if b.arrival <= t {
@@ -299,7 +257,7 @@ fn try_variant(matches: &[u32], times: &[u32; 16], x: usize, b: Best) -> Best
     let variant = x as u32;
     Best {
         variant,
-        arrival: larger(larger(t, u), larger(v, w)),
+        arrival: t.max(u).max(v.max(w)),
     }
 }
 
@@ -313,11 +271,12 @@ pub fn best_match(matches: &[u32], f: u16, times: &[u32; 16], bound: u32) -> Bes
         variant: 0,
         arrival: bound,
     };
-    let mut h = index_of(matches[f as usize]);
+    let mut h = matches[usize::from(f)] as usize;
+    // Stays: the new form is no plainer: the step is a link of the bucket, not one.
     while h > 0 {
         let x = h - 1;
         b = try_variant(matches, times, x, b);
-        h = index_of(matches[VARIANTS + 2 * x]);
+        h = matches[VARIANTS + 2 * x] as usize;
     }
     b
 }
@@ -352,50 +311,37 @@ pub fn phase_as(k: usize, b: Best) -> Phase
     }
 }
 
-// ---- the inverter
+// ---- the inverter: its line and its delay
 
 // "smallest delay, then first line".
-fn sooner(best: Inverter, line: usize, d: u16) -> Inverter
+fn sooner(best: Option<(usize, u16)>, line: usize, d: u16) -> Option<(usize, u16)>
     ensures { result ≡ quicker best line d }
 {
     match best {
-        Inverter::Is(l, e) => if d < e {
-            Inverter::Is(line, d)
-        } else {
-            Inverter::Is(l, e)
-        },
-        Inverter::Missing => Inverter::Is(line, d),
+        Some((_, e)) if e <= d => best,
+        _ => Some((line, d)),
     }
 }
 
 // A cell tried: "a one-pin cell with table 0001" that is listed, and so has a name.
-fn try_inverter(best: Inverter, c: Cell, line: usize) -> Inverter
+fn try_inverter(best: Option<(usize, u16)>, c: Cell, line: usize) -> Option<(usize, u16)>
     ensures { result ≡ tried best c line }
 {
-    let delays = c.delays;
-    if c.pins == 1 {
-        if c.table == 1 {
-            if c.len > 0 {
-                return sooner(best, line, delays[0]);
-            }
-        }
+    if c.pins == 1 && c.table == 1 && c.len > 0 {
+        sooner(best, line, c.delays[0])
+    } else {
+        best
     }
-    best
 }
 
 // The inverter of a library.
-pub fn inverter_of(lib: Library) -> Inverter
+pub fn inverter_of(lib: Library) -> Option<(usize, u16)>
     requires { LibraryInBounds lib }
     ensures { result ≡ inverter_of (cells_of lib) }
 {
-    let cells = lib.cells;
-    let n = lib.n;
-    let mut best = Inverter::Missing;
-    let mut i: usize = 0;
-    while i < n {
-        let c = cells[i];
-        best = try_inverter(best, c, i);
-        i += 1;
+    let mut best = None;
+    for (line, c) in lib.cells[..lib.n].iter().enumerate() {
+        best = try_inverter(best, *c, line);
     }
     best
 }

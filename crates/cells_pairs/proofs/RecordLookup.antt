@@ -6,6 +6,8 @@
 use Rattle.base.specs.{ℕ, zero, suc, ◌+◌, ◌-◌, ◌*◌, ◌/◌, ◌%◌, ◌≤◌, ◌<◌, ◌≡◌, refl, sym, ap, ◌∙◌, List, [], ◌∷◌, ◌++◌, append_assoc}
 use Rattle.base.specs.{add-zero, le_of_suc-le-suc, not-suc-le-zero, add-one, arith, length, take, drop, get_or, length-append, length-take}
 use Rattle.base.specs.{drop_of_length-le, drop-cons, drop-drop, drop_at, take_all, length-take-le, get_or-take, get_or-drop, ext_get_or}
+use Rattle.std.specs.Int.{to_le_bytes}
+use Rattle.std.proofs.Common.{w16}
 use Rattle.model.specs.{each, name_of, no_cell, cell_at}
 use Rattle.model.specs.declared.Cell.{Cell}
 use Rattle.cells_pairs.specs.{name_from, cell_bytes, cell_from, id_bytes, listed_bytes, line_cell, id_in, id_place}
@@ -130,6 +132,10 @@ module _ (cells : List Cell) (rest : List ℕ) where
   line-within k h = omega (arith, length-append (listed_bytes cells) rest, listed-length cells)
 
 -- ---- the numbers of pairs
+
+-- a number's two bytes, as the library hands them out
+pub low-first : (k : ℕ) → k < 65536 → to_le_bytes w16 k ≡ id_bytes k
+low-first k h = let e : k / 256 % 256 ≡ k / 256 = omega arith in ap (λ (x : ℕ). k % 256 ∷ x ∷ []) e
 
 module _ (ids : List ℕ) (i : ℕ) where
   -- the bytes of those from number i on

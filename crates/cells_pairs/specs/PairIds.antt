@@ -4,6 +4,7 @@ use Rattle.base.specs.{ℕ, true, cond, List, [], map, length, get_or}
 use Rattle.model.specs.{below, each, cell_at, cells_of, Pair, joins, cell_of_pair}
 use Rattle.model.specs.declared.Cell.{Cell}
 use Rattle.model.specs.declared.Library.{Library}
+use Rattle.cells_pairs.specs.declared.CellPair.{CellPair}
 
 abbrev pub id_of : ℕ → ℕ → ℕ → ℕ
 id_of root pin inner = root * 128 + pin * 32 + inner
@@ -14,6 +15,10 @@ id_of_pair p = id_of p.root p.pin p.inner
 -- the pair of a number
 abbrev pub pair_of_id : ℕ → Pair
 pair_of_id k = record { root = k / 128; pin = k / 32 % 4; inner = k % 32 }
+
+-- the two cells of a number's pair, and the root's pin that is fed
+abbrev pub pair_cells : List Cell → ℕ → CellPair
+pair_cells cells k = record { root = cell_at cells (k / 128); pin = k / 32 % 4; inner = cell_at cells (k % 32) }
 
 -- one pair's number, or none
 unfoldable pub id_for : Cell → Cell → ℕ → List ℕ

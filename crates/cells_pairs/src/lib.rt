@@ -3,11 +3,11 @@
 // whatever asks of a cell by its number asks here, and no cell of a pair is stored.
 #![tactic(auto)]
 
-ghost use Rattle.std.specs.Prelude.{◌≡◌, ◌+◌, ◌*◌, ◌≤◌, ◌<◌};
+ghost use Rattle.std.specs.Prelude.{◌≡◌, ◌+◌, ◌-◌, ◌*◌, ◌≤◌, ◌<◌};
 ghost use Rattle.base.specs.{List, ℕ, min, length, take, get_or};
 ghost use Rattle.model.specs.{each, below, cells_of, cell_at, joins, pair_delays};
 ghost use Rattle.base_text.specs.{Wrote};
-ghost use Rattle.cells_pairs.specs.{Joinable, Coded, id_for, inner_ids, pin_ids, pair_ids, cells_by, name_from, cell_bytes};
+ghost use Rattle.cells_pairs.specs.{Joinable, Coded, id_for, inner_ids, pin_ids, pair_ids, pair_cells, cells_by, name_from, cell_bytes};
 ghost use Rattle.cells_pairs.specs.{cell_from, id_bytes, cell_records_of, count_in, line_cell, id_place, id_in};
 
 use model::{Cell, Library};
@@ -19,7 +19,7 @@ use model::{Cell, Library};
 pub fn name_len(len: usize) -> usize
     ensures { (result ≤ 8) × ((s : List ℕ) → length s ≡ 8 → take result s ≡ take len s) × (result ≡ min len 8) }
 {
-    if len < 8 { len } else { 8 }
+    len.min(8)
 }
 
 // ---- written
@@ -29,8 +29,7 @@ fn put_cell(records: &mut [u8], at: usize, c: Cell) -> usize
     requires { (c.pins ≤ 4) × (at + length (cell_bytes c) ≤ length records.old) }
     ensures { Wrote records.old records.new at result (cell_bytes c) }
 {
-    let name = c.name;
-    let next = base_text::put_bytes(records, at, &name);
+    let next = base_text::put_bytes(records, at, &c.name);
     let figures = [
         name_len(c.len) as u8,
         c.pins as u8,
@@ -44,14 +43,9 @@ fn put_cells(records: &mut [u8], at: usize, lib: Library) -> usize
     requires { Joinable lib × (at + length (each cell_bytes (cells_of lib)) ≤ length records.old) }
     ensures { Wrote records.old records.new at result (each cell_bytes (cells_of lib)) }
 {
-    let cells = lib.cells;
-    let n = lib.n;
     let mut next = at;
-    let mut i: usize = 0;
-    while i < n {
-        let c = cells[i];
-        next = put_cell(records, next, c);
-        i += 1;
+    for i in 0..lib.n {
+        next = put_cell(records, next, lib.cells[i]);
     }
     next
 }
@@ -62,12 +56,8 @@ fn put_pair_ids(records: &mut [u8], at: usize, ids: &[u16]) -> usize
     ensures { Wrote records.old records.new at result (each id_bytes ids.now) }
 {
     let mut next = at;
-    let mut i: usize = 0;
-    while i < ids.len() {
-        let k = ids[i];
-        let bytes = [(k % 256) as u8, (k / 256) as u8];
-        next = base_text::put_bytes(records, next, &bytes);
-        i += 1;
+    for k in ids {
+        next = base_text::put_bytes(records, next, &k.to_le_bytes());
     }
     next
 }
@@ -89,19 +79,7 @@ pub fn count(records: &[u8]) -> usize
     requires { 1 ≤ length records.now }
     ensures { result ≡ count_in records.now }
 {
-    byte(records[0])
-}
-
-fn byte(b: u8) -> usize
-    ensures { (result ≡ b) × (result < 256) }
-{
-    b as usize
-}
-
-fn half(b: u8) -> u16
-    ensures { (result ≡ b) × (result < 256) }
-{
-    b as u16
+    usize::from(records[0])
 }
 
 // The pair's number that cell number k has.
@@ -111,7 +89,7 @@ pub fn pair_id_at(records: &[u8], k: usize) -> usize
 {
     let n = count(records);
     let at = 1 + 12 * n + 2 * (k - n);
-    byte(records[at]) + 256 * byte(records[at + 1])
+    usize::from(records[at]) + 256 * usize::from(records[at + 1])
 }
 
 fn name_from(w: &[u8]) -> [u8; 8]
@@ -129,10 +107,10 @@ fn cell_from(bytes: &[u8]) -> Cell
     let name = name_from(bytes);
     Cell {
         name,
-        len: byte(bytes[8]),
-        pins: half(bytes[9]),
+        len: usize::from(bytes[8]),
+        pins: u16::from(bytes[9]),
         table: 0,
-        area: half(bytes[10]) + 256 * half(bytes[11]),
+        area: u16::from(bytes[10]) + 256 * u16::from(bytes[11]),
         delays: [0; 4],
         mins: [0; 4],
     }
@@ -172,15 +150,10 @@ fn put_inners(ids: &mut [u16], at: usize, lib: Library, i: usize, p: usize) -> u
     requires { Joinable lib × (i < lib.n) × (p < 4) × (at + length (inner_ids (cells_of lib) i p (below (length (cells_of lib)))) ≤ length ids.old) }
     ensures { Wrote ids.old ids.new at result (inner_ids (cells_of lib) i p (below (length (cells_of lib)))) }
 {
-    let cells = lib.cells;
-    let n = lib.n;
-    let root = cells[i];
+    let root = lib.cells[i];
     let mut next = at;
-    let mut j: usize = 0;
-    while j < n {
-        let inner = cells[j];
-        next = put_pair_id(ids, next, root, inner, i * 128 + p * 32 + j);
-        j += 1;
+    for j in 0..lib.n {
+        next = put_pair_id(ids, next, root, lib.cells[j], i * 128 + p * 32 + j);
     }
     next
 }
@@ -191,10 +164,8 @@ fn put_pins(ids: &mut [u16], at: usize, lib: Library, i: usize, pins: usize) -> 
     ensures { Wrote ids.old ids.new at result (pin_ids (cells_of lib) i (below pins)) }
 {
     let mut next = at;
-    let mut p: usize = 0;
-    while p < pins {
+    for p in 0..pins {
         next = put_inners(ids, next, lib, i, p);
-        p += 1;
     }
     next
 }
@@ -204,32 +175,34 @@ pub fn form(ids: &mut [u16], lib: Library) -> usize
     requires { Joinable lib × (length (pair_ids (cells_of lib)) ≤ length ids.old) }
     ensures { Wrote ids.old ids.new 0 result (pair_ids (cells_of lib)) }
 {
-    let cells = lib.cells;
-    let n = lib.n;
-    let mut next: usize = 0;
-    let mut i: usize = 0;
-    while i < n {
-        let root = cells[i];
-        next = put_pins(ids, next, lib, i, root.pins as usize);
-        i += 1;
+    let mut next = 0;
+    for i in 0..lib.n {
+        next = put_pins(ids, next, lib, i, usize::from(lib.cells[i].pins));
     }
     next
 }
 
 // ---- the cell of a number
 
-fn listed(lib: Library, k: usize) -> Cell
-    requires { Joinable lib × (k < lib.n) }
-    ensures { result ≡ cell_at (cells_of lib) k }
-{
-    let cells = lib.cells;
-    cells[k]
+// The two cells of a pair, and the root's pin that the inner feeds.
+#[derive(Clone, Copy)]
+struct CellPair {
+    root: Cell,
+    pin: usize,
+    inner: Cell,
 }
 
-fn index_of(x: u16) -> usize
-    ensures { (result ≡ x) × (result < 65536) }
+// The pair that cell number k is.
+fn pair_of(lib: &Library, ids: &[u16], k: usize) -> CellPair
+    requires { Coded lib.now ids.now × (lib.now.n ≤ k) × (k < lib.now.n + length ids.now) }
+    ensures { result ≡ pair_cells (cells_of lib.now) (get_or ids.now (k - lib.now.n) 0) }
 {
-    x as usize
+    let x = usize::from(ids[k - lib.n]);
+    CellPair {
+        root: lib.cells[x / 128],
+        pin: x / 32 % 4,
+        inner: lib.cells[x % 32],
+    }
 }
 
 // How many pins: "the root's in order, with the inner's, in order, at the fed pin's place".
@@ -237,42 +210,22 @@ pub fn pins_of(lib: Library, ids: &[u16], k: usize) -> u16
     requires { Coded lib ids.now × (k < lib.n + length ids.now) }
     ensures { result ≡ (cell_at (cells_by (cells_of lib) ids.now) k).pins }
 {
-    let n = lib.n;
-    if k < n {
-        let c = listed(lib, k);
-        return c.pins;
+    if k < lib.n {
+        return lib.cells[k].pins;
     }
-    let x = index_of(ids[k - n]);
-    let root = listed(lib, x / 128);
-    let inner = listed(lib, x % 32);
-    root.pins + inner.pins - 1
+    let p = pair_of(&lib, ids, k);
+    p.root.pins + p.inner.pins - 1
 }
 
 pub fn table_of(lib: Library, ids: &[u16], k: usize) -> u16
     requires { Coded lib ids.now × (k < lib.n + length ids.now) }
     ensures { result ≡ (cell_at (cells_by (cells_of lib) ids.now) k).table }
 {
-    let n = lib.n;
-    if k < n {
-        let c = listed(lib, k);
-        return c.table;
+    if k < lib.n {
+        return lib.cells[k].table;
     }
-    let x = index_of(ids[k - n]);
-    let root = listed(lib, x / 128);
-    let inner = listed(lib, x % 32);
-    base_truth::pair_table(root, x / 32 % 4, inner)
-}
-
-fn widen(d: u16) -> u32
-    ensures { result ≡ d }
-{
-    d as u32
-}
-
-fn sum(d: u16, e: u16) -> u32
-    ensures { result ≡ d + e }
-{
-    d as u32 + e as u32
+    let p = pair_of(&lib, ids, k);
+    base_truth::pair_table(p.root, p.pin, p.inner)
 }
 
 // The delay of pin j of a pair whose inner has n pins: ds are the root's delays, es the inner's.
@@ -281,12 +234,12 @@ fn join_pin(pin: usize, n: usize, ds: [u16; 4], es: [u16; 4], j: usize) -> u32
     ensures { result ≡ get_or (pair_delays pin n ds es) j 0 }
 {
     if j < pin {
-        return widen(ds[j]);
+        return u32::from(ds[j]);
     }
     if j < pin + n {
-        return sum(ds[pin], es[j - pin]);
+        return u32::from(ds[pin]) + u32::from(es[j - pin]);
     }
-    widen(ds[j + 1 - n])
+    u32::from(ds[j + 1 - n])
 }
 
 // "an inner pin's delays add to the fed pin's", of all four.
@@ -294,52 +247,45 @@ fn join(pin: usize, n: usize, ds: [u16; 4], es: [u16; 4]) -> [u32; 4]
     requires { (pin < 4) × (1 ≤ n) × (n ≤ 4) }
     ensures { result ≡ pair_delays pin n ds es }
 {
-    let a = join_pin(pin, n, ds, es, 0);
-    let b = join_pin(pin, n, ds, es, 1);
-    let c = join_pin(pin, n, ds, es, 2);
-    let d = join_pin(pin, n, ds, es, 3);
-    [a, b, c, d]
+    [
+        join_pin(pin, n, ds, es, 0),
+        join_pin(pin, n, ds, es, 1),
+        join_pin(pin, n, ds, es, 2),
+        join_pin(pin, n, ds, es, 3),
+    ]
 }
 
 // Four delays of a listed cell, as wide as a pair's: these reach 131,070.
 pub fn widened(ds: [u16; 4]) -> [u32; 4]
     ensures { result ≡ ds }
 {
-    [widen(ds[0]), widen(ds[1]), widen(ds[2]), widen(ds[3])]
+    ds.map(u32::from)
 }
 
 pub fn delays_of(lib: Library, ids: &[u16], k: usize) -> [u32; 4]
     requires { Coded lib ids.now × (k < lib.n + length ids.now) }
     ensures { result ≡ (cell_at (cells_by (cells_of lib) ids.now) k).delays }
 {
-    let n = lib.n;
-    if k < n {
-        let c = listed(lib, k);
-        let ds = c.delays;
-        return widened(ds);
+    if k < lib.n {
+        return widened(lib.cells[k].delays);
     }
-    let x = index_of(ids[k - n]);
-    let root = listed(lib, x / 128);
-    let inner = listed(lib, x % 32);
-    let ds = root.delays;
-    let es = inner.delays;
-    join(x / 32 % 4, inner.pins as usize, ds, es)
+    let p = pair_of(&lib, ids, k);
+    join(
+        p.pin,
+        usize::from(p.inner.pins),
+        p.root.delays,
+        p.inner.delays,
+    )
 }
 
+// Stays: it is `delays_of` at another field; a closure for the field is no plainer than these lines, as it needs clauses on what it returns.
 pub fn min_delays_of(lib: Library, ids: &[u16], k: usize) -> [u32; 4]
     requires { Coded lib ids.now × (k < lib.n + length ids.now) }
     ensures { result ≡ (cell_at (cells_by (cells_of lib) ids.now) k).mins }
 {
-    let n = lib.n;
-    if k < n {
-        let c = listed(lib, k);
-        let ds = c.mins;
-        return widened(ds);
+    if k < lib.n {
+        return widened(lib.cells[k].mins);
     }
-    let x = index_of(ids[k - n]);
-    let root = listed(lib, x / 128);
-    let inner = listed(lib, x % 32);
-    let ds = root.mins;
-    let es = inner.mins;
-    join(x / 32 % 4, inner.pins as usize, ds, es)
+    let p = pair_of(&lib, ids, k);
+    join(p.pin, usize::from(p.inner.pins), p.root.mins, p.inner.mins)
 }

@@ -1,7 +1,7 @@
 -- The form of a cell line is the crate model's: what is read from field to field is the cell of the line's fields.
 --     form_means_lem     the cell that `form_at` finds is `cell_of_line` of the line at the place
 --     form_cell      and then its name ends where the field does, its pins are at most 4, and the next line is behind this one
-use Rattle.base.specs.{ℕ, suc, ◌+◌, ◌≤◌, arith, ◌≡◌, refl, sym, ap, ap₂, ◌∙◌, Bool, true, false, cond, ◌&&◌, Option, none, some, List, []}
+use Rattle.base.specs.{ℕ, suc, ◌+◌, ◌≤◌, arith, ◌≡◌, refl, sym, ap, ap₂, ◌∙◌, Bool, true, false, cond, ◌&&◌, Option, None, Some, List, []}
 use Rattle.base.specs.{◌∷◌, eqb, leb, length, take, drop, get_or, leb-true}
 use Rattle.model.specs.{and_then, only, number, numbers, hex_table, is_name, name_bytes, cell_of_fields, cell_of_line}
 use Rattle.model.specs.declared.Cell.{Cell}
@@ -12,13 +12,8 @@ use Rattle.base_text.proofs.{past, past_end, nth, then_o, found, found_end, numb
 use Rattle.base_text.proofs.{fields_at, numbers-at}
 use Rattle.cells_reader.specs.declared.Delays.{Delays}
 use Rattle.cells_reader.specs.declared.Figures.{Figures}
-use Rattle.cells_reader.specs.declared.Four.{Four}
-use Rattle.cells_reader.specs.declared.Four.TheVariants.{Read as FourRead, Broken as NoFour}
-use Rattle.cells_reader.specs.declared.Ranges.{Ranges}
-use Rattle.cells_reader.specs.declared.Ranges.TheVariants.{Both, Broken as NoRanges}
-use Rattle.cells_reader.specs.declared.Form.{Form}
-use Rattle.cells_reader.specs.declared.Form.TheVariants.{Cell as ACell, Broken as NoForm}
-use Rattle.cells_reader.specs.{four_of, delays_at, on_four, mins_at, ranges_at, on_ranges, pick_form, figures_of, figures_at, form_at, line_cell}
+use Rattle.cells_reader.specs.declared.FormedLine.{FormedLine}
+use Rattle.cells_reader.specs.{four_of, delays_at, on_four, mins_at, ranges_at, on_ranges, pick_form, figures_of, formed, figures_at, form_at, line_cell}
 
 -- ---- the readers, by what is found at places that do not hang on it
 
@@ -29,9 +24,9 @@ first_of ns = four_of (get_or ns 0 0) (get_or ns 1 0) (get_or ns 2 0) (get_or ns
 abbrev next_of : List ℕ → Delays
 next_of ns = four_of (get_or ns 4 0) (get_or ns 5 0) (get_or ns 6 0) (get_or ns 7 0)
 
-abbrev delays_of : Option (List ℕ) → ℕ → Four
-delays_of none q = NoFour
-delays_of (some ns) q = FourRead (first_of ns) (record { at = q })
+abbrev delays_of : Option (List ℕ) → ℕ → Option (Delays × Cursor)
+delays_of None q = None
+delays_of (Some ns) q = Some (first_of ns, record { at = q })
 
 -- how many fields stand behind `d0`
 abbrev pub last_of : Bool → ℕ
@@ -42,10 +37,10 @@ last_of false = 3
 abbrev pub whole_of : Bool → ℕ
 whole_of r = suc (suc (suc (suc (last_of r))))
 
-abbrev ranges_of : Bool → Option (List ℕ) → ℕ → Ranges
-ranges_of r none q = NoRanges
-ranges_of true (some ns) q = Both (first_of ns) (next_of ns) (record { at = q })
-ranges_of false (some ns) q = Both (first_of ns) (first_of ns) (record { at = q })
+abbrev ranges_of : Bool → Option (List ℕ) → ℕ → Option (Delays × Delays × Cursor)
+ranges_of r None q = None
+ranges_of true (Some ns) q = Some (first_of ns, next_of ns, record { at = q })
+ranges_of false (Some ns) q = Some (first_of ns, first_of ns, record { at = q })
 
 module _ (s : List ℕ) where
   delays-is : (q : ℕ) → delays_at true s q ≡ delays_of (numbers_at 3 s q) (after_at 3 s q)
@@ -53,74 +48,74 @@ module _ (s : List ℕ) where
   delays-is q = rw (number_is s q 32) (go (found number s q 32))
     where
       last : (a b d r : ℕ) (o : Option ℕ)
-          → on_number (number_of o r) (λ d3 c3. FourRead (four_of a b d d3) c3) NoFour
-          ≡ delays_of (and_then (and_then (and_then (on_number (number_of o r) (λ n c. some (n ∷ [])) none) (λ ns. some (d ∷ ns))) (λ ns. some (b ∷ ns))) (λ ns. some (a ∷ ns))) r
-      last a b d r none = refl
-      last a b d r (some x) = refl
+          → on_number (number_of o r) (λ d3 c3. Some (four_of a b d d3, c3)) None
+          ≡ delays_of (and_then (and_then (and_then (on_number (number_of o r) (λ n c. Some (n ∷ [])) None) (λ ns. Some (d ∷ ns))) (λ ns. Some (b ∷ ns))) (λ ns. Some (a ∷ ns))) r
+      last a b d r None = refl
+      last a b d r (Some x) = refl
 
       third : (a b r : ℕ) (o : Option ℕ)
-          → on_number (number_of o r) (λ d2 c2. on_number (number_end s c2.at) (λ d3 c3. FourRead (four_of a b d2 d3) c3) NoFour) NoFour
-          ≡ delays_of (and_then (and_then (on_number (number_of o r) (λ n c. and_then (numbers_at 0 s c.at) (λ ns. some (n ∷ ns))) none) (λ ns. some (b ∷ ns))) (λ ns. some (a ∷ ns))) (past_end s r)
-      third a b r none = refl
-      third a b r (some d) = rw (number-end-is s r) (last a b d (past_end s r) (found_end s r))
+          → on_number (number_of o r) (λ d2 c2. on_number (number_end s c2.at) (λ d3 c3. Some (four_of a b d2 d3, c3)) None) None
+          ≡ delays_of (and_then (and_then (on_number (number_of o r) (λ n c. and_then (numbers_at 0 s c.at) (λ ns. Some (n ∷ ns))) None) (λ ns. Some (b ∷ ns))) (λ ns. Some (a ∷ ns))) (past_end s r)
+      third a b r None = refl
+      third a b r (Some d) = rw (number-end-is s r) (last a b d (past_end s r) (found_end s r))
 
       second : (a r : ℕ) (o : Option ℕ)
-          → on_number (number_of o r) (λ d1 c1. on_number (number_then s c1.at 32) (λ d2 c2. on_number (number_end s c2.at) (λ d3 c3. FourRead (four_of a d1 d2 d3) c3) NoFour) NoFour) NoFour
-          ≡ delays_of (and_then (on_number (number_of o r) (λ n c. and_then (numbers_at 1 s c.at) (λ ns. some (n ∷ ns))) none) (λ ns. some (a ∷ ns))) (past_end s (past s r))
-      second a r none = refl
-      second a r (some b) = rw (number_is s r 32) (third a b (past s r) (found number s r 32))
+          → on_number (number_of o r) (λ d1 c1. on_number (number_then s c1.at 32) (λ d2 c2. on_number (number_end s c2.at) (λ d3 c3. Some (four_of a d1 d2 d3, c3)) None) None) None
+          ≡ delays_of (and_then (on_number (number_of o r) (λ n c. and_then (numbers_at 1 s c.at) (λ ns. Some (n ∷ ns))) None) (λ ns. Some (a ∷ ns))) (past_end s (past s r))
+      second a r None = refl
+      second a r (Some b) = rw (number_is s r 32) (third a b (past s r) (found number s r 32))
 
       go : (o : Option ℕ)
-          → on_number (number_of o (past s q)) (λ d0 c0. on_number (number_then s c0.at 32) (λ d1 c1. on_number (number_then s c1.at 32) (λ d2 c2. on_number (number_end s c2.at) (λ d3 c3. FourRead (four_of d0 d1 d2 d3) c3) NoFour) NoFour) NoFour) NoFour
-          ≡ delays_of (on_number (number_of o (past s q)) (λ n c. and_then (numbers_at 2 s c.at) (λ ns. some (n ∷ ns))) none) (past_end s (nth s q 3))
-      go none = refl
-      go (some a) = rw (number_is s (past s q) 32) (second a (nth s q 2) (found number s (past s q) 32))
+          → on_number (number_of o (past s q)) (λ d0 c0. on_number (number_then s c0.at 32) (λ d1 c1. on_number (number_then s c1.at 32) (λ d2 c2. on_number (number_end s c2.at) (λ d3 c3. Some (four_of d0 d1 d2 d3, c3)) None) None) None) None
+          ≡ delays_of (on_number (number_of o (past s q)) (λ n c. and_then (numbers_at 2 s c.at) (λ ns. Some (n ∷ ns))) None) (past_end s (nth s q 3))
+      go None = refl
+      go (Some a) = rw (number_is s (past s q) 32) (second a (nth s q 2) (found number s (past s q) 32))
 
   one-is : (q : ℕ) → ranges_at false s q ≡ ranges_of false (numbers_at 3 s q) (after_at 3 s q)
   unfolding ranges_at
   one-is q = rw (delays-is q) (go (numbers_at 3 s q))
     where
-      go : (o : Option (List ℕ)) → on_four (delays_of o (after_at 3 s q)) (mins_at false s) NoRanges ≡ ranges_of false o (after_at 3 s q)
-      go none = refl
-      go (some ns) = refl
+      go : (o : Option (List ℕ)) → on_four (delays_of o (after_at 3 s q)) (mins_at false s) None ≡ ranges_of false o (after_at 3 s q)
+      go None = refl
+      go (Some ns) = refl
 
   -- the lowest delays behind four delays that were read
-  abbrev behind_high : Four → Ranges
-  behind_high x = on_four x (mins_at true s) NoRanges
+  abbrev behind_high : Option (Delays × Cursor) → Option (Delays × Delays × Cursor)
+  behind_high x = on_four x (mins_at true s) None
 
   both_is : (q : ℕ) → ranges_at true s q ≡ ranges_of true (numbers_at 7 s q) (after_at 7 s q)
   unfolding ranges_at delays_at numbers_at after_at and_then
   both_is q = rw (number_is s q 32) (first (past s q) (found number s q 32))
     where
       mins : (a b d e r : ℕ) (o : Option (List ℕ))
-          → on_four (delays_of o (after_at 3 s r)) (λ l c. Both (four_of a b d e) l c) NoRanges
-          ≡ ranges_of true (and_then (and_then (and_then (and_then o (λ ns. some (e ∷ ns))) (λ ns. some (d ∷ ns))) (λ ns. some (b ∷ ns))) (λ ns. some (a ∷ ns))) (after_at 3 s r)
-      mins a b d e r none = refl
-      mins a b d e r (some ns) = refl
+          → on_four (delays_of o (after_at 3 s r)) (λ l c. Some (four_of a b d e, l, c)) None
+          ≡ ranges_of true (and_then (and_then (and_then (and_then o (λ ns. Some (e ∷ ns))) (λ ns. Some (d ∷ ns))) (λ ns. Some (b ∷ ns))) (λ ns. Some (a ∷ ns))) (after_at 3 s r)
+      mins a b d e r None = refl
+      mins a b d e r (Some ns) = refl
 
       fourth : (a b d r : ℕ) (o : Option ℕ)
-          → behind_high (on_number (number_of o r) (λ d3 c3. FourRead (four_of a b d d3) c3) NoFour)
-          ≡ ranges_of true (and_then (and_then (and_then (on_number (number_of o r) (λ n c. and_then (numbers_at 3 s c.at) (λ ns. some (n ∷ ns))) none) (λ ns. some (d ∷ ns))) (λ ns. some (b ∷ ns))) (λ ns. some (a ∷ ns))) (after_at 3 s r)
-      fourth a b d r none = refl
-      fourth a b d r (some e) = rw (delays-is r) (mins a b d e r (numbers_at 3 s r))
+          → behind_high (on_number (number_of o r) (λ d3 c3. Some (four_of a b d d3, c3)) None)
+          ≡ ranges_of true (and_then (and_then (and_then (on_number (number_of o r) (λ n c. and_then (numbers_at 3 s c.at) (λ ns. Some (n ∷ ns))) None) (λ ns. Some (d ∷ ns))) (λ ns. Some (b ∷ ns))) (λ ns. Some (a ∷ ns))) (after_at 3 s r)
+      fourth a b d r None = refl
+      fourth a b d r (Some e) = rw (delays-is r) (mins a b d e r (numbers_at 3 s r))
 
       third : (a b r : ℕ) (o : Option ℕ)
-          → behind_high (on_number (number_of o r) (λ d2 c2. on_number (number_then s c2.at 32) (λ d3 c3. FourRead (four_of a b d2 d3) c3) NoFour) NoFour)
-          ≡ ranges_of true (and_then (and_then (on_number (number_of o r) (λ n c. and_then (numbers_at 4 s c.at) (λ ns. some (n ∷ ns))) none) (λ ns. some (b ∷ ns))) (λ ns. some (a ∷ ns))) (after_at 4 s r)
-      third a b r none = refl
-      third a b r (some d) = rw (number_is s r 32) (fourth a b d (past s r) (found number s r 32))
+          → behind_high (on_number (number_of o r) (λ d2 c2. on_number (number_then s c2.at 32) (λ d3 c3. Some (four_of a b d2 d3, c3)) None) None)
+          ≡ ranges_of true (and_then (and_then (on_number (number_of o r) (λ n c. and_then (numbers_at 4 s c.at) (λ ns. Some (n ∷ ns))) None) (λ ns. Some (b ∷ ns))) (λ ns. Some (a ∷ ns))) (after_at 4 s r)
+      third a b r None = refl
+      third a b r (Some d) = rw (number_is s r 32) (fourth a b d (past s r) (found number s r 32))
 
       second : (a r : ℕ) (o : Option ℕ)
-          → behind_high (on_number (number_of o r) (λ d1 c1. on_number (number_then s c1.at 32) (λ d2 c2. on_number (number_then s c2.at 32) (λ d3 c3. FourRead (four_of a d1 d2 d3) c3) NoFour) NoFour) NoFour)
-          ≡ ranges_of true (and_then (on_number (number_of o r) (λ n c. and_then (numbers_at 5 s c.at) (λ ns. some (n ∷ ns))) none) (λ ns. some (a ∷ ns))) (after_at 5 s r)
-      second a r none = refl
-      second a r (some b) = rw (number_is s r 32) (third a b (past s r) (found number s r 32))
+          → behind_high (on_number (number_of o r) (λ d1 c1. on_number (number_then s c1.at 32) (λ d2 c2. on_number (number_then s c2.at 32) (λ d3 c3. Some (four_of a d1 d2 d3, c3)) None) None) None)
+          ≡ ranges_of true (and_then (on_number (number_of o r) (λ n c. and_then (numbers_at 5 s c.at) (λ ns. Some (n ∷ ns))) None) (λ ns. Some (a ∷ ns))) (after_at 5 s r)
+      second a r None = refl
+      second a r (Some b) = rw (number_is s r 32) (third a b (past s r) (found number s r 32))
 
       first : (r : ℕ) (o : Option ℕ)
-          → behind_high (on_number (number_of o r) (λ d0 c0. on_number (number_then s c0.at 32) (λ d1 c1. on_number (number_then s c1.at 32) (λ d2 c2. on_number (number_then s c2.at 32) (λ d3 c3. FourRead (four_of d0 d1 d2 d3) c3) NoFour) NoFour) NoFour) NoFour)
-          ≡ ranges_of true (on_number (number_of o r) (λ n c. and_then (numbers_at 6 s c.at) (λ ns. some (n ∷ ns))) none) (after_at 6 s r)
-      first r none = refl
-      first r (some a) = rw (number_is s r 32) (second a (past s r) (found number s r 32))
+          → behind_high (on_number (number_of o r) (λ d0 c0. on_number (number_then s c0.at 32) (λ d1 c1. on_number (number_then s c1.at 32) (λ d2 c2. on_number (number_then s c2.at 32) (λ d3 c3. Some (four_of d0 d1 d2 d3, c3)) None) None) None) None)
+          ≡ ranges_of true (on_number (number_of o r) (λ n c. and_then (numbers_at 6 s c.at) (λ ns. Some (n ∷ ns))) None) (after_at 6 s r)
+      first r None = refl
+      first r (Some a) = rw (number_is s r 32) (second a (past s r) (found number s r 32))
 
   ranges-is : (r : Bool) (q : ℕ) → ranges_at r s q ≡ ranges_of r (numbers_at (last_of r) s q) (after_at (last_of r) s q)
   ranges-is true q = both_is q
@@ -132,23 +127,23 @@ figures_by true p t a ns = figures_of p t a (first_of ns) (next_of ns)
 figures_by false p t a ns = figures_of p t a (first_of ns) (first_of ns)
 
 -- the whole form: the name, its space, three figures, and the delays
-abbrev form_of : Bool → Bool → Bool → Option ℕ → Option ℕ → Option ℕ → Option (List ℕ) → ℕ → ℕ → Form
-form_of k false u o1 o2 o3 o4 e q = NoForm
-form_of k true false o1 o2 o3 o4 e q = NoForm
-form_of k true true none o2 o3 o4 e q = NoForm
-form_of k true true (some p) none o3 o4 e q = NoForm
-form_of k true true (some p) (some t) none o4 e q = NoForm
-form_of k true true (some p) (some t) (some a) none e q = NoForm
-form_of k true true (some p) (some t) (some a) (some ns) e q = pick_form (leb p 4) (ACell e (figures_by k p t a ns) (record { at = q })) NoForm
+abbrev form_of : Bool → Bool → Bool → Option ℕ → Option ℕ → Option ℕ → Option (List ℕ) → ℕ → ℕ → Option FormedLine
+form_of k false u o1 o2 o3 o4 e q = None
+form_of k true false o1 o2 o3 o4 e q = None
+form_of k true true None o2 o3 o4 e q = None
+form_of k true true (Some p) None o3 o4 e q = None
+form_of k true true (Some p) (Some t) None o4 e q = None
+form_of k true true (Some p) (Some t) (Some a) None e q = None
+form_of k true true (Some p) (Some t) (Some a) (Some ns) e q = pick_form (leb p 4) (Some (formed e (figures_by k p t a ns) (record { at = q }))) None
 
 -- what is made of the delays behind three figures
-abbrev after_ranges : ℕ → ℕ → ℕ → ℕ → Ranges → Form
-after_ranges e p t a x = on_ranges x (λ d l c. pick_form (leb p 4) (ACell e (figures_of p t a d l) c) NoForm) NoForm
+abbrev after_ranges : ℕ → ℕ → ℕ → ℕ → Option (Delays × Delays × Cursor) → Option FormedLine
+after_ranges e p t a x = on_ranges x (λ d l c. pick_form (leb p 4) (Some (formed e (figures_of p t a d l) c)) None) None
 
-ranges_form : (k : Bool) (p t a e q : ℕ) (o : Option (List ℕ)) → after_ranges e p t a (ranges_of k o q) ≡ form_of k true true (some p) (some t) (some a) o e q
-ranges_form k p t a e q none = refl
-ranges_form true p t a e q (some ns) = refl
-ranges_form false p t a e q (some ns) = refl
+ranges_form : (k : Bool) (p t a e q : ℕ) (o : Option (List ℕ)) → after_ranges e p t a (ranges_of k o q) ≡ form_of k true true (Some p) (Some t) (Some a) o e q
+ranges_form k p t a e q None = refl
+ranges_form true p t a e q (Some ns) = refl
+ranges_form false p t a e q (Some ns) = refl
 
 figures-is : (k : Bool) (e : ℕ) (s : List ℕ) (q : ℕ) → figures_at k e s q
     ≡ form_of k true true (found number s q 32) (found hex_table s (past s q) 32) (found number s (nth s q 2) 32) (numbers_at (last_of k) s (nth s q 3)) e (after_at (last_of k) s (nth s q 3))
@@ -156,22 +151,22 @@ unfolding figures_at
 figures-is k e s q = rw (number_is s q 32) (go (found number s q 32))
   where
     last : (p t r : ℕ) (o : Option ℕ)
-        → on_number (number_of o r) (λ a c2. after_ranges e p t a (ranges_at k s c2.at)) NoForm
-        ≡ form_of k true true (some p) (some t) o (numbers_at (last_of k) s r) e (after_at (last_of k) s r)
-    last p t r none = refl
-    last p t r (some a) = ap (after_ranges e p t a) (ranges-is s k r) ∙ ranges_form k p t a e (after_at (last_of k) s r) (numbers_at (last_of k) s r)
+        → on_number (number_of o r) (λ a c2. after_ranges e p t a (ranges_at k s c2.at)) None
+        ≡ form_of k true true (Some p) (Some t) o (numbers_at (last_of k) s r) e (after_at (last_of k) s r)
+    last p t r None = refl
+    last p t r (Some a) = ap (after_ranges e p t a) (ranges-is s k r) ∙ ranges_form k p t a e (after_at (last_of k) s r) (numbers_at (last_of k) s r)
 
     second : (p r : ℕ) (o : Option ℕ)
-        → on_number (number_of o r) (λ t c1. on_number (number_then s c1.at 32) (λ a c2. after_ranges e p t a (ranges_at k s c2.at)) NoForm) NoForm
-        ≡ form_of k true true (some p) o (found number s r 32) (numbers_at (last_of k) s (past s r)) e (after_at (last_of k) s (past s r))
-    second p r none = refl
-    second p r (some t) = rw (number_is s r 32) (last p t (past s r) (found number s r 32))
+        → on_number (number_of o r) (λ t c1. on_number (number_then s c1.at 32) (λ a c2. after_ranges e p t a (ranges_at k s c2.at)) None) None
+        ≡ form_of k true true (Some p) o (found number s r 32) (numbers_at (last_of k) s (past s r)) e (after_at (last_of k) s (past s r))
+    second p r None = refl
+    second p r (Some t) = rw (number_is s r 32) (last p t (past s r) (found number s r 32))
 
     go : (o : Option ℕ)
-        → on_number (number_of o (past s q)) (λ p c0. on_number (table_then s c0.at 32) (λ t c1. on_number (number_then s c1.at 32) (λ a c2. after_ranges e p t a (ranges_at k s c2.at)) NoForm) NoForm) NoForm
+        → on_number (number_of o (past s q)) (λ p c0. on_number (table_then s c0.at 32) (λ t c1. on_number (number_then s c1.at 32) (λ a c2. after_ranges e p t a (ranges_at k s c2.at)) None) None) None
         ≡ form_of k true true o (found hex_table s (past s q) 32) (found number s (nth s q 2) 32) (numbers_at (last_of k) s (nth s q 3)) e (after_at (last_of k) s (nth s q 3))
-    go none = refl
-    go (some p) = rw (table_is s (past s q) 32) (second p (nth s q 2) (found hex_table s (past s q) 32))
+    go None = refl
+    go (Some p) = rw (table_is s (past s q) 32) (second p (nth s q 2) (found hex_table s (past s q) 32))
 
 form_is : (k : Bool) (s : List ℕ) (q : ℕ) → form_at k s q
     ≡ form_of k (is_name (word_at s q)) (is_byte s (end_at s q) 32) (found number s (past s q) 32) (found hex_table s (nth s q 2) 32) (found number s (nth s q 3) 32) (numbers_at (last_of k) s (nth s q 4)) (end_at s q) (after_at (last_of k) s (nth s q 4))
@@ -179,7 +174,7 @@ unfolding form_at name_at byte_at
 form_is k s q = go (is_name (word_at s q)) (is_byte s (end_at s q) 32) refl
   where
     go : (t u : Bool) → is_byte s (end_at s q) 32 ≡ u
-        → on_step (step_of t (end_at s q)) (λ n. on_step (step_of (is_byte s n.at 32) (n.at + 1)) (λ c. figures_at k n.at s c.at) NoForm) NoForm
+        → on_step (step_of t (end_at s q)) (λ n. on_step (step_of (is_byte s n.at 32) (n.at + 1)) (λ c. figures_at k n.at s c.at) None) None
         ≡ form_of k t u (found number s (past s q) 32) (found hex_table s (nth s q 2) 32) (found number s (nth s q 3) 32) (numbers_at (last_of k) s (nth s q 4)) (end_at s q) (after_at (last_of k) s (nth s q 4))
     go false u h = refl
     go true false h = rw h
@@ -188,12 +183,12 @@ form_is k s q = go (is_name (word_at s q)) (is_byte s (end_at s q) 32) refl
 -- ---- the crate model's cell, by the same values
 
 -- the cell that a form means, of the name w
-unfoldable pub form_means : List ℕ → Form → Option Cell
-form_means w NoForm = none
-form_means w (ACell e f c) = some (line_cell w f)
+unfoldable pub form_means : List ℕ → Option FormedLine → Option Cell
+form_means w None = None
+form_means w (Some f) = Some (line_cell w f.figures)
 
 abbrev cons_o : Option ℕ → Option (List ℕ) → Option (List ℕ)
-cons_o v r = and_then v (λ n. and_then r (λ ns. some (n ∷ ns)))
+cons_o v r = and_then v (λ n. and_then r (λ ns. Some (n ∷ ns)))
 
 -- the cell of a name and of figures that were read
 abbrev cell_with : List ℕ → ℕ → ℕ → ℕ → List ℕ → List ℕ → Cell
@@ -212,23 +207,23 @@ unfolding cell_of_fields numbers
 cell-from true w0 w1 w2 w3 ws e = rw e
 cell-from false w0 w1 w2 w3 ws e = rw e
 
-dead : (b : Bool) (W : List (List ℕ)) (x : Option Cell) → x ≡ none → and_then (only b W) (λ _. x) ≡ none
+dead : (b : Bool) (W : List (List ℕ)) (x : Option Cell) → x ≡ None → and_then (only b W) (λ _. x) ≡ None
 unfolding and_then only
 dead true W x e = e
 dead false W x e = refl
 
-none_after : (o : Option (List ℕ)) → ◌≡◌ {A = Option Cell} (and_then o (λ (_ : List ℕ). none)) none
+none_after : (o : Option (List ℕ)) → ◌≡◌ {A = Option Cell} (and_then o (λ (_ : List ℕ). None)) None
 unfolding and_then
-none_after none = refl
-none_after (some ns) = refl
+none_after None = refl
+none_after (Some ns) = refl
 
-no_form : {e : ℕ} {f : Figures} {c : Cursor} → NoForm ≡ ACell e f c → ⊥
-no_form {e} {f} {c} h = let z : ◌≡◌ {A = ℕ} 0 1 = cc in omega arith
+no_form : {f : FormedLine} → None ≡ Some f → ⊥
+no_form h = let z : ◌≡◌ {A = ℕ} 0 1 = cc in omega arith
 
 -- the delays, where the right bytes stand behind them
 abbrev only_o : Bool → Option (List ℕ) → Option (List ℕ)
 only_o true o = o
-only_o false o = none
+only_o false o = None
 
 -- four of some numbers
 abbrev four_list : List ℕ → List ℕ
@@ -241,7 +236,7 @@ mins_of false ns = four_list ns
 
 -- they are four delays and the lowest ones
 abbrev Fours : Bool → Option (List ℕ) → Type 0
-Fours k o = (ns : List ℕ) → o ≡ some ns → (take 4 ns ≡ four_list ns) × ((p a : ℕ) → drop (cond k 6 2) (p ∷ a ∷ ns) ≡ mins_of k ns)
+Fours k o = (ns : List ℕ) → o ≡ Some ns → (take 4 ns ≡ four_list ns) × ((p a : ℕ) → drop (cond k 6 2) (p ∷ a ∷ ns) ≡ mins_of k ns)
 
 -- both sides fail at the first field or byte that is wrong, and else both are the cell
 module _ (k : Bool) (W : List (List ℕ)) (w : List ℕ) (e q : ℕ) where
@@ -250,51 +245,54 @@ module _ (k : Bool) (W : List (List ℕ)) (w : List ℕ) (e q : ℕ) where
   unfolding form_means and_then only line_cell
   flat false b0 v1 b1 v2 b2 v3 b3 b4 v4 l = sym (dead (b0 && (b1 && (b2 && (b3 && b4)))) W _ refl)
   flat true false v1 b1 v2 b2 v3 b3 b4 v4 l = refl
-  flat true true none b1 v2 b2 v3 b3 b4 v4 l = sym (dead (true && (b1 && (b2 && (b3 && b4)))) W _ refl)
-  flat true true (some p) false v2 b2 v3 b3 b4 v4 l = refl
-  flat true true (some p) true none b2 v3 b3 b4 v4 l = sym (dead (true && (true && (b2 && (b3 && b4)))) W _ (none_after (cons_o (some p) (cons_o v3 v4))))
-  flat true true (some p) true (some t) false v3 b3 b4 v4 l = refl
-  flat true true (some p) true (some t) true none b3 b4 v4 l = sym (dead (true && (true && (true && (b3 && b4)))) W _ refl)
-  flat true true (some p) true (some t) true (some a) false b4 v4 l = refl
-  flat true true (some p) true (some t) true (some a) true false v4 l = refl
-  flat true true (some p) true (some t) true (some a) true true none l = refl
-  flat true true (some p) true (some t) true (some a) true true (some ns) l = go (leb p 4)
+  flat true true None b1 v2 b2 v3 b3 b4 v4 l = sym (dead (true && (b1 && (b2 && (b3 && b4)))) W _ refl)
+  flat true true (Some p) false v2 b2 v3 b3 b4 v4 l = refl
+  flat true true (Some p) true None b2 v3 b3 b4 v4 l = sym (dead (true && (true && (b2 && (b3 && b4)))) W _ (none_after (cons_o (Some p) (cons_o v3 v4))))
+  flat true true (Some p) true (Some t) false v3 b3 b4 v4 l = refl
+  flat true true (Some p) true (Some t) true None b3 b4 v4 l = sym (dead (true && (true && (true && (b3 && b4)))) W _ refl)
+  flat true true (Some p) true (Some t) true (Some a) false b4 v4 l = refl
+  flat true true (Some p) true (Some t) true (Some a) true false v4 l = refl
+  flat true true (Some p) true (Some t) true (Some a) true true None l = refl
+  flat true true (Some p) true (Some t) true (Some a) true true (Some ns) l = go (leb p 4)
     where
-      by_kind : (i : Bool) → some (line_cell w (figures_by i p t a ns)) ≡ some (cell_with w p t a (four_list ns) (mins_of i ns))
+      by_kind : (i : Bool) → Some (line_cell w (figures_by i p t a ns)) ≡ Some (cell_with w p t a (four_list ns) (mins_of i ns))
       by_kind true = refl
       by_kind false = refl
 
-      go : (b : Bool) → form_means w (pick_form b (ACell e (figures_by k p t a ns) (record { at = q })) NoForm) ≡ only b (cell_with w p t a (take 4 ns) (drop (cond k 6 2) (p ∷ a ∷ ns)))
-      go true = by_kind k ∙ ap₂ (λ (ds ls : List ℕ). some (cell_with w p t a ds ls)) (sym (l ns refl).0) (sym ((l ns refl).1 p a))
+      go : (b : Bool) → form_means w (pick_form b (Some (formed e (figures_by k p t a ns) (record { at = q }))) None) ≡ only b (cell_with w p t a (take 4 ns) (drop (cond k 6 2) (p ∷ a ∷ ns)))
+      go true = by_kind k ∙ ap₂ (λ (ds ls : List ℕ). Some (cell_with w p t a ds ls)) (sym (l ns refl).0) (sym ((l ns refl).1 p a))
       go false = refl
 
   -- and what is known of the cell
-  flat-cell : (t b0 : Bool) (v1 : Option ℕ) (b1 : Bool) (v2 : Option ℕ) (b2 : Bool) (v3 : Option ℕ) (b3 b4 : Bool) (v4 : Option (List ℕ)) (e₁ : ℕ) (f : Figures) (c : Cursor)
-      → form_of k t b0 (then_o v1 b1) (then_o v2 b2) (then_o v3 b3) (only_o b4 v4) e q ≡ ACell e₁ f c
-      → (t ≡ true) × ((b0 && (b1 && (b2 && (b3 && b4)))) ≡ true) × (e₁ ≡ e) × (c.at ≡ q) × (f.pins ≤ 4)
-  flat-cell false b0 v1 b1 v2 b2 v3 b3 b4 v4 e₁ f c h = absurd (no_form h)
-  flat-cell true false v1 b1 v2 b2 v3 b3 b4 v4 e₁ f c h = absurd (no_form h)
-  flat-cell true true none b1 v2 b2 v3 b3 b4 v4 e₁ f c h = absurd (no_form h)
-  flat-cell true true (some p) false v2 b2 v3 b3 b4 v4 e₁ f c h = absurd (no_form h)
-  flat-cell true true (some p) true none b2 v3 b3 b4 v4 e₁ f c h = absurd (no_form h)
-  flat-cell true true (some p) true (some t) false v3 b3 b4 v4 e₁ f c h = absurd (no_form h)
-  flat-cell true true (some p) true (some t) true none b3 b4 v4 e₁ f c h = absurd (no_form h)
-  flat-cell true true (some p) true (some t) true (some a) false b4 v4 e₁ f c h = absurd (no_form h)
-  flat-cell true true (some p) true (some t) true (some a) true false v4 e₁ f c h = absurd (no_form h)
-  flat-cell true true (some p) true (some t) true (some a) true true none e₁ f c h = absurd (no_form h)
-  flat-cell true true (some p) true (some t) true (some a) true true (some ns) e₁ f c h = go (leb p 4) refl h
+  flat-cell : (t b0 : Bool) (v1 : Option ℕ) (b1 : Bool) (v2 : Option ℕ) (b2 : Bool) (v3 : Option ℕ) (b3 b4 : Bool) (v4 : Option (List ℕ)) (f : FormedLine)
+      → form_of k t b0 (then_o v1 b1) (then_o v2 b2) (then_o v3 b3) (only_o b4 v4) e q ≡ Some f
+      → (t ≡ true) × ((b0 && (b1 && (b2 && (b3 && b4)))) ≡ true) × (f.end ≡ e) × (f.next.at ≡ q) × (f.figures.pins ≤ 4)
+  flat-cell false b0 v1 b1 v2 b2 v3 b3 b4 v4 f h = absurd (no_form h)
+  flat-cell true false v1 b1 v2 b2 v3 b3 b4 v4 f h = absurd (no_form h)
+  flat-cell true true None b1 v2 b2 v3 b3 b4 v4 f h = absurd (no_form h)
+  flat-cell true true (Some p) false v2 b2 v3 b3 b4 v4 f h = absurd (no_form h)
+  flat-cell true true (Some p) true None b2 v3 b3 b4 v4 f h = absurd (no_form h)
+  flat-cell true true (Some p) true (Some t) false v3 b3 b4 v4 f h = absurd (no_form h)
+  flat-cell true true (Some p) true (Some t) true None b3 b4 v4 f h = absurd (no_form h)
+  flat-cell true true (Some p) true (Some t) true (Some a) false b4 v4 f h = absurd (no_form h)
+  flat-cell true true (Some p) true (Some t) true (Some a) true false v4 f h = absurd (no_form h)
+  flat-cell true true (Some p) true (Some t) true (Some a) true true None f h = absurd (no_form h)
+  flat-cell true true (Some p) true (Some t) true (Some a) true true (Some ns) f h = go (leb p 4) refl h
     where
       kind-pins : (i : Bool) → (figures_by i p t a ns).pins ≡ p
       kind-pins true = refl
       kind-pins false = refl
 
-      go : (b : Bool) → leb p 4 ≡ b → pick_form b (ACell e (figures_by k p t a ns) (record { at = q })) NoForm ≡ ACell e₁ f c
-          → (true ≡ true) × (true ≡ true) × (e₁ ≡ e) × (c.at ≡ q) × (f.pins ≤ 4)
+      go : (b : Bool) → leb p 4 ≡ b → pick_form b (Some (formed e (figures_by k p t a ns) (record { at = q }))) None ≡ Some f
+          → (true ≡ true) × (true ≡ true) × (f.end ≡ e) × (f.next.at ≡ q) × (f.figures.pins ≤ 4)
       go true i r =
-          let x : e ≡ e₁ = cc in
-          let y : ◌≡◌ {A = Figures} (figures_by k p t a ns) f = cc in
-          let z : ◌≡◌ {A = Cursor} (record { at = q }) c = cc in
-          (refl, refl, sym x, sym (ap (λ (d : Cursor). d.at) z), omega (arith, leb-true p 4 i, kind-pins k, ap (λ (g : Figures). g.pins) y))
+          let x : formed e (figures_by k p t a ns) (record { at = q }) ≡ f = cc in (
+            refl,
+            refl,
+            sym (ap (λ (g : FormedLine). g.end) x),
+            sym (ap (λ (g : FormedLine). g.next.at) x),
+            omega (arith, leb-true p 4 i, kind-pins k, ap (λ (g : FormedLine). g.figures.pins) x),
+          )
       go false i r = absurd (no_form r)
 
 -- ---- the line
@@ -310,8 +308,8 @@ long k ws = go (eqb (length ws) (cond k 12 8)) refl
 
 long_then : (k : Bool) (o : Option (List (List ℕ))) → and_then o (cell_of_fields k) ≡ and_then (and_then o (of_length (cond k 12 8))) (cell_of_fields k)
 unfolding and_then
-long_then k none = refl
-long_then k (some ws) = long k ws
+long_then k None = refl
+long_then k (Some ws) = long k ws
 
 then_const : (k b : Bool) (W : List (List ℕ)) → and_then (only b W) (cell_of_fields k) ≡ and_then (only b W) (λ _. cell_of_fields k W)
 unfolding and_then only
@@ -326,15 +324,15 @@ abbrev behind : List ℕ → ℕ → ℕ → ℕ → Bool
 behind s q k b = is_byte s (end_at s (nth s q k)) b
 
 -- as many numbers as fields
-numbers-long : (ws : List (List ℕ)) (ns : List ℕ) → numbers ws ≡ some ns → length ns ≡ length ws
+numbers-long : (ws : List (List ℕ)) (ns : List ℕ) → numbers ws ≡ Some ns → length ns ≡ length ws
 unfolding numbers and_then
 numbers-long [] ns e = let q : ◌≡◌ {A = List ℕ} [] ns = cc in ap length (sym q)
 numbers-long (w ∷ ws) ns e = go (number w) (numbers ws) (numbers-long ws) e
   where
-    go : (o : Option ℕ) (r : Option (List ℕ)) → ((ms : List ℕ) → r ≡ some ms → length ms ≡ length ws) → cons_o o r ≡ some ns → length ns ≡ suc (length ws)
-    go none r more q = let z : ◌≡◌ {A = ℕ} 0 1 = cc in absurd (omega arith)
-    go (some n) none more q = let z : ◌≡◌ {A = ℕ} 0 1 = cc in absurd (omega arith)
-    go (some n) (some ms) more q = let i : n ∷ ms ≡ ns = cc in ap length (sym i) ∙ ap suc (more ms refl)
+    go : (o : Option ℕ) (r : Option (List ℕ)) → ((ms : List ℕ) → r ≡ Some ms → length ms ≡ length ws) → cons_o o r ≡ Some ns → length ns ≡ suc (length ws)
+    go None r more q = let z : ◌≡◌ {A = ℕ} 0 1 = cc in absurd (omega arith)
+    go (Some n) None more q = let z : ◌≡◌ {A = ℕ} 0 1 = cc in absurd (omega arith)
+    go (Some n) (Some ms) more q = let i : n ∷ ms ≡ ns = cc in ap length (sym i) ∙ ap suc (more ms refl)
 
 -- the delays as the model reads them
 then_numbers : (b : Bool) (ws : List (List ℕ)) → and_then (only b ws) numbers ≡ only_o b (numbers ws)
@@ -419,8 +417,8 @@ module _ (k : Bool) (s : List ℕ) (q : ℕ) where
       ∙ sym (flat k (words_at (whole_of k) s q) (word_at s q) (end_at s q) (after_at (last_of k) s (nth s q 4)) (is_name (word_at s q)) (is_byte s (end_at s q) 32) (figure s q 1) (behind s q 1 32) (hex_table (word_at s (nth s q 2))) (behind s q 2 32) (figure s q 3) (behind s q 3 32) (seps_at (last_of k) s (nth s q 4)) (numbers last-words) delays-four)
       ∙ ap (form_means (word_at s q)) (sym form_found)
 
-  pub form_cell : (e : ℕ) (f : Figures) (c : Cursor) → form_at k s q ≡ ACell e f c
-      → (is_name (word_at s q) ≡ true) × (seps_at (whole_of k) s q ≡ true) × (e ≡ end_at s q) × (c.at ≡ after_at (whole_of k) s q) × (f.pins ≤ 4)
+  pub form_cell : (f : FormedLine) → form_at k s q ≡ Some f
+      → (is_name (word_at s q) ≡ true) × (seps_at (whole_of k) s q ≡ true) × (f.end ≡ end_at s q) × (f.next.at ≡ after_at (whole_of k) s q) × (f.figures.pins ≤ 4)
   unfolding seps_at after_at
-  form_cell e f c h =
-      flat-cell k (words_at (whole_of k) s q) (word_at s q) (end_at s q) (after_at (last_of k) s (nth s q 4)) (is_name (word_at s q)) (is_byte s (end_at s q) 32) (figure s q 1) (behind s q 1 32) (hex_table (word_at s (nth s q 2))) (behind s q 2 32) (figure s q 3) (behind s q 3 32) (seps_at (last_of k) s (nth s q 4)) (numbers last-words) e f c (sym form_found ∙ h)
+  form_cell f h =
+      flat-cell k (words_at (whole_of k) s q) (word_at s q) (end_at s q) (after_at (last_of k) s (nth s q 4)) (is_name (word_at s q)) (is_byte s (end_at s q) 32) (figure s q 1) (behind s q 1 32) (hex_table (word_at s (nth s q 2))) (behind s q 2 32) (figure s q 3) (behind s q 3 32) (seps_at (last_of k) s (nth s q 4)) (numbers last-words) f (sym form_found ∙ h)

@@ -5,13 +5,13 @@
 
 ghost use Rattle.std.specs.Prelude.{◌≡◌, ◌+◌, ◌^◌, ◌≤◌, ◌<◌};
 ghost use Rattle.base.specs.{[], length, take, drop, get_or};
-ghost use Rattle.model.specs.{same, lines_from, fault, refusal_of, verdict_refusal, no_cell, library_of, library_answer, is_clean, no_lower};
+ghost use Rattle.model.specs.{same, lines_from, refusal_of, verdict_refusal, no_cell, library_of, library_answer, is_clean, no_lower};
 ghost use Rattle.model.specs.{read_cells, read_library, is_ranged};
 ghost use Rattle.cells_reader.specs.{delay_at, delays_at, ranges_at, figures_at, form_at, figures_validated, validated_at, line_cell};
 ghost use Rattle.cells_reader.specs.{added, is_repeated, delay_ok, delays_ok};
 
-use base_text::{Cursor, Number, Step};
-use model::{Cell, Library, LibraryAnswer, Verdict};
+use base_text::Cursor;
+use model::{Cell, Library, Refusal};
 
 // The delays of pins 0 to 3.
 #[derive(Clone, Copy)]
@@ -32,37 +32,18 @@ pub struct Figures {
     pub mins: Delays,
 }
 
-#[derive(Clone, Copy)]
-pub enum Four {
-    Read(Delays, Cursor),
-    Broken,
-}
-
-// The delays, then the lowest delays.
-#[derive(Clone, Copy)]
-pub enum Ranges {
-    Both(Delays, Delays, Cursor),
-    Broken,
-}
-
 // A cell line that has its form: where its name ends, its figures, and the next line.
 #[derive(Clone, Copy)]
-pub enum Form {
-    Cell(usize, Figures, Cursor),
-    Broken,
-}
-
-// The same, or the number of the line's refusal.
-#[derive(Clone, Copy)]
-pub enum Validated {
-    Cell(usize, Figures, Cursor),
-    Refused(usize),
+pub struct FormedLine {
+    pub end: usize,
+    pub figures: Figures,
+    pub next: Cursor,
 }
 
 // ---- the form of a cell line
 
 // A delay and what must stand behind it: the line's end behind the last of a line, a space behind any other.
-fn read_delay(c: Cursor, s: &[u8], last: bool) -> Number
+fn read_delay(c: Cursor, s: &[u8], last: bool) -> Option<(u16, Cursor)>
     ensures { result ≡ delay_at last s.now c.at }
 {
     if last {
@@ -72,84 +53,57 @@ fn read_delay(c: Cursor, s: &[u8], last: bool) -> Number
 }
 
 // Four delays, the last of their line or not.
-fn read_delays(c: Cursor, s: &[u8], last: bool) -> Four
+fn read_delays(c: Cursor, s: &[u8], last: bool) -> Option<(Delays, Cursor)>
     ensures { result ≡ delays_at last s.now c.at }
 {
-    match c.number_then(s, 32) {
-        Number::Value(d0, c0) => match c0.number_then(s, 32) {
-            Number::Value(d1, c1) => match c1.number_then(s, 32) {
-                Number::Value(d2, c2) => match read_delay(c2, s, last) {
-                    Number::Value(d3, c3) => Four::Read(Delays { d0, d1, d2, d3 }, c3),
-                    Number::Broken => Four::Broken,
-                },
-                Number::Broken => Four::Broken,
-            },
-            Number::Broken => Four::Broken,
-        },
-        Number::Broken => Four::Broken,
-    }
+    let (d0, c0) = c.number_then(s, 32)?;
+    let (d1, c1) = c0.number_then(s, 32)?;
+    let (d2, c2) = c1.number_then(s, 32)?;
+    let (d3, c3) = read_delay(c2, s, last)?;
+    Some((Delays { d0, d1, d2, d3 }, c3))
 }
 
-// `d0 d1 d2 d3 l0 l1 l2 l3` and the end of the line; without ranges `d0 d1 d2 d3`, and a pin's lowest delay is its delay.
-fn read_ranges(c: Cursor, s: &[u8], ranged: bool) -> Ranges
+// `d0 d1 d2 d3 l0 l1 l2 l3` and the end of the line: the delays, then the lowest delays; without ranges `d0 d1 d2 d3`, and a pin's lowest delay is its
+// delay.
+fn read_ranges(c: Cursor, s: &[u8], ranged: bool) -> Option<(Delays, Delays, Cursor)>
     ensures { result ≡ ranges_at ranged s.now c.at }
 {
-    match read_delays(c, s, !ranged) {
-        Four::Read(delays, c0) => {
-            if !ranged {
-                return Ranges::Both(delays, delays, c0);
-            }
-            match read_delays(c0, s, true) {
-                Four::Read(mins, c1) => Ranges::Both(delays, mins, c1),
-                Four::Broken => Ranges::Broken,
-            }
-        }
-        Four::Broken => Ranges::Broken,
+    let (delays, c0) = read_delays(c, s, !ranged)?;
+    if !ranged {
+        return Some((delays, delays, c0));
     }
+    let (mins, c1) = read_delays(c0, s, true)?;
+    Some((delays, mins, c1))
 }
 
 // `pins table area` and the delays behind a name that ends at `end`. "Pins: 0 to 4."
-fn read_figures(end: usize, c: Cursor, s: &[u8], ranged: bool) -> Form
+fn read_figures(end: usize, c: Cursor, s: &[u8], ranged: bool) -> Option<FormedLine>
     ensures { result ≡ figures_at ranged end s.now c.at }
 {
-    match c.number_then(s, 32) {
-        Number::Value(pins, c0) => match c0.table_then(s, 32) {
-            Number::Value(table, c1) => match c1.number_then(s, 32) {
-                Number::Value(area, c2) => match read_ranges(c2, s, ranged) {
-                    Ranges::Both(delays, mins, c3) => {
-                        if pins > 4 {
-                            return Form::Broken;
-                        }
-                        let f = Figures {
-                            pins,
-                            table,
-                            area,
-                            delays,
-                            mins,
-                        };
-                        Form::Cell(end, f, c3)
-                    }
-                    Ranges::Broken => Form::Broken,
-                },
-                Number::Broken => Form::Broken,
-            },
-            Number::Broken => Form::Broken,
-        },
-        Number::Broken => Form::Broken,
+    let (pins, c0) = c.number_then(s, 32)?;
+    let (table, c1) = c0.table_then(s, 32)?;
+    let (area, c2) = c1.number_then(s, 32)?;
+    let (delays, mins, next) = read_ranges(c2, s, ranged)?;
+    if pins > 4 {
+        return None;
     }
+    let figures = Figures {
+        pins,
+        table,
+        area,
+        delays,
+        mins,
+    };
+    Some(FormedLine { end, figures, next })
 }
 
 // A cell line of eight fields, or of twelve under the longer names line.
-fn read_form(c: Cursor, s: &[u8], ranged: bool) -> Form
+fn read_form(c: Cursor, s: &[u8], ranged: bool) -> Option<FormedLine>
     ensures { result ≡ form_at ranged s.now c.at }
 {
-    match c.name(s) {
-        Step::To(n) => match n.byte(s, 32) {
-            Step::To(c0) => read_figures(n.at, c0, s, ranged),
-            Step::Broken => Form::Broken,
-        },
-        Step::Broken => Form::Broken,
-    }
+    let name = c.name(s)?;
+    let behind = name.byte(s, 32)?;
+    read_figures(name.at, behind, s, ranged)
 }
 
 // ---- what a cell line must not say
@@ -159,7 +113,7 @@ fn limit(pins: u16) -> u32
     requires { pins ≤ 4 }
     ensures { result ≡ 2 ^ 2 ^ pins }
 {
-    1u32 << (1u32 << (pins as u32))
+    1u32 << (1u32 << pins)
 }
 
 // Pin j is there, or its delay is 0.
@@ -183,7 +137,7 @@ fn is_clean(f: Figures) -> bool
 {
     let delays = f.delays;
     let mins = f.mins;
-    limit(f.pins) > f.table as u32 && (delays_ok(f.pins, delays) && delays_ok(f.pins, mins))
+    limit(f.pins) > u32::from(f.table) && (delays_ok(f.pins, delays) && delays_ok(f.pins, mins))
 }
 
 // No "lowest delay exceeds its `d`".
@@ -196,17 +150,17 @@ fn in_range(f: Figures) -> bool
 }
 
 // A cell line that has its form and a name of its own: 6, and 27 "after 6 on its line".
-fn validate_figures(end: usize, f: Figures, next: Cursor) -> Validated
-    requires { f.pins ≤ 4 }
-    ensures { result ≡ figures_validated end f next }
+fn validate_figures(line: FormedLine) -> Result<FormedLine, usize>
+    requires { line.figures.pins ≤ 4 }
+    ensures { result ≡ figures_validated line }
 {
-    if !is_clean(f) {
-        return Validated::Refused(6);
+    if !is_clean(line.figures) {
+        return Err(6);
     }
-    if !in_range(f) {
-        return Validated::Refused(27);
+    if !in_range(line.figures) {
+        return Err(27);
     }
-    Validated::Cell(end, f, next)
+    Ok(line)
 }
 
 // ---- names
@@ -215,8 +169,7 @@ fn validate_figures(end: usize, f: Figures, next: Cursor) -> Validated
 pub fn name_is(name: [u8; 8], len: usize, w: &[u8]) -> bool
     ensures { result ≡ same w.now (take len name) }
 {
-    let n = if len < 8 { len } else { 8 };
-    base_text::same_bytes(w, &name[..n])
+    base_text::same_bytes(w, &name[..len.min(8)])
 }
 
 // "A cell name is repeated."
@@ -224,15 +177,11 @@ fn repeated(lib: Library, w: &[u8]) -> bool
     requires { lib.n ≤ 32 }
     ensures { result ≡ is_repeated w.now lib.cells lib.n }
 {
-    let n = lib.n;
-    let mut i = 0;
-    while i < n {
+    for i in 0..lib.n {
         let c = lib.cells[i];
-        let name = c.name;
-        if name_is(name, c.len, w) {
+        if name_is(c.name, c.len, w) {
             return true;
         }
-        i += 1;
     }
     false
 }
@@ -281,59 +230,49 @@ fn add(mut lib: Library, c: Cell) -> Library
     lib
 }
 
-fn refused(number: usize, place: usize) -> LibraryAnswer
-    ensures { result ≡ library_answer (fault number place) }
-{
-    let library = empty();
-    let verdict = Verdict::Refused(number, place);
-    LibraryAnswer { verdict, library }
-}
-
 // ---- the lines
 
-// One cell line: 3, 4, 5, 6 and 27 in this order.
-fn validate(lib: Library, s: &[u8], at: usize, ranged: bool) -> Validated
+// One cell line, or the number of its refusal: 3, 4, 5, 6 and 27 in this order.
+fn validate(lib: Library, s: &[u8], at: usize, ranged: bool) -> Result<FormedLine, usize>
     requires { (lib.n ≤ 32) × (at < length s.now) }
     ensures { result ≡ validated_at ranged lib s.now at }
 {
     if lib.n >= 32 {
-        return Validated::Refused(3);
+        return Err(3);
     }
-    match read_form(Cursor { at }, s, ranged) {
-        Form::Cell(end, f, next) => {
-            if repeated(lib, &s[at..end]) {
-                return Validated::Refused(5);
-            }
-            validate_figures(end, f, next)
-        }
-        Form::Broken => Validated::Refused(4),
+    let Some(line) = read_form(Cursor { at }, s, ranged) else {
+        return Err(4);
+    };
+    if repeated(lib, &s[at..line.end]) {
+        return Err(5);
     }
+    validate_figures(line)
 }
 
 // The cell lines from a place on.
-fn cells(s: &[u8], from: usize, ranged: bool) -> LibraryAnswer
+fn cells(s: &[u8], from: usize, ranged: bool) -> Result<Library, Refusal>
     ensures { result ≡ library_answer (read_cells ranged 0 [] (lines_from from [] (drop from s.now))) }
 {
     let mut library = empty();
     let mut at = from;
+    // Stays: the step is a line's length, not one.
     while at < s.len() {
         match validate(library, s, at, ranged) {
-            Validated::Cell(end, f, next) => {
-                let c = cell_of(&s[at..end], f);
+            Ok(line) => {
+                let c = cell_of(&s[at..line.end], line.figures);
                 library = add(library, c);
-                at = next.at;
+                at = line.next.at;
             }
-            Validated::Refused(number) => return refused(number, at),
+            Err(number) => return Err(Refusal { number, place: at }),
         }
     }
-    let verdict = Verdict::Accepted;
-    LibraryAnswer { verdict, library }
+    Ok(library)
 }
 
 // The cells of a library's text, or the first refusal of 2 to 6 and 27: "2 takes either names line".
-pub fn read(s: &[u8]) -> LibraryAnswer
+pub fn read(s: &[u8]) -> Result<Library, Refusal>
     ensures answer { result ≡ library_answer (read_library s.now) }
-    ensures refusal { verdict_refusal result.verdict ≡ refusal_of (read_library s.now) }
+    ensures refusal { verdict_refusal result ≡ refusal_of (read_library s.now) }
 {
     let first = base_text::line(s, 0);
     if base_text::first_is(s, first, b"cell pins table area d0 d1 d2 d3") {
@@ -342,7 +281,10 @@ pub fn read(s: &[u8]) -> LibraryAnswer
     if base_text::first_is(s, first, b"cell pins table area d0 d1 d2 d3 l0 l1 l2 l3") {
         return cells(s, first.next, true);
     }
-    refused(2, 0)
+    Err(Refusal {
+        number: 2,
+        place: 0,
+    })
 }
 
 // Whether a library's text "has `l0` to `l3`": only such a one brings timing lines.

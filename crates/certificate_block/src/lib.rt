@@ -4,44 +4,32 @@
 ghost use Rattle.std.specs.Prelude.{◌≡◌, ◌*◌, ◌≤◌};
 ghost use Rattle.base.specs.{length, take};
 ghost use Rattle.certificate_model.specs.{fed_at, lit_table};
-ghost use Rattle.certificate_facts.specs.{found, rows_in};
-ghost use Rattle.certificate_block.specs.{table_of};
+ghost use Rattle.certificate_facts.specs.{rows_in};
 
-use certificate_facts::Found;
 use certificate_model::Row;
 
-// A literal's table, where its slot has its variable.
-#[derive(Clone, Copy)]
-pub enum Table {
-    Is(u32),
-    Nothing,
-}
-
-// The table of literal l, whose variable is in slot i of the first `count`.
-pub fn literal(vars: &[u32], count: usize, i: usize, l: u32) -> Table
+// The table of literal l, whose variable is in slot i of the first `count`, where the slot has its variable.
+pub fn literal(vars: &[u32], count: usize, i: usize, l: u32) -> Option<u32>
     requires { 4 * count ≤ length vars.now }
-    ensures { result ≡ table_of (lit_table (take count (rows_in vars.now)) i l) }
+    ensures { result ≡ lit_table (take count (rows_in vars.now)) i l }
 {
-    let slot = certificate_facts::find(vars, count, i);
-    let Found::At(x) = slot else {
-        return Table::Nothing;
-    };
+    let x = certificate_facts::find(vars, count, i)?;
     if x.a == l / 2 {
-        let t = certificate_tables::phase(l % 2 == 1, x.b);
-        return Table::Is(t);
+        Some(certificate_tables::phase(l % 2 == 1, x.b))
+    } else {
+        None
     }
-    Table::Nothing
 }
 
 // The row of pin j's net, which is in slot i of the first `count`; zeros where the cell has no such pin.
-pub fn fed(nets: &[u32], count: usize, pins: u16, j: u16, i: usize) -> Found
+pub fn fed(nets: &[u32], count: usize, pins: u16, j: u16, i: usize) -> Option<Row>
     requires { 4 * count ≤ length nets.now }
-    ensures { result ≡ found (fed_at (take count (rows_in nets.now)) pins j i) }
+    ensures { result ≡ fed_at (take count (rows_in nets.now)) pins j i }
 {
     if j < pins {
         return certificate_facts::find(nets, count, i);
     }
-    Found::At(Row {
+    Some(Row {
         a: 0,
         b: 0,
         c: 0,

@@ -1,10 +1,9 @@
 -- A row read from the words that hold it, and written there.
-use Rattle.base.specs.{ℕ, zero, suc, ◌+◌, ◌*◌, ◌≤◌, ◌<◌, arith, suc-add, ◌≡◌, refl, ◌∙◌, ap, Bool, List, [], ◌∷◌, length, get_or, set, take, ltb, length-take-le, get_or-take, lt-ltb, le-ltb}
+use Rattle.base.specs.{Some, None, ℕ, zero, suc, ◌+◌, ◌*◌, ◌≤◌, ◌<◌, arith, suc-add, ◌≡◌, refl, ◌∙◌, ap, Bool, List, [], ◌∷◌, length, get_or, set, take, ltb, length-take-le, get_or-take, lt-ltb, le-ltb}
 use Rattle.model.specs.{only}
 use Rattle.certificate_model.specs.{at, no_row}
 use Rattle.certificate_model.specs.declared.Row.{Row}
-use Rattle.certificate_facts.specs.{found, rows_in}
-use Rattle.certificate_facts.specs.declared.Found.TheVariants.{At, Nothing}
+use Rattle.certificate_facts.specs.{rows_in}
 
 abbrev row_at : List ℕ → ℕ → Row
 row_at ws k = record { a = get_or ws k 0; b = get_or ws (k + 1) 0; c = get_or ws (k + 2) 0; d = get_or ws (k + 3) 0 }
@@ -51,14 +50,15 @@ long (a ∷ b ∷ c ∷ d ∷ ws) (suc n) h =
     let r : n ≤ length (rows_in ws) = long ws n (let q : 4 * suc n ≤ suc (suc (suc (suc (length ws)))) = h in omega arith) in omega arith
 
 -- a look-up among the first rows
-pub find_at : (ws : List ℕ) (n i : ℕ) → 4 * n ≤ length ws → i < n → found (at (take n (rows_in ws)) i) ≡ At (get_or (rows_in ws) i no_row)
-unfolding at only found
+pub find_at : (ws : List ℕ) (n i : ℕ) → 4 * n ≤ length ws → i < n → at (take n (rows_in ws)) i ≡ Some (get_or (rows_in ws) i no_row)
+unfolding at only
 find_at ws n i h l =
     let k : length (take n (rows_in ws)) ≡ n = length-take-le n (rows_in ws) (long ws n h) in
-    ap (λ (b : Bool). found (only b (get_or (take n (rows_in ws)) i no_row))) (ap (ltb i) k ∙ lt-ltb i n l) ∙ ap At (get_or-take n (rows_in ws) i no_row l)
+    let e : get_or (take n (rows_in ws)) i no_row ≡ get_or (rows_in ws) i no_row = get_or-take n (rows_in ws) i no_row l in
+    ap (λ (b : Bool). only b (get_or (take n (rows_in ws)) i no_row)) (ap (ltb i) k ∙ lt-ltb i n l) ∙ ap (λ (x : Row). Some x) e
 
-pub find_none : (ws : List ℕ) (n i : ℕ) → 4 * n ≤ length ws → n ≤ i → found (at (take n (rows_in ws)) i) ≡ Nothing
-unfolding at only found
+pub find_none : (ws : List ℕ) (n i : ℕ) → 4 * n ≤ length ws → n ≤ i → at (take n (rows_in ws)) i ≡ None
+unfolding at only
 find_none ws n i h l =
     let k : length (take n (rows_in ws)) ≡ n = length-take-le n (rows_in ws) (long ws n h) in
-    ap (λ (b : Bool). found (only b (get_or (take n (rows_in ws)) i no_row))) (ap (ltb i) k ∙ le-ltb i n l)
+    ap (λ (b : Bool). only b (get_or (take n (rows_in ws)) i no_row)) (ap (ltb i) k ∙ le-ltb i n l)

@@ -1,3 +1,3 @@
 -- `FactRows`: the rows that lent words hold.
 pub mod FactRows
-unfoldable pub use FactRows.{found, rows_in}
+unfoldable pub use FactRows.{rows_in}

@@ -4,16 +4,9 @@
 ghost use Rattle.std.specs.Prelude.{◌≡◌, ◌+◌, ◌*◌, ◌≤◌, ◌<◌, ◌++◌, ◌∷◌};
 ghost use Rattle.base.specs.{[], length, get_or, set, take};
 ghost use Rattle.certificate_model.specs.{at, no_row};
-ghost use Rattle.certificate_facts.specs.{found, rows_in};
+ghost use Rattle.certificate_facts.specs.{rows_in};
 
 use certificate_model::Row;
-
-// The row of a number, where there is one.
-#[derive(Clone, Copy)]
-pub enum Found {
-    At(Row),
-    Nothing,
-}
 
 // Row number i of the words.
 fn load(words: &[u32], i: usize) -> Row
@@ -21,15 +14,11 @@ fn load(words: &[u32], i: usize) -> Row
     ensures { result ≡ get_or (rows_in words.now) i no_row }
 {
     let k = 4 * i;
-    let a = words[k];
-    let b = words[k + 1];
-    let c = words[k + 2];
-    let d = words[k + 3];
     Row {
-        a: a,
-        b: b,
-        c: c,
-        d: d,
+        a: words[k],
+        b: words[k + 1],
+        c: words[k + 2],
+        d: words[k + 3],
     }
 }
 
@@ -45,16 +34,16 @@ fn store(words: &mut [u32], i: usize, x: Row)
     words[k + 3] = x.d;
 }
 
-// Row number i of the first `count`.
-pub fn find(words: &[u32], count: usize, i: usize) -> Found
+// Row number i of the first `count`, where there is one.
+pub fn find(words: &[u32], count: usize, i: usize) -> Option<Row>
     requires { 4 * count ≤ length words.now }
-    ensures { result ≡ found (at (take count (rows_in words.now)) i) }
+    ensures { result ≡ at (take count (rows_in words.now)) i }
 {
     if i < count {
-        let x = load(words, i);
-        return Found::At(x);
+        Some(load(words, i))
+    } else {
+        None
     }
-    Found::Nothing
 }
 
 // A row behind the first `count`.

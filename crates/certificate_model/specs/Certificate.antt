@@ -10,7 +10,7 @@
 -- A net is a number, named as phases are: numbers up to 2M+1 are the graph's literals, and any above may be taken too. The certificate comes from outside, and
 -- nothing of it is believed. Every look-up is by a number that it gives, so no move searches. Nothing here depends on the size of the graph.
 use Rattle.std.specs.Prelude.{◌&&◌, ◌∷◌, ◌++◌}
-use Rattle.base.specs.{ℕ, suc, Bool, true, false, cond, Option, none, some, List, [], map, eqb, ltb, leb}
+use Rattle.base.specs.{ℕ, suc, Bool, true, false, cond, Option, None, Some, List, [], map, eqb, ltb, leb}
 use Rattle.base.specs.{length, get_or, set, take, replicate}
 use Rattle.model.specs.{bit, flip, and_then, only, text, decimal, value, row_of, tabulate, cell_at, And, var_of, negated, literal, latest, Gate, of_phase, out_name, netlist_text, sum}
 use Rattle.model.specs.{largest}
@@ -112,7 +112,7 @@ lit_table vars i l = and_then (at vars i) (λ e. only (eqb e.a (var_of l)) (phas
 -- the row of the net of pin j, which is in slot i; no row where the cell has no such pin
 unfoldable pub fed_at : List Row → ℕ → ℕ → ℕ → Option Row
 unfolding at
-fed_at nets pins j i = cond (ltb j pins) (at nets i) (some no_row)
+fed_at nets pins j i = cond (ltb j pins) (at nets i) (Some no_row)
 
 -- of all four pins
 unfoldable pub feed_rows : List Row → ℕ → Row → Option Feed
@@ -122,7 +122,7 @@ feed_rows nets pins slots =
     and_then (fed_at nets pins 1 slots.b) (λ q.
     and_then (fed_at nets pins 2 slots.c) (λ r.
     and_then (fed_at nets pins 3 slots.d) (λ t.
-    some (record { first = p; second = q; third = r; fourth = t })))))
+    Some (record { first = p; second = q; third = r; fourth = t })))))
 
 -- what a field of the pins' rows says, of as many as the cell has pins
 unfoldable pub pin_nets : ℕ → Row → List ℕ
@@ -156,25 +156,25 @@ gate_row c n f =
 unfoldable pub push_var : State → ℕ → ℕ → Option State
 unfolding and_then push row
 push_var s u t = and_then (push 64 s.vars (row u t 0 0)) (λ vs.
-    some (record { vars = vs; nets = s.nets; facts = s.facts; equals = s.equals; gates = s.gates; driven = s.driven }))
+    Some (record { vars = vs; nets = s.nets; facts = s.facts; equals = s.equals; gates = s.gates; driven = s.driven }))
 
 -- a net has a table and arrivals
 unfoldable pub push_net : State → Row → Option State
 unfolding and_then push
 push_net s e = and_then (push 64 s.nets e) (λ ns.
-    some (record { vars = s.vars; nets = ns; facts = s.facts; equals = s.equals; gates = s.gates; driven = s.driven }))
+    Some (record { vars = s.vars; nets = ns; facts = s.facts; equals = s.equals; gates = s.gates; driven = s.driven }))
 
 -- a net is known to be a literal
 unfoldable pub push_fact : HasCapacity → State → Row → Option State
 unfolding and_then push
 push_fact capacity s e = and_then (push capacity.facts s.facts e) (λ fs.
-    some (record { vars = s.vars; nets = s.nets; facts = fs; equals = s.equals; gates = s.gates; driven = s.driven }))
+    Some (record { vars = s.vars; nets = s.nets; facts = fs; equals = s.equals; gates = s.gates; driven = s.driven }))
 
 -- a variable is known to be a literal
 unfoldable pub push_equal : HasCapacity → State → Row → Option State
 unfolding and_then push
 push_equal capacity s e = and_then (push capacity.equals s.equals e) (λ es.
-    some (record { vars = s.vars; nets = s.nets; facts = s.facts; equals = es; gates = s.gates; driven = s.driven }))
+    Some (record { vars = s.vars; nets = s.nets; facts = s.facts; equals = es; gates = s.gates; driven = s.driven }))
 
 -- a gate as it is kept
 unfoldable pub made_of : ℕ → ℕ → Feed → Made
@@ -198,7 +198,7 @@ and_at xs i = only (ltb i (length xs)) (get_or xs i (record { var = 0; left = 0;
 unfoldable pub move : HasCapacity → List Cell → Graph → State → Move → Option State
 unfolding and_then only row at lit_table and_at gate_at feed_rows feed_pins gate_row block_vars conj push_var push_net push_fact push_equal with_gate made_of same_row cell_at
 move capacity cells g s (block x) =
-    some (record { vars = block_vars x; nets = []; facts = s.facts; equals = s.equals; gates = s.gates; driven = s.driven })
+    Some (record { vars = block_vars x; nets = []; facts = s.facts; equals = s.equals; gates = s.gates; driven = s.driven })
 move capacity cells g s (and i j k) =
     and_then (and_at g.ands i) (λ x.
     and_then (lit_table s.vars j x.left) (λ t.
@@ -227,7 +227,7 @@ move capacity cells g s (fold i j l) =
 -- all moves; nothing where one cannot be made
 unfoldable pub run : HasCapacity → List Cell → Graph → State → List Move → Option State
 unfolding and_then move
-run capacity cells g s [] = some s
+run capacity cells g s [] = Some s
 run capacity cells g s (m ∷ ms) = and_then (move capacity cells g s m) (λ t. run capacity cells g t ms)
 
 -- ---- the start: the inputs' own nets are driven, and known
@@ -243,7 +243,7 @@ with_input capacity input_arrival s u =
 -- the inputs of a list, one after the other
 unfoldable pub started : HasCapacity → (ℕ → ℕ) → State → List ℕ → Option State
 unfolding and_then with_input
-started capacity input_arrival s [] = some s
+started capacity input_arrival s [] = Some s
 started capacity input_arrival s (u ∷ us) = and_then (with_input capacity input_arrival s u) (λ t. started capacity input_arrival t us)
 
 -- nothing is known, and none of so many nets is driven
@@ -260,10 +260,10 @@ out_row facts i l = and_then (at facts i) (λ e. only (eqb e.b l) e)
 -- of all outputs, in order
 unfoldable pub out_rows : List Row → List ℕ → List ℕ → Option (List Row)
 unfolding and_then out_row
-out_rows facts [] [] = some []
-out_rows facts [] (l ∷ ls) = none
-out_rows facts (i ∷ is) [] = none
-out_rows facts (i ∷ is) (l ∷ ls) = and_then (out_row facts i l) (λ e. and_then (out_rows facts is ls) (λ es. some (e ∷ es)))
+out_rows facts [] [] = Some []
+out_rows facts [] (l ∷ ls) = None
+out_rows facts (i ∷ is) [] = None
+out_rows facts (i ∷ is) (l ∷ ls) = and_then (out_row facts i l) (λ e. and_then (out_rows facts is ls) (λ es. Some (e ∷ es)))
 
 -- the gates in order, and the rows of the outputs' nets
 pub record Outcome : Type 0 where
@@ -276,7 +276,7 @@ unfolding and_then start started run out_rows
 certify nets capacity cells g ms is =
     and_then (started capacity g.input_arrival (start nets) g.inputs) (λ s.
     and_then (run capacity cells g s ms) (λ t.
-    and_then (out_rows t.facts is g.outputs) (λ es. some (record { gates = t.gates; outs = es }))))
+    and_then (out_rows t.facts is g.outputs) (λ es. Some (record { gates = t.gates; outs = es }))))
 
 -- ---- what is printed of it
 

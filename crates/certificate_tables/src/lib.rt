@@ -9,6 +9,7 @@ ghost use Rattle.certificate_model.specs.{conj, gate_table, phased, pin_nets};
 use certificate_model::Row;
 
 // Row r of a table.
+// Stays: base_truth and check_outputs read a bit of a u16 and of a u64 so; a trait over the three widths would be longer than the three lines.
 fn bit(t: u32, r: usize) -> bool
     requires { r < 16 }
     ensures { result ≡ bit t r }
@@ -36,7 +37,7 @@ fn with_bit(b: bool, n: u32) -> u32
     requires { n < 32768 }
     ensures { result ≡ one b + 2 * n }
 {
-    if b { 1 + 2 * n } else { 2 * n }
+    u32::from(b) + 2 * n
 }
 
 // The values of four tables in row r, the first lowest.
@@ -50,18 +51,12 @@ fn bits(ts: Row, r: usize) -> u32
     with_bit(bit(ts.a, r), b)
 }
 
-fn wide(x: u32) -> usize
-    ensures { result ≡ x }
-{
-    x as usize
-}
-
 // The value of a cell of so many pins in row r of its pins' tables.
 fn value(pins: u16, table: u16, ts: Row, r: usize) -> bool
     requires { (pins ≤ 4) × (r < 16) }
     ensures { result ≡ value table (row_of (bit ts.a r ∷ bit ts.b r ∷ bit ts.c r ∷ bit ts.d r ∷ []) % 2 ^ pins) }
 {
-    let row = wide(bits(ts, r)) % (1 << pins);
+    let row = bits(ts, r) as usize % (1 << pins);
     base_truth::bit(table, row)
 }
 
@@ -70,10 +65,8 @@ pub fn gate(pins: u16, table: u16, ts: Row) -> u32
     requires { pins ≤ 4 }
     ensures { (result ≡ gate_table table (pin_nets pins ts)) × (result < 65536) }
 {
-    let mut t: u32 = 0;
-    let mut r: usize = 16;
-    while r > 0 {
-        r -= 1;
+    let mut t = 0;
+    for r in (0..16).rev() {
         t = with_bit(value(pins, table, ts, r), t);
     }
     t

@@ -1,6 +1,9 @@
 -- What each function has once the layer below has answered: the next layer's premise, or the answer.
+use Rattle.std.specs.Prelude.{Ok, Err, Result}
+use Rattle.model.specs.{Checked, Verdict, refused_with}
+use Rattle.model.specs.declared.Refusal.{Refusal}
 use Rattle.base.specs.{ℕ, zero, suc, ◌+◌, ◌-◌, ◌*◌, ◌^◌, ◌≤◌, ◌<◌, arith, ◌≡◌, refl, sym, ◌∙◌, ap, ap₂, subst, Bool, true, false, ◌&&◌}
-use Rattle.base.specs.{Option, none, some, List, [], ◌∷◌, map, Memᴰ, Memᴰ-head, Memᴰ-tail, Memᴰ-not-nil, T, leb, leb→le}
+use Rattle.base.specs.{Option, None, Some, List, [], ◌∷◌, map, Memᴰ, Memᴰ-head, Memᴰ-tail, Memᴰ-not-nil, T, leb, leb→le}
 use Rattle.base.specs.{le→leb, length, take, drop, get_or, replicate, length-append, length-replicate, get_or-append, take-append_seam}
 use Rattle.model.specs.{from, each, lowest, need, Read, holds, fault, next, unless, verdict_of, refused_at, no_cell, blank, cells_of, library_of}
 use Rattle.model.specs.{library_answer, unordered, read_library, read_header, read_graph, header_answer, order_verdict, Driver, Edited}
@@ -9,15 +12,8 @@ use Rattle.model.specs.{check_texts, result_of, result_by, checked_work, CheckMe
 use Rattle.model.specs.Graph.{Graph}
 use Rattle.model.specs.declared.Cell.{Cell}
 use Rattle.model.specs.declared.Library.{Library}
-use Rattle.model.specs.declared.LibraryAnswer.{LibraryAnswer}
 use Rattle.model.specs.declared.Header.{Header}
-use Rattle.model.specs.declared.HeaderAnswer.{HeaderAnswer}
-use Rattle.model.specs.declared.HeaderAnswer.TheVariants.{Refused as Unread}
-use Rattle.model.specs.declared.Verdict.{Verdict}
-use Rattle.model.specs.declared.Verdict.TheVariants.{Accepted, Refused}
-use Rattle.model.specs.declared.Checked.{Checked}
-use Rattle.model.specs.declared.Checked.TheVariants.{Refused as Permuted}
-use Rattle.model.proofs.{check_tells}
+use Rattle.model.proofs.{check_tells, refusal_parts}
 use Rattle.theory_text.proofs.{library-few, library-written, graph-accepted}
 use Rattle.theory_check.proofs.{all-ordered}
 use Rattle.base_words.specs.{put_at, zeros}
@@ -27,7 +23,6 @@ use Rattle.graph_order.proofs.{fit_length, loaded_operands, order-verdict, order
 use Rattle.graph_reader.specs.{loaded_words}
 use Rattle.graph_reader.proofs.{load_law}
 use Rattle.check_reader.specs.{Fitting, driver_words}
-use Rattle.check_reader.specs.declared.Progress.{Progress}
 use Rattle.check_reader.proofs.{words_long}
 use Rattle.check_nets.specs.{no_driver, Ordered, Stored}
 use Rattle.check_nets.specs.WiredNets.{Wired}
@@ -57,11 +52,11 @@ module _ (w : List ℕ) (h : Header) (nets : List ℕ) (n : ℕ) (g : Graph) (ds
   }
 
   module _ (v : Verdict) (refs order : List ℕ) (j : Validated (input_nets g) ds v refs order) where
-    accepted-is : v ≡ Accepted → (validate_nets (input_nets g) ds ≡ holds ds) × Wired (input_nets g) ds refs × Ordered ds refs order
+    accepted-is : v ≡ Ok tt → (validate_nets (input_nets g) ds ≡ holds ds) × Wired (input_nets g) ds refs × Ordered ds refs order
     unfolding Validated
     accepted-is e = subst (λ (x : Verdict). Validated (input_nets g) ds x refs order) e j
 
-    pub wired_comparable : v ≡ Accepted → Comparable w h nets n refs order g ds
+    pub wired_comparable : v ≡ Ok tt → Comparable w h nets n refs order g ds
     wired_comparable e =
         let a = accepted-is e in
         record {
@@ -81,11 +76,11 @@ module _ (w : List ℕ) (h : Header) (nets : List ℕ) (n : ℕ) (g : Graph) (ds
           outs = λ k l. ap (λ (m : ℕ). (get_or ds (m - length g.outputs + k) no_driver).net) t.counted ∙ t.formed.last k l;
         }
 
-    pub wired-answer : v ≡ Accepted → compare_from (2 ^ length g.inputs) 0 (wrong_at g (settled (length ds) (input_nets g) ds)) ≡ check_read (validated_read g ds)
+    pub wired-answer : v ≡ Ok tt → Ok (compare_from (2 ^ length g.inputs) 0 (wrong_at g (settled (length ds) (input_nets g) ds))) ≡ check_read (validated_read g ds)
     unfolding check_read validated_read next
     wired-answer e = sym (ap (λ (r : Read (List Driver)). check_read (next r (λ es. holds (record { graph = g; drivers = es })))) (accepted-is e).0)
 
-    pub wired-stops : (m k : ℕ) → v ≡ Refused m k → Permuted m k ≡ check_read (validated_read g ds)
+    pub wired-stops : (m k : ℕ) → v ≡ refused_with m k → refused_with m k ≡ check_read (validated_read g ds)
     unfolding check_read validated_read next Validated
     wired-stops m k e =
         let f : validate_nets (input_nets g) ds ≡ fault m k = (subst (λ (x : Verdict). Validated (input_nets g) ds x refs order) e j).0 in
@@ -104,27 +99,27 @@ fitting-few : (lib : Library) → Fitting lib → (c : Cell) → Memᴰ c (cells
 unfolding cells_of
 fitting-few lib f = first-each (λ (c : Cell). c.pins ≤ 4) lib.n lib.cells f.pins
 
-module _ (w : List ℕ) (h : Header) (g : Graph) (p : OrderedGraph w h g) (lib : Library) (f : Fitting lib) (s : List ℕ) (r : Progress) (before nets : List ℕ) (t : store.Taken s lib g r before nets) where
-  pub read-stops : r.broken ≡ true → Permuted 32 r.at ≡ check_read (netlist_read lib g s)
+module _ (w : List ℕ) (h : Header) (g : Graph) (p : OrderedGraph w h g) (lib : Library) (f : Fitting lib) (s before nets : List ℕ) where
+  pub read-stops : (k : ℕ) → store.Taken s lib g (Err k) before nets → refused_with 32 k ≡ check_read (netlist_read lib g s)
   unfolding check_read netlist_read next
-  read-stops e = sym (ap (λ (x : Read (List Driver)). check_read (next x (validated_read g))) (t.refused e))
+  read-stops k t = sym (ap (λ (x : Read (List Driver)). check_read (next x (validated_read g))) t.follows)
 
-  module _ (e : r.broken ≡ false) where
+  module _ (n : ℕ) (t : store.Lines s lib g n before nets) where
     pub read_goes : check_read (validated_read g t.drivers) ≡ check_read (netlist_read lib g s)
     unfolding netlist_read next
-    read_goes = sym (ap (λ (x : Read (List Driver)). check_read (next x (validated_read g))) (t.held e))
+    read_goes = sym (ap (λ (x : Read (List Driver)). check_read (next x (validated_read g))) t.held)
 
-    pub read_wireable : Wireable w h nets r.count g t.drivers
+    pub read_wireable : Wireable w h nets n g t.drivers
     read_wireable =
         let long : length (each driver_words t.drivers) ≡ 8 * length t.drivers = words_long t.drivers in
         record {
           ordered = p;
           stored =
-              ap₂ take (let z : 8 * r.count ≡ length (each driver_words t.drivers) = omega (arith, t.counted, long) in z) (t.stored e ∙ put_front before (each driver_words t.drivers))
+              ap₂ take (let z : 8 * n ≡ length (each driver_words t.drivers) = omega (arith, t.counted, long) in z) (t.stored ∙ put_front before (each driver_words t.drivers))
               ∙ take-append_seam (each driver_words t.drivers) (drop (length (each driver_words t.drivers)) before);
           counted = t.counted;
-          bounded = omega (arith, t.few e);
-          formed = netlist-formed (cells_of lib) (fitting-few lib f) g (omega (arith, p.graph_loaded.outs, p.fit.outs)) s t.drivers (t.held e);
+          bounded = omega (arith, t.few);
+          formed = netlist-formed (cells_of lib) (fitting-few lib f) g (omega (arith, p.graph_loaded.outs, p.fit.outs)) s t.drivers t.held;
         }
 
 -- ---- 15 and 31
@@ -137,28 +132,28 @@ module _ (w : List ℕ) (h : Header) (g : Graph) (l : Loaded w h g) where
     ordering_is : r ≡ order_verdict g
     ordering_is = result ∙ order-verdict l.before h l.fit w g l.graph_loaded
 
-    pub ordering_stops : (n k : ℕ) → r ≡ Refused n k → Permuted n k ≡ check_read (ordered_read lib g s)
+    pub ordering_stops : (n k : ℕ) → r ≡ refused_with n k → refused_with n k ≡ check_read (ordered_read lib g s)
     unfolding ordered_read check_read unless_at
     ordering_stops n k e = go (lowest (unordered g)) (unfold order_verdict in sym ordering_is ∙ e)
       where
-        go : (o : Option ℕ) → refused_at 15 o ≡ Refused n k → Permuted n k ≡ check_read (unless_at o 15 (unless (leb (length g.inputs) 12) 31 0 (netlist_read lib g s)))
-        go none q = absurd (unfold refused_at in let z : ◌≡◌ {A = ℕ} 0 1 = cc in omega arith)
-        go (some v) q = unfold refused_at in let x : ◌≡◌ {A = ℕ} 15 n = cc in let z : v ≡ k = cc in (λ i. Permuted (sym x i) (sym z i))
+        go : (o : Option ℕ) → refused_at 15 o ≡ refused_with n k → refused_with n k ≡ check_read (unless_at o 15 (unless (leb (length g.inputs) 12) 31 0 (netlist_read lib g s)))
+        go None q = absurd (unfold refused_at in let z : ◌≡◌ {A = ℕ} 0 1 = cc in omega arith)
+        go (Some v) q = unfold refused_at in let x = (refusal_parts q).0 in let z = (refusal_parts q).1 in (λ i. refused_with (sym x i) (sym z i))
 
-    module _ (a : r ≡ Accepted) where
-      none_left : lowest (unordered g) ≡ none
+    module _ (a : r ≡ Ok tt) where
+      none_left : lowest (unordered g) ≡ None
       unfolding order_verdict refused_at
       none_left = go (lowest (unordered g)) (sym ordering_is ∙ a)
         where
-          go : (o : Option ℕ) → refused_at 15 o ≡ Accepted → o ≡ none
-          go none q = refl
-          go (some v) q = absurd (let z : ◌≡◌ {A = ℕ} 0 1 = cc in omega arith)
+          go : (o : Option ℕ) → refused_at 15 o ≡ Ok tt → o ≡ None
+          go None q = refl
+          go (Some v) q = absurd (let z : ◌≡◌ {A = ℕ} 0 1 = cc in omega arith)
 
-      pub many_stop : 12 < h.inputs → Permuted 31 0 ≡ check_read (ordered_read lib g s)
+      pub many_stop : 12 < h.inputs → refused_with 31 0 ≡ check_read (ordered_read lib g s)
       unfolding ordered_read check_read unless_at unless
       many_stop m = sym (ap (λ (o : Option ℕ). check_read (unless_at o 15 (unless (leb (length g.inputs) 12) 31 0 (netlist_read lib g s)))) none_left ∙ go (leb (length g.inputs) 12) (leb→le (length g.inputs) 12))
         where
-          go : (b : Bool) → (T b → length g.inputs ≤ 12) → check_read (unless b 31 0 (netlist_read lib g s)) ≡ Permuted 31 0
+          go : (b : Bool) → (T b → length g.inputs ≤ 12) → check_read (unless b 31 0 (netlist_read lib g s)) ≡ refused_with 31 0
           go true y = absurd (let z : length g.inputs ≤ 12 = y tt in omega (arith, l.graph_loaded.ins))
           go false y = refl
 
@@ -189,11 +184,11 @@ pub record Reads (lib : Library) (s : List ℕ) (h : Header) (netlist y : List �
   pub goes : check_read (ordered_read lib graph netlist) ≡ check_read (graph_read lib s h netlist)
 
 module _ (lib : Library) (s : List ℕ) (h : Header) (netlist w : List ℕ) (fit : Fit h w) (d : read_header s ≡ holds h) (r : Verdict) (result : r ≡ verdict_of (read_graph s h)) where
-  pub reading_loaded : r ≡ Accepted → (y : List ℕ) → y ≡ loaded_words w s h → Reads lib s h netlist y
+  pub reading_loaded : r ≡ Ok tt → (y : List ℕ) → y ≡ loaded_words w s h → Reads lib s h netlist y
   unfolding verdict_of graph_read next
   reading_loaded a y e = go (read_graph s h) refl (sym result ∙ a)
     where
-      go : (x : Read Graph) → read_graph s h ≡ x → verdict_of x ≡ Accepted → Reads lib s h netlist y
+      go : (x : Read Graph) → read_graph s h ≡ x → verdict_of x ≡ Ok tt → Reads lib s h netlist y
       go (holds g) q z = record {
         graph = g;
         loaded = subst (λ (u : List ℕ). Loaded u h g) (sym e) (record { before = w; fit = fit; graph_loaded = load_law w s h fit g q; accepted = graph-accepted s h g d q });
@@ -201,30 +196,30 @@ module _ (lib : Library) (s : List ℕ) (h : Header) (netlist w : List ℕ) (fit
       }
       go (fault n k) q z = absurd (let x : ◌≡◌ {A = ℕ} 0 1 = cc in omega arith)
 
-  pub reading_stops : (n k : ℕ) → r ≡ Refused n k → Permuted n k ≡ check_read (graph_read lib s h netlist)
+  pub reading_stops : (n k : ℕ) → r ≡ refused_with n k → refused_with n k ≡ check_read (graph_read lib s h netlist)
   unfolding verdict_of graph_read next check_read
   reading_stops n k a = go (read_graph s h) refl (sym result ∙ a)
     where
-      go : (x : Read Graph) → read_graph s h ≡ x → verdict_of x ≡ Refused n k → Permuted n k ≡ check_read (graph_read lib s h netlist)
+      go : (x : Read Graph) → read_graph s h ≡ x → verdict_of x ≡ refused_with n k → refused_with n k ≡ check_read (graph_read lib s h netlist)
       go (holds g) q z = absurd (let x : ◌≡◌ {A = ℕ} 0 1 = cc in omega arith)
       go (fault m j) q z =
-          let x : m ≡ n = cc in let y : j ≡ k = cc in
-          sym (ap (λ (u : Read Graph). check_read (next u (λ g. ordered_read lib g netlist))) q ∙ (λ i. Permuted (x i) (y i)))
+          let x = (refusal_parts z).0 in let y = (refusal_parts z).1 in
+          sym (ap (λ (u : Read Graph). check_read (next u (λ g. ordered_read lib g netlist))) q ∙ (λ i. refused_with (x i) (y i)))
 
 -- ---- 7 to 10 and 19
 
-header-fault : (r : Read Header) (n k : ℕ) → header_answer r ≡ Unread n k → r ≡ fault n k
+header-fault : (r : Read Header) (n k : ℕ) → header_answer r ≡ refused_with n k → r ≡ fault n k
 unfolding header_answer
 header-fault (holds h) n k e = let z : ◌≡◌ {A = ℕ} 0 1 = cc in absurd (omega arith)
-header-fault (fault m j) n k e = let x : m ≡ n = cc in let y : j ≡ k = cc in (λ i. fault (x i) (y i))
+header-fault (fault m j) n k e = let x = (refusal_parts e).0 in let y = (refusal_parts e).1 in (λ i. fault (x i) (y i))
 
 -- a refusal up to 10 leaves the words as they were
-left-early : (r : Read Edited) (n k : ℕ) (work : List ℕ) → r ≡ fault n k → Early n k → Left r work (Permuted n k) work
+left-early : (r : Read Edited) (n k : ℕ) (work : List ℕ) → r ≡ fault n k → Early n k → Left r work (refused_with n k) work
 unfolding check_read
-left-early r n k work e early = subst (λ (x : Read Edited). Left x work (Permuted n k) work) (sym e) (record { answers = refl; words = work_early n k work early })
+left-early r n k work e early = subst (λ (x : Read Edited). Left x work (refused_with n k) work) (sym e) (record { answers = refl; words = work_early n k work early })
 
 module _ (lib : Library) (s netlist work : List ℕ) where
-  pub header-stops : (r : HeaderAnswer) → r ≡ header_answer (read_header s) → (n k : ℕ) → r ≡ Unread n k → Left (header_read lib s netlist (length work)) work (Permuted n k) work
+  pub header-stops : (r : Result Header Refusal) → r ≡ header_answer (read_header s) → (n k : ℕ) → r ≡ refused_with n k → Left (header_read lib s netlist (length work)) work (refused_with n k) work
   unfolding header_read next
   header-stops r result n k e =
       let f = header-fault (read_header s) n k (sym result ∙ e) in
@@ -237,7 +232,7 @@ module _ (lib : Library) (s netlist work : List ℕ) where
     through = ap (λ (x : Read Header). next x (λ k. unless (leb (need k.size k.outputs + 8 * line_ends netlist) (length work)) 10 0 (graph_read lib s k netlist))) d
 
     -- "10 wants 8 more words for each byte 10 in it"
-    pub header-short : length work < need h.size h.outputs + 8 * line_ends netlist → Left (header_read lib s netlist (length work)) work (Permuted 10 0) work
+    pub header-short : length work < need h.size h.outputs + 8 * line_ends netlist → Left (header_read lib s netlist (length work)) work (refused_with 10 0) work
     unfolding unless
     header-short l = left-early (header_read lib s netlist (length work)) 10 0 work (through ∙ go (leb (need h.size h.outputs + 8 * line_ends netlist) (length work)) (leb→le (need h.size h.outputs + 8 * line_ends netlist) (length work))) refl
       where
@@ -307,13 +302,13 @@ module _ (library graph netlist work : List ℕ) where
   short-not false b c y = refl
 
   -- "A text is longer than 65,536 bytes": any of three
-  pub long-text : (length library ≤ 65536 → length graph ≤ 65536 → length netlist ≤ 65536 → ⊥) → CheckMemory library graph netlist work (Permuted 1 0) work
+  pub long-text : (length library ≤ 65536 → length graph ≤ 65536 → length netlist ≤ 65536 → ⊥) → CheckMemory library graph netlist work (refused_with 1 0) work
   unfolding short unless
   long-text l =
       let e : short ≡ false = short-not (leb (length library) 65536) (leb (length graph) 65536) (leb (length netlist) 65536)
       (λ x y z. l (leb→le (length library) 65536 x) (leb→le (length graph) 65536 y) (leb→le (length netlist) 65536 z)) in
       let f : read_edited library graph netlist (length work) ≡ fault 1 0 = texts_are ∙ ap (λ (b : Bool). unless b 1 0 (next (read_library library) behind_cells)) e in
-      memory_of (read_edited library graph netlist (length work)) (Permuted 1 0) work refl (left-early (read_edited library graph netlist (length work)) 1 0 work f refl)
+      memory_of (read_edited library graph netlist (length work)) (refused_with 1 0) work refl (left-early (read_edited library graph netlist (length work)) 1 0 work f refl)
 
   module _ (short_library : length library ≤ 65536) (short_graph : length graph ≤ 65536) (short_netlist : length netlist ≤ 65536) where
     entered : read_edited library graph netlist (length work) ≡ next (read_library library) behind_cells
@@ -328,32 +323,32 @@ module _ (library graph netlist work : List ℕ) where
         go true false c x y z = absurd y
         go false b c x y z = absurd x
 
-    module _ (l : LibraryAnswer) (result : l ≡ library_answer (read_library library)) where
-      pub library-stops : (n k : ℕ) → l.verdict ≡ Refused n k → CheckMemory library graph netlist work (Permuted n k) work
+    module _ (l : Result Library Refusal) (result : l ≡ library_answer (read_library library)) where
+      pub library-stops : (n k : ℕ) → l ≡ refused_with n k → CheckMemory library graph netlist work (refused_with n k) work
       unfolding library_answer next
-      library-stops n k e = go (read_library library) refl (sym (ap (λ (x : LibraryAnswer). x.verdict) result) ∙ e)
+      library-stops n k e = go (read_library library) refl (sym result ∙ e)
         where
-          go : (r : Read (List Cell)) → read_library library ≡ r → (library_answer r).verdict ≡ Refused n k → CheckMemory library graph netlist work (Permuted n k) work
+          go : (r : Read (List Cell)) → read_library library ≡ r → library_answer r ≡ refused_with n k → CheckMemory library graph netlist work (refused_with n k) work
           go (holds cs) q z = absurd (let x : ◌≡◌ {A = ℕ} 0 1 = cc in omega arith)
           go (fault m j) q z =
-              let x : m ≡ n = cc in let y : j ≡ k = cc in let f : read_library library ≡ fault n k = q ∙ (λ i. fault (x i) (y i)) in
-              memory_of (read_edited library graph netlist (length work)) (Permuted n k) work refl
+              let x = (refusal_parts z).0 in let y = (refusal_parts z).1 in let f : read_library library ≡ fault n k = q ∙ (λ i. fault (x i) (y i)) in
+              memory_of (read_edited library graph netlist (length work)) (refused_with n k) work refl
               (left-early (read_edited library graph netlist (length work)) n k work (entered ∙ ap (λ (r : Read (List Cell)). next r behind_cells) f) ((library-early library).has n k f))
 
-      pub record IsRead : Type 0 where
-        pub fitting : Fitting l.library
-        pub goes : (a : Checked) (y : List ℕ) → Left (header_read l.library graph netlist (length work)) work a y → CheckMemory library graph netlist work a y
+      pub record IsRead (lib : Library) : Type 0 where
+        pub fitting : Fitting lib
+        pub goes : (a : Checked) (y : List ℕ) → Left (header_read lib graph netlist (length work)) work a y → CheckMemory library graph netlist work a y
 
-      pub library-read : l.verdict ≡ Accepted → IsRead
+      pub library-read : (lib : Library) → l ≡ Ok lib → IsRead lib
       unfolding library_answer next
-      library-read e = go (read_library library) refl (sym (ap (λ (x : LibraryAnswer). x.verdict) result) ∙ e)
+      library-read lib e = go (read_library library) refl (sym result ∙ e)
         where
-          go : (r : Read (List Cell)) → read_library library ≡ r → (library_answer r).verdict ≡ Accepted → IsRead
+          go : (r : Read (List Cell)) → read_library library ≡ r → library_answer r ≡ Ok lib → IsRead lib
           go (fault m j) q z = absurd (let x : ◌≡◌ {A = ℕ} 0 1 = cc in omega arith)
           go (holds cs) q z =
-              let is : l.library ≡ library_of cs = ap (λ (x : LibraryAnswer). x.library) (result ∙ ap library_answer q) in
+              let is : lib ≡ library_of cs = cc in
               record {
                 fitting = subst Fitting (sym is) (fitting-read library cs q);
-                goes = λ a y left. memory_of (header_read l.library graph netlist (length work)) a y
-                    (entered ∙ ap (λ (r : Read (List Cell)). next r behind_cells) (q ∙ ap holds (sym (ap cells_of is ∙ cells-back cs))) ∙ behind-header l.library) left;
+                goes = λ a y left. memory_of (header_read lib graph netlist (length work)) a y
+                    (entered ∙ ap (λ (r : Read (List Cell)). next r behind_cells) (q ∙ ap holds (sym (ap cells_of is ∙ cells-back cs))) ∙ behind-header lib) left;
               }

@@ -1,6 +1,6 @@
 -- What is read of a netlist has its form: drivers of at most four pins, nets of 1 to 8 letters or digits, and the outputs' drivers last.
 use Rattle.base.specs.{ℕ, zero, suc, ◌+◌, ◌-◌, ◌≤◌, ◌<◌, arith, add-zero, ◌≡◌, refl, sym, ◌∙◌, ap, subst, Bool, true, false, cond, ◌&&◌}
-use Rattle.base.specs.{some, List, [], ◌∷◌, ◌++◌, map, Memᴰ, Memᴰ-head, Memᴰ-tail, Memᴰ-not-nil}
+use Rattle.base.specs.{Some, List, [], ◌∷◌, ◌++◌, map, Memᴰ, Memᴰ-head, Memᴰ-tail, Memᴰ-not-nil}
 use Rattle.base.specs.{Memᴰ-eq_of_singleton, T, eqb, length, take, get_or, length-append, length-take-le}
 use Rattle.model.specs.{all, from, below, same, and_then, only, Line, ended_by_ten, text, decimal, lines_from, fields, is_letter, between, holds}
 use Rattle.model.specs.{next, from?, name_of, literal, out_name, Driver, is_net, is_line, pin_net, bound_nets, cell_named, gate_of_fields}
@@ -23,24 +23,24 @@ pub record Form (d : Driver) : Type 0 where
 
 -- ---- a gate's line
 
-bound-long : (bs : List ℕ) (ws ns : List (List ℕ)) → bound_nets bs ws ≡ some ns → length ns ≡ length bs
+bound-long : (bs : List ℕ) (ws ns : List (List ℕ)) → bound_nets bs ws ≡ Some ns → length ns ≡ length bs
 unfolding bound_nets
 bound-long [] [] ns e = let z : [] ≡ ns = cc in sym (ap length z)
 bound-long [] (w ∷ ws) ns e = absurd (let z : ◌≡◌ {A = ℕ} 0 1 = cc in omega arith)
 bound-long (b ∷ bs) [] ns e = absurd (let z : ◌≡◌ {A = ℕ} 0 1 = cc in omega arith)
 bound-long (b ∷ bs) (w ∷ ws) ns e =
-    let a = then_out (pin_net b w) (λ n. and_then (bound_nets bs ws) (λ rest. some (n ∷ rest))) ns e in
-    let c = then_out (bound_nets bs ws) (λ rest. some (a.0 ∷ rest)) ns a.2 in let z : a.0 ∷ c.0 ≡ ns = cc c.2 in
+    let a = then_out (pin_net b w) (λ n. and_then (bound_nets bs ws) (λ rest. Some (n ∷ rest))) ns e in
+    let c = then_out (bound_nets bs ws) (λ rest. Some (a.0 ∷ rest)) ns a.2 in let z : a.0 ∷ c.0 ≡ ns = cc c.2 in
     sym (ap length z) ∙ ap suc (bound-long bs ws c.0 c.1)
 
-bound-nets : (bs : List ℕ) (ws ns : List (List ℕ)) → bound_nets bs ws ≡ some ns → (n : List ℕ) → Memᴰ n ns → T (is_net n)
+bound-nets : (bs : List ℕ) (ws ns : List (List ℕ)) → bound_nets bs ws ≡ Some ns → (n : List ℕ) → Memᴰ n ns → T (is_net n)
 unfolding bound_nets
 bound-nets [] [] ns e n m = let z : [] ≡ ns = cc in absurd (Memᴰ-not-nil (subst (λ (xs : List (List ℕ)). Memᴰ n xs) (sym z) m))
 bound-nets [] (w ∷ ws) ns e n m = absurd (let z : ◌≡◌ {A = ℕ} 0 1 = cc in omega arith)
 bound-nets (b ∷ bs) [] ns e n m = absurd (let z : ◌≡◌ {A = ℕ} 0 1 = cc in omega arith)
 bound-nets (b ∷ bs) (w ∷ ws) ns e n m =
-    let a = then_out (pin_net b w) (λ x. and_then (bound_nets bs ws) (λ rest. some (x ∷ rest))) ns e in
-    let c = then_out (bound_nets bs ws) (λ rest. some (a.0 ∷ rest)) ns a.2 in let z : a.0 ∷ c.0 ≡ ns = cc c.2 in
+    let a = then_out (pin_net b w) (λ x. and_then (bound_nets bs ws) (λ rest. Some (x ∷ rest))) ns e in
+    let c = then_out (bound_nets bs ws) (λ rest. Some (a.0 ∷ rest)) ns a.2 in let z : a.0 ∷ c.0 ≡ ns = cc c.2 in
     go a.0 c.0 (subst T (sym (pin-named b w a.0 a.1)) tt) (subst (λ (xs : List (List ℕ)). Memᴰ n xs) (sym z) m) (bound-nets bs ws c.0 c.1)
   where
     go : (x : List ℕ) (xs : List (List ℕ)) → T (is_net x) → Memᴰ n (x ∷ xs) → ((y : List ℕ) → Memᴰ y xs → T (is_net y)) → T (is_net n)
@@ -58,17 +58,17 @@ unfolding from
 below-long f zero i = refl
 below-long f (suc n) i = ap suc (below-long f n (suc i))
 
-named-few : (cells : List Cell) → ((c : Cell) → Memᴰ c cells → c.pins ≤ 4) → (w : List ℕ) (c : Cell) → cell_named cells w ≡ some c → c.pins ≤ 4
+named-few : (cells : List Cell) → ((c : Cell) → Memᴰ c cells → c.pins ≤ 4) → (w : List ℕ) (c : Cell) → cell_named cells w ≡ Some c → c.pins ≤ 4
 unfolding cell_named
 named-few [] h w c e = absurd (let z : ◌≡◌ {A = ℕ} 0 1 = cc in omega arith)
 named-few (x ∷ cells) h w c e = go (same (name_of x) w) e (named-few cells (λ y m. h y (Memᴰ-tail m)) w c)
   where
-    go : (b : Bool) → cond b (some x) (cell_named cells w) ≡ some c → (cell_named cells w ≡ some c → c.pins ≤ 4) → c.pins ≤ 4
+    go : (b : Bool) → cond b (Some x) (cell_named cells w) ≡ Some c → (cell_named cells w ≡ Some c → c.pins ≤ 4) → c.pins ≤ 4
     go true q more = let z : x ≡ c = cc in subst (λ (y : Cell). y.pins ≤ 4) z (h x (Memᴰ-head refl))
     go false q more = more q
 
 module _ (cells : List Cell) (few : (c : Cell) → Memᴰ c cells → c.pins ≤ 4) where
-  fields_form : (at : ℕ) (ws : List (List ℕ)) (d : Driver) → gate_of_fields cells at ws ≡ some d → Form d
+  fields_form : (at : ℕ) (ws : List (List ℕ)) (d : Driver) → gate_of_fields cells at ws ≡ Some d → Form d
   unfolding gate_of_fields below
   fields_form at [] d e = absurd (let z : ◌≡◌ {A = ℕ} 0 1 = cc in omega arith)
   fields_form at (k ∷ []) d e = absurd (let z : ◌≡◌ {A = ℕ} 0 1 = cc in omega arith)
@@ -85,7 +85,7 @@ module _ (cells : List Cell) (few : (c : Cell) → Memᴰ c cells → c.pins ≤
         used = λ u m. nets u (take_in c.pins ns u m);
       })
 
-  gate_form_lem : (l : Line) (d : Driver) → gate_driver cells l ≡ some d → Form d
+  gate_form_lem : (l : Line) (d : Driver) → gate_driver cells l ≡ Some d → Form d
   unfolding gate_driver
   gate_form_lem l d e = let a = then_out (only (ended_by_ten l) (fields l.bytes)) (gate_of_fields cells l.offset) d e in fields_form l.offset a.0 d a.2
 
@@ -95,7 +95,7 @@ out_form : (k : ℕ) → k < 4096 → T (is_net (out_name k))
 unfolding is_net all is_letter between literal
 out_form k h = let z : T (is_net (112 ∷ decimal k)) = subst (λ (w : List ℕ). T (is_net w)) (own_name k) (net_form (literal false k) (omega arith)).0 in subst (λ (w : List ℕ). T (is_net w)) (sym (out_is k)) z
 
-name_form : (k : ℕ) (l : Line) (d : Driver) → k < 4096 → name_driver k l ≡ some d → Form d × (d.net ≡ out_name k)
+name_form : (k : ℕ) (l : Line) (d : Driver) → k < 4096 → name_driver k l ≡ Some d → Form d × (d.net ≡ out_name k)
 unfolding name_driver
 name_form k l d h e =
     let ws = fields l.bytes in

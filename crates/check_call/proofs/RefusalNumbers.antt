@@ -1,15 +1,14 @@
 -- Which refusals come up to 10, and which later: so what is left of work memory.
-use Rattle.base.specs.{ℕ, zero, suc, ◌^◌, ◌≡◌, refl, sym, ap, Bool, true, false, cond, Option, none, some, List, [], ◌∷◌, leb, length}
+use Rattle.base.specs.{ℕ, zero, suc, ◌≡◌, refl, sym, ap, Bool, true, false, cond, Option, None, Some, List, [], ◌∷◌, leb, length}
 use Rattle.base.specs.{replicate}
-use Rattle.model.specs.{lowest, Line, text, lines_from, Read, holds, fault, next, from?, cells_of, unordered, read_library, read_header}
+use Rattle.model.specs.{lowest, Line, text, lines_from, Read, holds, fault, next, from?, cells_of, unordered, read_library, read_header, refused_with}
 use Rattle.model.specs.{read_graph, tried_early, Driver, Edited, is_line, is_gate, gate_driver, name_driver, past_row, past_lines, preamble_of}
 use Rattle.model.specs.{read_names, read_drivers, read_netlist, input_nets, driven_twice, undriven, first_line, on_cycle, unless_at, validate_nets}
-use Rattle.model.specs.{settled, wrong_at, compare_from, check_read, checked_work}
+use Rattle.model.specs.{check_read, checked_work}
 use Rattle.model.specs.Graph.{Graph}
 use Rattle.model.specs.declared.Cell.{Cell}
 use Rattle.model.specs.declared.Library.{Library}
 use Rattle.model.specs.declared.Header.{Header}
-use Rattle.model.specs.declared.Checked.TheVariants.{Differs, Refused}
 use Rattle.theory_text.proofs.ReadFaults.{Faults}
 use Rattle.theory_text.proofs.{in_holds, in_fault, in_unless, in_from, in_next, library_faults, header_faults, graph_faults}
 use Rattle.check_call.specs.{validated_read, netlist_read, ordered_read, graph_read}
@@ -33,8 +32,8 @@ header-early = header_faults Early refl refl refl refl
 
 in_unless_at : {A : Type 0} (o : Option ℕ) (n : ℕ) (r : Read A) → ((k : ℕ) → InputArrival n k) → Faults InputArrival r → Faults InputArrival (unless_at o n r)
 unfolding unless_at
-in_unless_at none n r p f = f
-in_unless_at (some k) n r p f = in_fault InputArrival n k (p k)
+in_unless_at None n r p f = f
+in_unless_at (Some k) n r p f = in_fault InputArrival n k (p k)
 
 lines-input-arrival : (end : ℕ) (ws : List (List ℕ)) (ls : List Line) → Faults InputArrival (past_lines end ws ls)
 unfolding past_lines
@@ -90,21 +89,11 @@ graph-input-arrival lib graph h s =
 
 -- ---- what is left of work memory
 
-pub work_early : (n k : ℕ) (work : List ℕ) → Early n k → work ≡ checked_work (Refused n k) work
+pub work_early : (n k : ℕ) (work : List ℕ) → Early n k → work ≡ checked_work (refused_with n k) work
 unfolding checked_work
 work_early n k work e = sym (ap (λ (b : Bool). cond b work (replicate (length work) 0)) e)
-
-compared-zero : (n s : ℕ) (wrong : ℕ → Option ℕ) (work : List ℕ) → replicate (length work) 0 ≡ checked_work (compare_from n s wrong) work
-unfolding compare_from checked_work
-compared-zero zero s wrong work = refl
-compared-zero (suc n) s wrong work = go (wrong s) (compared-zero n (suc s) wrong work)
-  where
-    go : (o : Option ℕ) → replicate (length work) 0 ≡ checked_work (compare_from n (suc s) wrong) work
-        → replicate (length work) 0 ≡ checked_work (elim o [ none ↦ compare_from n (suc s) wrong | some k ↦ Differs s k ]) work
-    go none more = more
-    go (some k) more = refl
 
 pub work_input-arrival : (r : Read Edited) (work : List ℕ) → Faults InputArrival r → replicate (length work) 0 ≡ checked_work (check_read r) work
 unfolding check_read
 work_input-arrival (fault n k) work f = unfold checked_work in sym (ap (λ (b : Bool). cond b work (replicate (length work) 0)) (f.has n k refl))
-work_input-arrival (holds e) work f = compared-zero (2 ^ length e.graph.inputs) 0 (wrong_at e.graph (settled (length e.drivers) (input_nets e.graph) e.drivers)) work
+work_input-arrival (holds e) work f = unfold checked_work in refl

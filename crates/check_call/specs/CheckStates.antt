@@ -1,12 +1,11 @@
 -- What the words and the array hold between the layers, and what is read from each on, in terms of `model`.
 use Rattle.std.specs.Prelude.{◌+◌, ◌-◌, ◌*◌, ◌≤◌, ◌<◌, ◌≡◌, ◌∷◌}
 use Rattle.base.specs.{ℕ, List, [], Memᴰ, T, leb, length, take, get_or}
-use Rattle.model.specs.{each, lowest, need, Read, holds, next, unless, decimal, cells_of, topological_order, unordered, read_header, read_graph}
+use Rattle.model.specs.{each, lowest, need, Read, holds, next, unless, decimal, cells_of, topological_order, unordered, read_header, read_graph, Checked}
 use Rattle.model.specs.{out_name, Driver, Edited, is_net, input_nets, read_netlist, validate_nets, unless_at, line_ends, check_read, checked_work}
 use Rattle.model.specs.Graph.{Graph}
 use Rattle.model.specs.declared.Library.{Library}
 use Rattle.model.specs.declared.Header.{Header}
-use Rattle.model.specs.declared.Checked.{Checked}
 use Rattle.theory_graph.specs.AcceptedGraph.{Accepted}
 use Rattle.base_words.specs.{slot_at}
 use Rattle.graph_order.specs.{Fit, LoadedGraph}

@@ -5,6 +5,6 @@ pub mod PinLetters
 pub mod PinBinding
 pub mod GateLines
 pub mod NameLines
-pub use PinLetters.{code-some, pin-named}
-pub use GateLines.{driver_anywhere, driver-net}
+pub use PinLetters.{pin-named}
+pub use GateLines.{driver_anywhere, driver-place}
 pub use NameLines.{gate-long}

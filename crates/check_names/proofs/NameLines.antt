@@ -1,11 +1,11 @@
 -- A `.names` line, and an output's own name.
-use Rattle.base.specs.{ℕ, suc, ◌+◌, ◌-◌, ◌≤◌, ◌<◌, arith, ◌≡◌, refl, sym, ◌∙◌, ap, ap₂, subst, Bool, true, false, ◌&&◌, Option, none, some}
+use Rattle.base.specs.{ℕ, suc, ◌+◌, ◌-◌, ◌≤◌, ◌<◌, arith, ◌≡◌, refl, sym, ◌∙◌, ap, ap₂, subst, Bool, true, false, cond, ◌&&◌, Option, None, Some}
 use Rattle.base.specs.{List, [], ◌∷◌, tail-eq_of_cons-eq, eqb, leb, length, take, drop, get_or, length-take-le, le-leb, ne_eqb, eqb-true}
 use Rattle.base.specs.{eqb-false}
 use Rattle.model.specs.{same, only, text, decimal, as_digits, number, fields, out_name, Driver, is_net, name_driver}
 use Rattle.theory_text.proofs.{decimal-value}
 use Rattle.base_text.proofs.{same-eq, same_refl, not_same, and_right}
-use Rattle.check_names.specs.{code, pick_n, net_code, space_from, fields_from, two_words, name_code}
+use Rattle.check_names.specs.{code, net_code, space_from, fields_from, two_words, name_code}
 use Rattle.check_names.proofs.WordSplits.{fields-there, fields-part, fields-none, space-fits}
 
 -- ---- an output's own name
@@ -21,15 +21,15 @@ out_letter [] k n e = absurd (n refl)
 out_letter (b ∷ w) k n e = not_same (b ∷ w) (111 ∷ decimal k) (λ q. e (ap (λ (x : List ℕ). get_or x 0 0) q))
 
 -- a number's bytes are those that it is written with
-number-bytes : (v : List ℕ) (n : ℕ) → number v ≡ some n → v ≡ decimal n
+number-bytes : (v : List ℕ) (n : ℕ) → number v ≡ Some n → v ≡ decimal n
 unfolding number only
 number-bytes v n e = go (leb (as_digits 0 v) 65535 && same v (decimal (as_digits 0 v))) refl e
   where
-    go : (t : Bool) → (leb (as_digits 0 v) 65535 && same v (decimal (as_digits 0 v))) ≡ t → only t (as_digits 0 v) ≡ some n → v ≡ decimal n
+    go : (t : Bool) → (leb (as_digits 0 v) 65535 && same v (decimal (as_digits 0 v))) ≡ t → only t (as_digits 0 v) ≡ Some n → v ≡ decimal n
     go true q f = let z : as_digits 0 v ≡ n = cc in same-eq v (decimal (as_digits 0 v)) (and_right (leb (as_digits 0 v) 65535) _ q) ∙ ap decimal z
     go false q f = absurd (let z : ◌≡◌ {A = ℕ} 0 1 = cc in omega arith)
 
-number_is : (k : ℕ) → k ≤ 65535 → number (decimal k) ≡ some k
+number_is : (k : ℕ) → k ≤ 65535 → number (decimal k) ≡ Some k
 unfolding number
 number_is k h =
     ap (λ (n : ℕ). only (leb n 65535 && same (decimal k) (decimal n)) n) (decimal-value k)
@@ -43,7 +43,7 @@ module _ (w : List ℕ) (k : ℕ) (ne : length w ≡ 0 → ⊥) (letter : get_or
       go [] n e = absurd (n refl)
       go (b ∷ v) n e = ap (λ (x : ℕ). x ∷ v) e
 
-  pub out_number : (n : ℕ) → number (drop 1 w) ≡ some n → eqb n k ≡ same w (out_name k)
+  pub out_number : (n : ℕ) → number (drop 1 w) ≡ Some n → eqb n k ≡ same w (out_name k)
   unfolding out_name
   out_number n e = go (eqb n k) refl
     where
@@ -54,17 +54,17 @@ module _ (w : List ℕ) (k : ℕ) (ne : length w ≡ 0 → ⊥) (letter : get_or
       go true q = sym (ap (λ (v : List ℕ). same v (111 ∷ decimal k)) (is ∙ ap (λ (m : ℕ). 111 ∷ decimal m) (eqb-true n k q)) ∙ same_refl (111 ∷ decimal k))
       go false q = sym (not_same w (111 ∷ decimal k) (λ f. eqb-false n k q (sym (decimal-value n) ∙ ap (as_digits 0) (tail-eq_of_cons-eq (sym is ∙ f)) ∙ decimal-value k)))
 
-  pub out_none : k ≤ 65535 → number (drop 1 w) ≡ none → same w (out_name k) ≡ false
+  pub out_none : k ≤ 65535 → number (drop 1 w) ≡ None → same w (out_name k) ≡ false
   unfolding out_name
   out_none h e = not_same w (111 ∷ decimal k) (λ f.
-      let q : number (decimal k) ≡ none = ap number (tail-eq_of_cons-eq (sym f ∙ split)) ∙ e in
-      let r : number (decimal k) ≡ some k = number_is k h in
+      let q : number (decimal k) ≡ None = ap number (tail-eq_of_cons-eq (sym f ∙ split)) ∙ e in
+      let r : number (decimal k) ≡ Some k = number_is k h in
       let z : ◌≡◌ {A = ℕ} 0 1 = cc in omega arith)
 
 -- ---- two words
 
 module _ (l : List ℕ) (at k : ℕ) where
-  pub two_none : length l < at → two_words k (fields_from l at) ≡ 0
+  pub two_none : length l < at → two_words k (fields_from l at) ≡ None
   unfolding two_words
   two_none h = ap (two_words k) (fields-none l at h)
 
@@ -72,7 +72,7 @@ module _ (l : List ℕ) (at k : ℕ) where
     part : fields_from l at ≡ take (e - at) (drop at l) ∷ fields_from l (e + 1)
     part = subst (λ (x : ℕ). fields_from l at ≡ take (x - at) (drop at l) ∷ fields_from l (x + 1)) (sym is-end) (fields-part l at h)
 
-    pub two-one : length l ≤ e → two_words k (fields_from l at) ≡ 0
+    pub two-one : length l ≤ e → two_words k (fields_from l at) ≡ None
     unfolding two_words
     two-one q = ap (two_words k) (part ∙ ap (λ (ws : List (List ℕ)). take (e - at) (drop at l) ∷ ws) (fields-none l (e + 1) (omega arith)))
 
@@ -81,11 +81,11 @@ module _ (l : List ℕ) (at k : ℕ) where
       both = part ∙ ap (λ (ws : List (List ℕ)). take (e - at) (drop at l) ∷ ws)
           (subst (λ (x : ℕ). fields_from l (e + 1) ≡ take (x - (e + 1)) (drop (e + 1) l) ∷ fields_from l (x + 1)) (sym is_last) (fields-part l (e + 1) (omega arith)))
 
-      pub two-more : f < length l → two_words k (fields_from l at) ≡ 0
+      pub two-more : f < length l → two_words k (fields_from l at) ≡ None
       unfolding two_words
       two-more r = ap (two_words k) (both ∙ ap (λ (ws : List (List ℕ)). take (e - at) (drop at l) ∷ take (f - (e + 1)) (drop (e + 1) l) ∷ ws) (fields-part l (f + 1) (omega arith)))
 
-      pub two_are : length l ≤ f → two_words k (fields_from l at) ≡ pick_n (same (take (f - (e + 1)) (drop (e + 1) l)) (out_name k)) (net_code (take (e - at) (drop at l))) 0
+      pub two_are : length l ≤ f → two_words k (fields_from l at) ≡ cond (same (take (f - (e + 1)) (drop (e + 1) l)) (out_name k)) (net_code (take (e - at) (drop at l))) None
       unfolding two_words
       two_are r = ap (two_words k) (both ∙ ap (λ (ws : List (List ℕ)). take (e - at) (drop at l) ∷ take (f - (e + 1)) (drop (e + 1) l) ∷ ws) (fields-none l (f + 1) (omega arith)))
 
@@ -108,21 +108,21 @@ unfolding name_driver name_of-fields
 name-fields k l = refl
 
 -- the line of a first word and others
-words-code : (k : ℕ) (w : List ℕ) (ws : List (List ℕ)) → name_code (name_of-fields k (w ∷ ws)) ≡ pick_n (same w (text ".names")) (two_words k ws) 0
+words-code : (k : ℕ) (w : List ℕ) (ws : List (List ℕ)) → name_code (name_of-fields k (w ∷ ws)) ≡ cond (same w (text ".names")) (two_words k ws) None
 unfolding name_of-fields two_words net_code only
 words-code k w [] = go (same w (text ".names"))
   where
-    go : (t : Bool) → 0 ≡ pick_n t 0 0
+    go : (t : Bool) → None ≡ cond {A = Option ℕ} t None None
     go true = refl
     go false = refl
 words-code k w (a ∷ []) = go (same w (text ".names"))
   where
-    go : (t : Bool) → 0 ≡ pick_n t 0 0
+    go : (t : Bool) → None ≡ cond {A = Option ℕ} t None None
     go true = refl
     go false = refl
 words-code k w (a ∷ b ∷ []) = go (same w (text ".names")) (is_net a) (same b (out_name k))
   where
-    go : (t n s : Bool) → name_code (only (true && (true && (t && (n && s)))) (record { offset = 0; table = 2; uses = a ∷ []; net = out_name k })) ≡ pick_n t (pick_n s (pick_n n (code a) 0) 0) 0
+    go : (t n s : Bool) → name_code (only (true && (true && (t && (n && s)))) (record { offset = 0; table = 2; uses = a ∷ []; net = out_name k })) ≡ cond t (cond s (only n (code a)) None) None
     go true true true = refl
     go true true false = refl
     go true false true = refl
@@ -133,12 +133,12 @@ words-code k w (a ∷ b ∷ c ∷ cs) = ap (λ (t : Bool). name_code (only (true
     long : eqb (suc (suc (suc (suc (length cs))))) 3 ≡ false
     long = ne_eqb (suc (suc (suc (suc (length cs))))) 3 (λ e. omega arith)
 
-    go : (t : Bool) → 0 ≡ pick_n t 0 0
+    go : (t : Bool) → None ≡ cond {A = Option ℕ} t None None
     go true = refl
     go false = refl
 
 pub line_code : (l : List ℕ) (k e : ℕ) → e ≡ space_from l 0
-    → name_code (name_driver k (record { offset = 0; bytes = l; ending = 1 })) ≡ pick_n (same (take e l) (text ".names")) (two_words k (fields_from l (e + 1))) 0
+    → name_code (name_driver k (record { offset = 0; bytes = l; ending = 1 })) ≡ cond (same (take e l) (text ".names")) (two_words k (fields_from l (e + 1))) None
 line_code l k e is = ap name_code (name-fields k l ∙ ap (name_of-fields k) (first_field l e is)) ∙ words-code k (take e l) (fields_from l (e + 1))
 
 -- a gate's line has the keyword's five bytes

@@ -1,11 +1,11 @@
 -- Names as numbers: a name byte by byte, how large its number is, and no two names of one number.
 use Rattle.base.specs.{ℕ, zero, suc, ◌+◌, ◌-◌, ◌*◌, ◌^◌, ◌≤◌, ◌<◌, pow-suc, arith, ◌≡◌, refl, sym, ◌∙◌, ap, subst, Bool, true, false, ◌||◌}
-use Rattle.base.specs.{List, [], ◌∷◌, eqb, leb, length, drop, get_or, length-drop, drop-cons, get_or-drop, add-one, no_eqb, leb-true, le-leb}
+use Rattle.base.specs.{None, Some, List, [], ◌∷◌, eqb, leb, length, drop, get_or, length-drop, drop-cons, get_or-drop, add-one, no_eqb, leb-true, le-leb}
 use Rattle.base.specs.{lt-leb}
-use Rattle.model.specs.{all, between, is_letter, is_name_byte, is_net}
+use Rattle.model.specs.{all, only, between, is_letter, is_name_byte, is_net}
 use Rattle.theory_graph.proofs.{is_false}
 use Rattle.base_text.proofs.{and_left, and_right, and-false}
-use Rattle.check_names.specs.{is_net_byte, code, pick_n, net_code}
+use Rattle.check_names.specs.{is_net_byte, code, net_code}
 
 -- ---- a net's form
 
@@ -32,23 +32,23 @@ net-long w h = rw (lt-leb (length w) 8 h, and-false)
 
 pub net-bytes : (w : List ℕ) → (length w ≡ 0 → ⊥) → length w ≤ 8 → is_net w ≡ all is_net_byte w
 unfolding is_net is_net_byte
-net-bytes w ne h = rw (le-leb 1 (length w) (some (length w) ne), le-leb (length w) 8 h)
+net-bytes w ne h = rw (le-leb 1 (length w) (positive (length w) ne), le-leb (length w) 8 h)
   where
-    some : (n : ℕ) → (n ≡ 0 → ⊥) → 1 ≤ n
-    some zero e = absurd (e refl)
-    some (suc n) e = omega arith
+    positive : (n : ℕ) → (n ≡ 0 → ⊥) → 1 ≤ n
+    positive zero e = absurd (e refl)
+    positive (suc n) e = omega arith
 
 pub net-short : (w : List ℕ) → is_net w ≡ true → length w ≤ 8
 unfolding is_net
 net-short w e = leb-true (length w) 8 (and_left (leb (length w) 8) _ (and_right (leb 1 (length w)) _ e))
 
-pub code-net : (w : List ℕ) → is_net w ≡ true → net_code w ≡ code w
-unfolding net_code
-code-net w e = ap (λ (b : Bool). pick_n b (code w) 0) e
+pub code-net : (w : List ℕ) → is_net w ≡ true → net_code w ≡ Some (code w)
+unfolding net_code only
+code-net w e = ap (λ (b : Bool). only b (code w)) e
 
-pub code-none : (w : List ℕ) → is_net w ≡ false → net_code w ≡ 0
-unfolding net_code
-code-none w e = ap (λ (b : Bool). pick_n b (code w) 0) e
+pub code-none : (w : List ℕ) → is_net w ≡ false → net_code w ≡ None
+unfolding net_code only
+code-none w e = ap (λ (b : Bool). only b (code w)) e
 
 -- ---- one byte less
 

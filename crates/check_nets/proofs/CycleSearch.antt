@@ -1,6 +1,6 @@
 -- Cycles and the order, of the numbers and of the nets.
 use Rattle.base.specs.{ℕ, zero, suc, ◌+◌, ◌-◌, ◌*◌, ◌/◌, ◌%◌, ◌≤◌, ◌<◌, lt_of_not-le, not-suc-le-zero, div-add-mod', mod-lt, dec_le, arith}
-use Rattle.base.specs.{◌≡◌, refl, sym, ap, subst, ◌∙◌, Bool, true, none, some, List, [], map, Memᴰ, Memᴰ-cast, T, eqb, eqb→eq, lit<}
+use Rattle.base.specs.{◌≡◌, refl, sym, ap, subst, ◌∙◌, Bool, true, None, Some, List, [], map, Memᴰ, Memᴰ-cast, T, eqb, eqb→eq, lit<}
 use Rattle.base.specs.{length, get_or, eq-eqb}
 use Rattle.model.specs.{keep, below, Driver, first_line, on_cycle}
 use Rattle.theory_graph.proofs.{map_in, map_out, get_or_in, keep_in, keep_out, below_in, below_out, by_eqb}
@@ -128,12 +128,12 @@ module _ (inputs : List (List ℕ)) (ds : List Driver) (nets ins : List ℕ) (n 
   feeds_itself_lem i h e =
       feeds-back (net_at ds i) (net_at ds i) (found-cycle ds (get_or ds i no_driver) (is-driver inputs ds nets ins n count st i h) e) i i h h refl refl
 
-  pub cycle-at : (r : ℕ) → r < n → ((i : ℕ) → i < r → Back refs i i → ⊥) → Back refs r r → first_line (on_cycle ds) ds ≡ some (get_or ds r no_driver).offset
+  pub cycle-at : (r : ℕ) → r < n → ((i : ℕ) → i < r → Back refs i i → ⊥) → Back refs r r → first_line (on_cycle ds) ds ≡ Some (get_or ds r no_driver).offset
   cycle-at r h f b =
       first_some (on_cycle ds) ds r (omega (arith, st.drivers)) (λ i q e. f i q (feeds_itself_lem i (omega arith) e))
       (cycle-found ds same-net (get_or ds r no_driver) (is-driver inputs ds nets ins n count st r h) (back-feeds r r h b))
 
-  pub cycle_nowhere : ((i : ℕ) → i < n → Back refs i i → ⊥) → first_line (on_cycle ds) ds ≡ none
+  pub cycle_nowhere : ((i : ℕ) → i < n → Back refs i i → ⊥) → first_line (on_cycle ds) ds ≡ None
   cycle_nowhere f = first-none (on_cycle ds) ds (λ i q e. let h : i < n = omega (arith, st.drivers) in f i h (feeds_itself_lem i h e))
 
   no_cycle_lem : ((i : ℕ) → i < n → Back refs i i → ⊥) → NoCycle ds

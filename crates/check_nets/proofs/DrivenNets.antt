@@ -1,6 +1,6 @@
 -- What the numbers say of the nets: the first two parts of 33, and the pins.
 use Rattle.base.specs.{ℕ, ◌+◌, ◌-◌, ◌*◌, ◌≤◌, ◌<◌, lt_of_not-le, dec_le, arith, ◌≡◌, refl, sym, ap, subst, ◌∙◌, inl, inr, Bool, true, false}
-use Rattle.base.specs.{not, cond, false≢true, none, some, List, [], ◌++◌, map, Memᴰ, Memᴰ-append_cases, Memᴰ-append_left}
+use Rattle.base.specs.{not, cond, false≢true, None, Some, List, [], ◌++◌, map, Memᴰ, Memᴰ-append_cases, Memᴰ-append_left}
 use Rattle.base.specs.{Memᴰ-append_right, Memᴰ-cast, T, length, get_or, le-leb, lt-leb}
 use Rattle.model.specs.{any, Driver, is_net, among, first_line, driven_twice, undriven}
 use Rattle.theory_graph.proofs.{map_in, map_out, get_or_in, any_none}
@@ -69,11 +69,11 @@ module _ (inputs : List (List ℕ)) (ds : List Driver) (nets ins : List ℕ) (n 
       u.no_input k.0 few (st.codes k.0 few ∙ ap code k.2 ∙ sym (own_code i h))
   before-undriven i h u (inr q) = u.no_driver q.0 q.1 (nets-same q.0 i (omega (arith, q.1)) h q.2)
 
-  pub twice-at : (r : ℕ) → r < n → Once nets ins count n r → driven_twice inputs ds ≡ some (get_or ds r no_driver).offset
+  pub twice-at : (r : ℕ) → r < n → Once nets ins count n r → driven_twice inputs ds ≡ Some (get_or ds r no_driver).offset
   twice-at r h o =
       twice-some inputs ds r (omega (arith, st.drivers)) (λ i q. before-undriven i (omega arith) (o.fresh i q)) (before-driven r h (o.twice_driven h))
 
-  pub twice_nowhere : Once nets ins count n n → driven_twice inputs ds ≡ none
+  pub twice_nowhere : Once nets ins count n n → driven_twice inputs ds ≡ None
   twice_nowhere o = twice-none inputs ds (λ i q. let h : i < n = omega (arith, st.drivers) in before-undriven i h (o.fresh i h))
 
   -- ---- "a net that no line drives"
@@ -145,12 +145,12 @@ module _ (inputs : List (List ℕ)) (ds : List Driver) (nets ins : List ℕ) (n 
       out false f = refl
       out true f = absurd (f tt)
 
-  pub undriven-at : (refs : List ℕ) (r : ℕ) → r < n → Rows nets ins count n r refs → undriven inputs ds ≡ some (get_or ds r no_driver).offset
+  pub undriven-at : (refs : List ℕ) (r : ℕ) → r < n → Rows nets ins count n r refs → undriven inputs ds ≡ Some (get_or ds r no_driver).offset
   undriven-at refs r h o =
       undriven-first
       ∙ first_some has_undriven ds r (omega (arith, st.drivers)) (λ i q. row_fine refs i (omega arith) (o.rows i q)) (row-undriven r h (o.has_undriven h))
 
-  pub undriven_nowhere : (refs : List ℕ) → Rows nets ins count n n refs → undriven inputs ds ≡ none
+  pub undriven_nowhere : (refs : List ℕ) → Rows nets ins count n n refs → undriven inputs ds ≡ None
   undriven_nowhere refs o = undriven-first ∙ first-none has_undriven ds (λ i q. let h : i < n = omega (arith, st.drivers) in row_fine refs i h (o.rows i h))
 
   -- ---- the pins

@@ -1,6 +1,6 @@
 -- The first line of each part of 33.
 use Rattle.base.specs.{ℕ, zero, suc, ◌<◌, not-suc-le-zero, le_of_suc-le-suc, arith, ◌≡◌, refl, sym, ap, subst, ◌∙◌, ◌⊎◌, inl, inr, Bool}
-use Rattle.base.specs.{true, false, cond, ◌||◌, Option, none, some, List, [], ◌∷◌, Memᴰ, Memᴰ-head, Memᴰ-tail, T, length}
+use Rattle.base.specs.{true, false, cond, ◌||◌, Option, None, Some, List, [], ◌∷◌, Memᴰ, Memᴰ-head, Memᴰ-tail, T, length}
 use Rattle.base.specs.{get_or}
 use Rattle.model.specs.{any, holds, fault, Driver, among, first_line, driven_twice, undriven, on_cycle, unless_at, validate_nets}
 use Rattle.theory_check.proofs.{among_in, among_out}
@@ -20,19 +20,19 @@ test false h = refl
 -- ---- the first line that passes a test
 
 pub first_some : (p : Driver → Bool) (ds : List Driver) (r : ℕ) → r < length ds → ((i : ℕ) → i < r → p (get_or ds i no_driver) ≡ true → ⊥) → p (get_or ds r no_driver) ≡ true
-    → first_line p ds ≡ some (get_or ds r no_driver).offset
+    → first_line p ds ≡ Some (get_or ds r no_driver).offset
 unfolding first_line
 first_some p [] r h f e = absurd (not-suc-le-zero h)
-first_some p (d ∷ ds) zero h f e = ap (λ (b : Bool). cond b (some d.offset) (first_line p ds)) e
+first_some p (d ∷ ds) zero h f e = ap (λ (b : Bool). cond b (Some d.offset) (first_line p ds)) e
 first_some p (d ∷ ds) (suc r) h f e =
-    ap (λ (b : Bool). cond b (some d.offset) (first_line p ds)) (test (p d) (f 0 (omega arith)))
+    ap (λ (b : Bool). cond b (Some d.offset) (first_line p ds)) (test (p d) (f 0 (omega arith)))
     ∙ first_some p ds r (le_of_suc-le-suc h) (λ i q. f (suc i) (omega arith)) e
 
-pub first-none : (p : Driver → Bool) (ds : List Driver) → ((i : ℕ) → i < length ds → p (get_or ds i no_driver) ≡ true → ⊥) → first_line p ds ≡ none
+pub first-none : (p : Driver → Bool) (ds : List Driver) → ((i : ℕ) → i < length ds → p (get_or ds i no_driver) ≡ true → ⊥) → first_line p ds ≡ None
 unfolding first_line
 first-none p [] f = refl
 first-none p (d ∷ ds) f =
-    ap (λ (b : Bool). cond b (some d.offset) (first_line p ds)) (test (p d) (f 0 (omega arith))) ∙ first-none p ds (λ i q. f (suc i) (omega arith))
+    ap (λ (b : Bool). cond b (Some d.offset) (first_line p ds)) (test (p d) (f 0 (omega arith))) ∙ first-none p ds (λ i q. f (suc i) (omega arith))
 
 -- ---- "a net already driven"
 
@@ -58,20 +58,20 @@ first-fresh : (known : List (List ℕ)) (d : Driver) (ds : List Driver) → (Bef
 first-fresh known d ds f = test (among d.net known) (λ e. f (inl (among_out d.net known (subst T (sym e) tt))))
 
 pub twice-some : (known : List (List ℕ)) (ds : List Driver) (r : ℕ) → r < length ds → ((i : ℕ) → i < r → Before known ds i → ⊥) → Before known ds r
-    → driven_twice known ds ≡ some (get_or ds r no_driver).offset
+    → driven_twice known ds ≡ Some (get_or ds r no_driver).offset
 unfolding driven_twice
 twice-some known [] r h f b = absurd (not-suc-le-zero h)
-twice-some known (d ∷ ds) zero h f (inl m) = ap (λ (b : Bool). cond b (some d.offset) (driven_twice (d.net ∷ known) ds)) (among_in d.net known m)
+twice-some known (d ∷ ds) zero h f (inl m) = ap (λ (b : Bool). cond b (Some d.offset) (driven_twice (d.net ∷ known) ds)) (among_in d.net known m)
 twice-some known (d ∷ ds) zero h f (inr q) = absurd (not-suc-le-zero q.1)
 twice-some known (d ∷ ds) (suc r) h f b =
-    ap (λ (x : Bool). cond x (some d.offset) (driven_twice (d.net ∷ known) ds)) (first-fresh known d ds (f 0 (omega arith)))
+    ap (λ (x : Bool). cond x (Some d.offset) (driven_twice (d.net ∷ known) ds)) (first-fresh known d ds (f 0 (omega arith)))
     ∙ twice-some (d.net ∷ known) ds r (le_of_suc-le-suc h) (λ i q s. f (suc i) (omega arith) (outward known d ds i s)) (inward known d ds r b)
 
-pub twice-none : (known : List (List ℕ)) (ds : List Driver) → ((i : ℕ) → i < length ds → Before known ds i → ⊥) → driven_twice known ds ≡ none
+pub twice-none : (known : List (List ℕ)) (ds : List Driver) → ((i : ℕ) → i < length ds → Before known ds i → ⊥) → driven_twice known ds ≡ None
 unfolding driven_twice
 twice-none known [] f = refl
 twice-none known (d ∷ ds) f =
-    ap (λ (x : Bool). cond x (some d.offset) (driven_twice (d.net ∷ known) ds)) (first-fresh known d ds (f 0 (omega arith)))
+    ap (λ (x : Bool). cond x (Some d.offset) (driven_twice (d.net ∷ known) ds)) (first-fresh known d ds (f 0 (omega arith)))
     ∙ twice-none (d.net ∷ known) ds (λ i q s. f (suc i) (omega arith) (outward known d ds i s))
 
 -- ---- one of several
@@ -89,24 +89,24 @@ any-true {A = A} p x [] x3 t = elim x3 [ ]
 -- ---- the three parts
 
 module _ (inputs : List (List ℕ)) (ds : List Driver) where
-  pub validated-twice : (k : ℕ) → driven_twice inputs ds ≡ some k → validate_nets inputs ds ≡ fault 33 k
+  pub validated-twice : (k : ℕ) → driven_twice inputs ds ≡ Some k → validate_nets inputs ds ≡ fault 33 k
   unfolding validate_nets unless_at
   validated-twice k a = ap (λ (o : Option ℕ). unless_at o 33 (unless_at (undriven inputs ds) 33 (unless_at (first_line (on_cycle ds) ds) 33 (holds ds)))) a
 
-  pub validated-undriven : (k : ℕ) → driven_twice inputs ds ≡ none → undriven inputs ds ≡ some k → validate_nets inputs ds ≡ fault 33 k
+  pub validated-undriven : (k : ℕ) → driven_twice inputs ds ≡ None → undriven inputs ds ≡ Some k → validate_nets inputs ds ≡ fault 33 k
   unfolding validate_nets unless_at
   validated-undriven k a b =
       ap (λ (o : Option ℕ). unless_at o 33 (unless_at (undriven inputs ds) 33 (unless_at (first_line (on_cycle ds) ds) 33 (holds ds)))) a
       ∙ ap (λ (o : Option ℕ). unless_at o 33 (unless_at (first_line (on_cycle ds) ds) 33 (holds ds))) b
 
-  pub validated-cycle : (k : ℕ) → driven_twice inputs ds ≡ none → undriven inputs ds ≡ none → first_line (on_cycle ds) ds ≡ some k → validate_nets inputs ds ≡ fault 33 k
+  pub validated-cycle : (k : ℕ) → driven_twice inputs ds ≡ None → undriven inputs ds ≡ None → first_line (on_cycle ds) ds ≡ Some k → validate_nets inputs ds ≡ fault 33 k
   unfolding validate_nets unless_at
   validated-cycle k a b c =
       ap (λ (o : Option ℕ). unless_at o 33 (unless_at (undriven inputs ds) 33 (unless_at (first_line (on_cycle ds) ds) 33 (holds ds)))) a
       ∙ ap (λ (o : Option ℕ). unless_at o 33 (unless_at (first_line (on_cycle ds) ds) 33 (holds ds))) b
       ∙ ap (λ (o : Option ℕ). unless_at o 33 (holds ds)) c
 
-  pub validated-holds : driven_twice inputs ds ≡ none → undriven inputs ds ≡ none → first_line (on_cycle ds) ds ≡ none → validate_nets inputs ds ≡ holds ds
+  pub validated-holds : driven_twice inputs ds ≡ None → undriven inputs ds ≡ None → first_line (on_cycle ds) ds ≡ None → validate_nets inputs ds ≡ holds ds
   unfolding validate_nets unless_at
   validated-holds a b c =
       ap (λ (o : Option ℕ). unless_at o 33 (unless_at (undriven inputs ds) 33 (unless_at (first_line (on_cycle ds) ds) 33 (holds ds)))) a

@@ -1,7 +1,7 @@
 -- The three parts of 33 together, by the numbers that the passes leave.
+use Rattle.std.specs.Prelude.{Ok}
 use Rattle.base.specs.{ℕ, ◌*◌, ◌≤◌, ◌<◌, arith, ◌≡◌, sym, ap, subst, ◌∙◌, List, length, get_or}
 use Rattle.model.specs.{Read, fault, Driver, validate_nets}
-use Rattle.model.specs.declared.Verdict.TheVariants.{Accepted}
 use Rattle.check_wires.specs.{Once, Rows, First, twice_driven, once, Referred}
 use Rattle.check_order.specs.{Pinned, Stable, Cyclic}
 use Rattle.check_nets.specs.{no_driver, Stored}
@@ -40,7 +40,7 @@ module _ (inputs : List (List ℕ)) (ds : List Driver) (nets ins : List ℕ) (n 
       pinned_all = let p = passed g le in pinned inputs ds nets ins n count st refs p.0 p.1
 
       module _ (r : ℕ) (flags order : List ℕ) (s : Stable refs n r flags order) where
-        pub accepted : r ≡ n → Validated inputs ds Accepted refs order
+        pub accepted : r ≡ n → Validated inputs ds (Ok tt) refs order
         unfolding Validated
         accepted e =
             let p = passed g le in (

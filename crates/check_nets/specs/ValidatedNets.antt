@@ -1,9 +1,7 @@
 -- What is lent, and what the answer means.
-use Rattle.std.specs.Prelude.{◌*◌, ◌≤◌, ◌<◌, ◌≡◌}
+use Rattle.std.specs.Prelude.{◌*◌, ◌≤◌, ◌<◌, ◌≡◌, Ok, Err}
 use Rattle.base.specs.{ℕ, List, [], Memᴰ, T, length, replicate, take, get_or}
-use Rattle.model.specs.{each, holds, fault, Driver, is_net, validate_nets}
-use Rattle.model.specs.declared.Verdict.{Verdict}
-use Rattle.model.specs.declared.Verdict.TheVariants.{Accepted, Refused}
+use Rattle.model.specs.{each, holds, fault, Driver, is_net, validate_nets, Verdict}
 use Rattle.check_names.specs.{code}
 use Rattle.check_reader.specs.{driver_words}
 use Rattle.check_nets.specs.WiredNets.{Wired, Ordered}
@@ -23,11 +21,11 @@ pub record Stored (inputs : List (List ℕ)) (ds : List Driver) (nets ins : List
 
 -- what is left in an array of so many numbers: zeros after a refusal
 unfoldable pub left_by : Verdict → ℕ → List ℕ → List ℕ
-left_by Accepted size xs = xs
-left_by (Refused m k) size xs = replicate size 0
+left_by (Ok tt) size xs = xs
+left_by (Err r) size xs = replicate size 0
 
 -- 33 and its place, with nothing left in what is lent, or the nets wired and the drivers ordered
 unfoldable pub Validated : List (List ℕ) → List Driver → Verdict → List ℕ → List ℕ → Type 0
 unfolding validate_nets
-Validated inputs ds Accepted refs order = (validate_nets inputs ds ≡ holds ds) × Wired inputs ds refs × Ordered ds refs order
-Validated inputs ds (Refused m k) refs order = (validate_nets inputs ds ≡ fault m k) × (refs ≡ replicate 43692 0) × (order ≡ replicate 10923 0)
+Validated inputs ds (Ok tt) refs order = (validate_nets inputs ds ≡ holds ds) × Wired inputs ds refs × Ordered ds refs order
+Validated inputs ds (Err r) refs order = (validate_nets inputs ds ≡ fault r.number r.place) × (refs ≡ replicate 43692 0) × (order ≡ replicate 10923 0)

@@ -1,8 +1,7 @@
 -- What `wire` asks, and what it says of nets, pins and order.
 use Rattle.std.specs.Prelude.{◌≡◌}
 use Rattle.base.specs.{List, ℕ, length, replicate}
-use Rattle.model.specs.{Driver}
-use Rattle.model.specs.declared.Verdict.{Verdict}
+use Rattle.model.specs.{Driver, Verdict}
 use Rattle.check_wires.specs.{refs_left}
 use Rattle.check_order.specs.{sort_of}
 use Rattle.check_nets.specs.ValidatedNets.{Stored, left_by, Validated}

@@ -9,7 +9,7 @@ ghost use Rattle.check_nets.specs.{Wirable, Wiring};
 
 use check_reader::DRIVERS;
 use check_wires::{Flags, PINS, Refs, Words};
-use model::Verdict;
+use model::Refusal;
 
 // What feeds pin j of driver k listed, if it is not yet; 0 where it is driver i.
 fn reach_pin(
@@ -54,13 +54,11 @@ fn reach(
     ensures { Spread refs.now n i k 4 m seen.old queue.old result seen.new queue.new }
 {
     let mut r = m;
-    let mut j = 0;
-    while j < 4 {
+    for j in 0..4 {
         r = reach_pin(refs, n, i, seen, queue, r, k, j);
         if r == 0 {
             return 0;
         }
-        j += 1;
     }
     r
 }
@@ -75,6 +73,7 @@ fn feeds_itself(refs: &Refs, n: usize, i: usize) -> bool
     check_order::append(&mut seen, &mut queue, 0, i);
     let mut m = 1;
     let mut p = 0;
+    // Stays: the queue that is walked grows as it is.
     while p < m {
         let k = check_order::listed(&queue, p);
         m = reach(refs, n, i, &mut seen, &mut queue, m, k);
@@ -98,19 +97,17 @@ fn gather(components: &mut Words, wait: &Words, waiting: usize, own: u16, compon
     requires { waiting ≤ 10923 }
     ensures { result ≤ 10923 }
 {
-    let mut m = waiting;
-    while m > 0 {
-        let k = check_order::listed(wait, m - 1);
+    for m in (0..waiting).rev() {
+        let k = check_order::listed(wait, m);
         if k >= DRIVERS {
-            return m;
+            return m + 1;
         }
         if components[k] < own {
-            return m;
+            return m + 1;
         }
         components[k] = component;
-        m -= 1;
     }
-    m
+    0
 }
 
 // How deep the path is, how many wait for the component number of their part, the last number given, and the next component number. No text has so many
@@ -187,25 +184,25 @@ fn leave(components: &mut Words, own: &Words, wait: &mut Words, s: Search, top: 
 }
 
 // The driver at pin j of the path's end, if the search has not come to it. Else the pin is passed; a driver on the path lowers the number.
-fn pass(refs: &Refs, components: &mut Words, passed: &mut Flags, top: usize, j: u8) -> usize
+fn pass(refs: &Refs, components: &mut Words, passed: &mut Flags, top: usize, j: u8) -> Option<usize>
     requires { (top < 10923) × (j < 4) }
 {
-    let x = check_order::pin(refs, 4 * top + j as usize);
+    let x = check_order::pin(refs, 4 * top + usize::from(j));
     if x >= 12 {
         let y = x - 12;
         if y >= DRIVERS {
-            return y;
+            return Some(y);
         }
         let r = components[y];
         if r == 0 {
-            return y;
+            return Some(y);
         }
         if r < components[top] {
             components[top] = r;
         }
     }
     passed[top] = j + 1;
-    DRIVERS
+    None
 }
 
 // A step from the path's end: over its next pin, or from it.
@@ -228,8 +225,10 @@ fn go_on(
     if j >= 4 {
         return leave(components, own, wait, s, top);
     }
-    let y = pass(refs, components, passed, top, j);
-    enter(components, own, path, s, y)
+    match pass(refs, components, passed, top, j) {
+        Some(y) => enter(components, own, path, s, y),
+        None => s,
+    }
 }
 
 // The whole search: for each driver a start, four pins, at most one of which leads to it first, and an end. `start` is the next driver to start from.
@@ -247,9 +246,7 @@ fn number_components(refs: &Refs, n: usize, components: &mut Words)
         component: 65535,
     };
     let mut start = 0;
-    let mut steps = 7 * n;
-    while steps > 0 {
-        steps -= 1;
+    for _ in 0..7 * n {
         if s.depth > DRIVERS {
             return;
         }
@@ -297,13 +294,11 @@ fn is_increasing(refs: &Refs, n: usize, components: &Words, i: usize, by: usize)
     requires { Pinned refs.now n × (i < n) × (by ≤ 1) }
     ensures { result ≡ true → Rising refs.now components.now by i }
 {
-    let least = check_wires::index_of(components[i]) + by;
-    let mut j = 0;
-    while j < 4 {
+    let least = usize::from(components[i]) + by;
+    for j in 0..4 {
         if !pin_increases(refs, n, components, i, j, least) {
             return false;
         }
-        j += 1;
     }
     true
 }
@@ -313,12 +308,10 @@ fn all_increase(refs: &Refs, n: usize, components: &Words) -> bool
     requires { Pinned refs.now n }
     ensures { result ≡ true → (i : ℕ) → i < n → Rising refs.now components.now 0 i }
 {
-    let mut i = 0;
-    while i < n {
+    for i in 0..n {
         if !is_increasing(refs, n, components, i, 0) {
             return false;
         }
-        i += 1;
     }
     true
 }
@@ -348,7 +341,8 @@ fn is_on_cycle(
     feeds_itself(refs, n, i)
 }
 
-// The first driver on a cycle. With component numbers as they are meant, the one walk is from it.
+// The first driver on a cycle, n where there is none. With component numbers as they are meant, the one walk is from it.
+// Stays: `wire` asks only where a driver is left, and so one is on a cycle; an Option would be unwrapped there at once.
 fn first_on_cycle(refs: &Refs, n: usize, flags: &Flags) -> usize
     requires { Pinned refs.now n }
     ensures { Cyclic refs.now n flags.now result }
@@ -356,14 +350,12 @@ fn first_on_cycle(refs: &Refs, n: usize, flags: &Flags) -> usize
     let mut components = [0u16; DRIVERS];
     number_components(refs, n, &mut components);
     let ranked = all_increase(refs, n, &components);
-    let mut i = 0;
-    while i < n {
+    for i in 0..n {
         if is_on_cycle(refs, n, flags, &components, ranked, i) {
             return i;
         }
-        i += 1;
     }
-    i
+    n
 }
 
 // "33 when a line drives a net already driven, then when one uses a net that no line drives, then when one drives a net on a circle".
@@ -374,22 +366,23 @@ pub fn wire(
     count: usize,
     refs: &mut Refs,
     order: &mut Words,
-) -> Verdict
+) -> Result<(), Refusal>
     requires { Wirable nets.now n inputs.now count refs.old order.old }
     ensures { Wiring nets.now n inputs.now count refs.old order.old result
         refs.new order.new }
 {
-    let f = check_wires::refer(nets, n, inputs, count, refs);
-    if f < n {
+    if let Err(f) = check_wires::refer(nets, n, inputs, count, refs) {
         *order = [0u16; DRIVERS];
-        return Verdict::Refused(33, nets[8 * f] as usize);
+        let place = nets[8 * f] as usize;
+        return Err(Refusal { number: 33, place });
     }
     let mut flags = [0u8; DRIVERS];
     if check_order::topological_sort(refs, n, &mut flags, order) == n {
-        return Verdict::Accepted;
+        return Ok(());
     }
     let c = first_on_cycle(refs, n, &flags);
     *refs = [0u16; PINS];
     *order = [0u16; DRIVERS];
-    Verdict::Refused(33, nets[8 * c] as usize)
+    let place = nets[8 * c] as usize;
+    Err(Refusal { number: 33, place })
 }

@@ -24,7 +24,7 @@ pub fn pin(refs: &Refs, at: usize) -> usize
     requires { at < 43692 }
     ensures { result ≡ get_or refs.now at 0 }
 {
-    check_wires::index_of(refs[at])
+    usize::from(refs[at])
 }
 
 // A driver at a place of a list.
@@ -32,7 +32,7 @@ pub fn listed(list: &Words, p: usize) -> usize
     requires { p < 10923 }
     ensures { result ≡ get_or list.now p 0 }
 {
-    check_wires::index_of(list[p])
+    usize::from(list[p])
 }
 
 // A driver listed at place m, and marked.
@@ -64,12 +64,10 @@ fn is_ready(refs: &Refs, n: usize, flags: &Flags, i: usize) -> bool
     requires { Pinned refs.now n × (i < n) }
     ensures { Tried refs.now flags.now i result }
 {
-    let mut j = 0;
-    while j < 4 {
+    for j in 0..4 {
         if !is_fed(refs, n, flags, i, j) {
             return false;
         }
-        j += 1;
     }
     true
 }
@@ -102,10 +100,8 @@ fn sweep(refs: &Refs, n: usize, flags: &mut Flags, order: &mut Words, m: usize) 
     ensures { AllTried refs.now n m flags.old order.old result flags.new order.new }
 {
     let mut r = m;
-    let mut i = 0;
-    while i < n {
+    for i in 0..n {
         r = list_if_ready(refs, n, flags, order, r, i);
-        i += 1;
     }
     r
 }
@@ -123,6 +119,7 @@ fn sweep_until_stable(
 {
     let mut from = m;
     let mut r = sweep(refs, n, flags, order, from);
+    // Stays: a sweep waits for the one before to list none.
     while r > from {
         from = r;
         r = sweep(refs, n, flags, order, from);
@@ -181,7 +178,7 @@ fn step(
     let j = passed[top];
     if j < 4 {
         passed[top] = j + 1;
-        let next = push_fanin(refs, n, passed, stack, depth, 4 * top + j as usize);
+        let next = push_fanin(refs, n, passed, stack, depth, 4 * top + usize::from(j));
         return Walk { depth: next, count };
     }
     let count = list_if_ready(refs, n, flags, order, count, top);
@@ -209,13 +206,11 @@ fn visit(
     }
     stack[0] = i as u16;
     let mut w = Walk { depth: 1, count: m };
-    let mut steps = 5 * n;
-    while steps > 0 {
+    for _left in (0..5 * n).rev() {
         if w.depth == 0 {
             return w.count;
         }
         w = step(refs, n, flags, order, w, stack, passed);
-        steps -= 1;
     }
     w.count
 }
@@ -228,10 +223,8 @@ pub fn topological_sort(refs: &Refs, n: usize, flags: &mut Flags, order: &mut Wo
     let mut passed = [0u8; DRIVERS];
     let mut stack = [0u16; DRIVERS];
     let mut m = 0;
-    let mut i = 0;
-    while i < n {
+    for i in 0..n {
         m = visit(refs, n, flags, order, m, i, &mut passed, &mut stack);
-        i += 1;
     }
     sweep_until_stable(refs, n, flags, order, m)
 }

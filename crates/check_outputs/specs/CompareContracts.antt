@@ -3,8 +3,8 @@ use Rattle.std.specs.Prelude.{◌≡◌, ◌+◌, ◌*◌, ◌/◌, ◌%◌, ◌
 use Rattle.base.specs.{List, ℕ, length, get_or}
 use Rattle.model.specs.{Driver, input_nets, settled, wrong_at, compare_from}
 use Rattle.model.specs.Graph.{Graph}
+use Rattle.model.specs.declared.Comparison.{Comparison}
 use Rattle.model.specs.declared.Header.{Header}
-use Rattle.model.specs.declared.Checked.{Checked}
 use Rattle.base_words.specs.{HasCapacityFor, output_at}
 use Rattle.check_outputs.specs.Assignments.{literal_word, differences}
 use Rattle.check_outputs.specs.Evaluation.{Readable, DriversStep}
@@ -15,7 +15,7 @@ abbrev pub HasNetlist : List ℕ → Header → List ℕ → ℕ → List ℕ �
 HasNetlist work h nets n refs order = (g : Graph) × (ds : List Driver) × Comparable work h nets n refs order g ds
 
 -- the answer for whatever graph and drivers they are of
-abbrev pub ComparedAs : List ℕ → Header → List ℕ → ℕ → List ℕ → List ℕ → Checked → Type 0
+abbrev pub ComparedAs : List ℕ → Header → List ℕ → ℕ → List ℕ → List ℕ → Comparison → Type 0
 ComparedAs work h nets n refs order r = (g : Graph) (ds : List Driver) → Comparable work h nets n refs order g ds → r ≡ compare_from (2 ^ length g.inputs) 0 (wrong_at g (settled (length ds) (input_nets g) ds))
 
 -- within a block of 64 assignments the differences stand there already

@@ -1,6 +1,6 @@
 -- The words of variables and drivers in block b of the assignments, each from those before it.
 use Rattle.std.specs.Prelude.{◌+◌, ◌-◌, ◌*◌, ◌/◌, ◌≤◌, ◌<◌, ◌≡◌, ◌∷◌}
-use Rattle.base.specs.{ℕ, cond, List, [], eqb, leb, length, get_or}
+use Rattle.base.specs.{ℕ, cond, Option, Some, None, List, [], eqb, leb, ltb, length, get_or}
 use Rattle.base_words.specs.{HasCapacity, left_at, right_at, slot_at}
 use Rattle.cut_functions.specs.{Earlier}
 use Rattle.check_outputs.specs.Assignments.{input_word, gate_word, and_word}
@@ -66,3 +66,9 @@ pub record DriversStep (nets refs order : List ℕ) (n b : ℕ) (words : ℕ →
   pub step : (p : ℕ) → p < n → words (get_or order p 0) ≡ driver_word nets refs b words (get_or order p 0)
   pub behind : (p j : ℕ) → p < n → j < pins_of nets (get_or order p 0) → 12 ≤ get_or refs (4 * get_or order p 0 + j) 0
       → (q : ℕ) × (q < p) × (12 + get_or order q 0 ≡ get_or refs (4 * get_or order p 0 + j) 0)
+
+-- ---- the outputs
+
+-- what a search that ends at `end` found
+unfoldable pub found_by : ℕ → ℕ → Option ℕ
+found_by r end = cond (ltb r end) (Some r) None

@@ -1,6 +1,6 @@
 -- Lines read one by one.
-use Rattle.base.specs.{ℕ, ◌+◌, ◌*◌, ◌≤◌, ◌<◌, arith, ◌≡◌, refl, sym, ◌∙◌, ap, ap₂, subst, Bool, true, false, cond, ◌&&◌, true≢false, Option}
-use Rattle.base.specs.{none, some, List, [], ◌∷◌, ◌++◌, append_assoc, append-nil, eq-eqb, ne_eqb, eqb-true, lt-ltb, eqb, length, get_or}
+use Rattle.base.specs.{ℕ, ◌+◌, ◌*◌, ◌≤◌, ◌<◌, arith, ◌≡◌, refl, sym, ◌∙◌, ap, ap₂, Bool, true, false, cond, ◌&&◌, Option}
+use Rattle.base.specs.{None, Some, List, [], ◌∷◌, ◌++◌, append_assoc, append-nil, eq-eqb, ne_eqb, eqb-true, lt-ltb, eqb, length, get_or}
 use Rattle.base.specs.{length-append}
 use Rattle.model.specs.{each, same, and_then, only, Line, ended, text, fields, Read, holds, fault, next, from?, cells_of, out_name, Driver}
 use Rattle.model.specs.{is_net, is_gate, gate_driver, gate_of_fields, name_driver, read_names, read_drivers}
@@ -10,15 +10,15 @@ use Rattle.base_words.specs.{put_at}
 use Rattle.base_words.proofs.{put-none, put_append}
 use Rattle.base_text.specs.{line_at, past_line}
 use Rattle.base_text.proofs.{lines_at_lem, lines_none}
-use Rattle.check_names.specs.{code, gate_of, name_code}
+use Rattle.check_names.specs.{gate_by, gate_of, name_code}
 use Rattle.check_names.specs.declared.Gate.{Gate}
-use Rattle.check_names.proofs.{driver-net, driver_anywhere}
-use Rattle.check_reader.specs.{lines_at, gate_words, driver_words, Gathered}
+use Rattle.check_names.proofs.{driver-place, driver_anywhere}
+use Rattle.check_reader.specs.{lines_at, gate_words, driver_words, Gates}
 
 -- ---- a line
 
 -- the test for byte 10 alone
-pub ten-not : (cells : List Cell) (l : Line) → (l.ending ≡ 1 → ⊥) → gate_of (gate_driver cells l) ≡ gate_of none
+pub ten-not : (cells : List Cell) (l : Line) → (l.ending ≡ 1 → ⊥) → gate_of (gate_driver cells l) ≡ None
 unfolding gate_driver only and_then
 ten-not cells l h = ap (λ (b : Bool). gate_of (and_then (only b (fields l.bytes)) (gate_of_fields cells l.offset))) (ne_eqb l.ending 1 h)
 
@@ -29,7 +29,7 @@ ten-is cells l h =
     ∙ driver_anywhere cells l.offset (fields l.bytes)
 
 -- the same of a `.names` line
-pub name-not : (k : ℕ) (l : Line) → (l.ending ≡ 1 → ⊥) → name_code (name_driver k l) ≡ 0
+pub name-not : (k : ℕ) (l : Line) → (l.ending ≡ 1 → ⊥) → name_code (name_driver k l) ≡ None
 unfolding name_driver only
 name-not k l h =
     let ws = fields l.bytes in
@@ -49,38 +49,30 @@ name-is k l h =
     go true = refl
     go false = refl
 
--- what the code's answer says of the driver: net 0 where there is none
-pub data Drives (cells : List Cell) (l : Line) (g : Gate) : Type 0 where
-  nothing : g.net ≡ 0 → gate_driver cells l ≡ none → Drives cells l g
-  driver : (d : Driver) → 0 < g.net → g ≡ gate_of (some d) → gate_driver cells l ≡ some d → d.offset ≡ l.offset → l.ending ≡ 1 → Drives cells l g
-
-pub drives-is : (cells : List Cell) (l : Line) → Drives cells l (gate_of (gate_driver cells l))
-drives-is cells l = go (gate_driver cells l) refl
+-- what the code's answer says of the driver
+pub drives-none : (cells : List Cell) (l : Line) → gate_of (gate_driver cells l) ≡ None → gate_driver cells l ≡ None
+drives-none cells l e = go (gate_driver cells l) e
   where
-    go : (o : Option Driver) → gate_driver cells l ≡ o → Drives cells l (gate_of o)
-    go none e = nothing refl e
-    go (some d) e = let r = of_ten (eqb l.ending 1) refl (unfold gate_driver in e) in driver d r.0 refl e r.1 r.2
-      where
-        of_ten : (b : Bool) → eqb l.ending 1 ≡ b → and_then (only b (fields l.bytes)) (gate_of_fields cells l.offset) ≡ some d → (0 < code d.net) × (d.offset ≡ l.offset) × (l.ending ≡ 1)
-        of_ten true q f = let r = driver-net cells l.offset (fields l.bytes) d (unfold only and_then in f) in (r.0, r.1, eqb-true l.ending 1 q)
-        of_ten false q f = absurd (unfold only and_then in let z : ◌≡◌ {A = ℕ} 0 1 = cc in omega arith)
+    go : (o : Option Driver) → gate_of o ≡ None → o ≡ None
+    go None q = refl
+    go (Some d) q = absurd (let z : ◌≡◌ {A = ℕ} 0 1 = cc in omega arith)
 
--- the same of an answer
-pub drives-none : (cells : List Cell) (l : Line) (g : Gate) → g ≡ gate_of (gate_driver cells l) → g.net ≡ 0 → gate_driver cells l ≡ none
-drives-none cells l g e z = go (subst (Drives cells l) (sym e) (drives-is cells l))
-  where
-    go : Drives cells l g → gate_driver cells l ≡ none
-    go (nothing q n) = n
-    go (driver d pos is n o t) = absurd (omega arith)
-
-pub drives-some : (cells : List Cell) (l : Line) (g : Gate) → g ≡ gate_of (gate_driver cells l) → (g.net ≡ 0 → ⊥)
-    → (d : Driver) × (gate_driver cells l ≡ some d) × (l.ending ≡ 1) × (gate_words l.offset g ≡ driver_words d)
+pub drives-some : (cells : List Cell) (l : Line) (g : Gate) → gate_of (gate_driver cells l) ≡ Some g
+    → (d : Driver) × (gate_driver cells l ≡ Some d) × (l.ending ≡ 1) × (gate_words l.offset g ≡ driver_words d)
 unfolding driver_words
-drives-some cells l g e z = go (subst (Drives cells l) (sym e) (drives-is cells l))
+drives-some cells l g e = go (gate_driver cells l) refl e
   where
-    go : Drives cells l g → (d : Driver) × (gate_driver cells l ≡ some d) × (l.ending ≡ 1) × (gate_words l.offset g ≡ driver_words d)
-    go (nothing q n) = absurd (z q)
-    go (driver d pos is n o t) = (d, n, t, ap₂ gate_words (sym o) is)
+    of_ten : (d : Driver) (b : Bool) → eqb l.ending 1 ≡ b → and_then (only b (fields l.bytes)) (gate_of_fields cells l.offset) ≡ Some d → (d.offset ≡ l.offset) × (l.ending ≡ 1)
+    of_ten d true q f = (driver-place cells l.offset (fields l.bytes) d (unfold only and_then in f), eqb-true l.ending 1 q)
+    of_ten d false q f = absurd (unfold only and_then in let z : ◌≡◌ {A = ℕ} 0 1 = cc in omega arith)
+
+    go : (o : Option Driver) → gate_driver cells l ≡ o → gate_of o ≡ Some g
+        → (d : Driver) × (gate_driver cells l ≡ Some d) × (l.ending ≡ 1) × (gate_words l.offset g ≡ driver_words d)
+    go None q f = absurd (let z : ◌≡◌ {A = ℕ} 0 1 = cc in omega arith)
+    go (Some d) q f =
+        let r = of_ten d (eqb l.ending 1) refl (unfold gate_driver in q) in
+        let is : gate_by d ≡ g = cc in
+        (d, q, r.1, ap₂ gate_words (sym r.0) (sym is))
 
 -- ---- the lines so far
 
@@ -134,7 +126,7 @@ module _ (s : List ℕ) (lib : Library) (first at count : ℕ) (before now : Lis
   lines-here h = lines_at_lem s at h
 
   -- the drivers of a text that ends here, or whose line here is none of a gate
-  pub so_end : length s ≤ at → Gathered s lib first (record { at = at; count = count; broken = false }) before now
+  pub so_end : length s ≤ at → Gates s lib first (record { at = at; count = count }) before now
   unfolding read_drivers
   so_end h = record {
     drivers = so.drivers;
@@ -142,23 +134,21 @@ module _ (s : List ℕ) (lib : Library) (first at count : ℕ) (before now : Lis
     few = few;
     capacity = so.capacity;
     stored = so.stored;
-    expected = λ _ end outs. so.expected end outs ∙ ap (λ (r : Read (List Driver)). next r (λ ds. holds (so.drivers ++ ds))) (at-end end outs);
-    refused = λ e. absurd (true≢false (sym e));
+    expected = λ end outs. so.expected end outs ∙ ap (λ (r : Read (List Driver)). next r (λ ds. holds (so.drivers ++ ds))) (at-end end outs);
   }
     where
       at-end : (end outs : ℕ) → read_drivers (cells_of lib) end outs (lines_at s at) ≡ read_names end 0 outs (lines_at s at)
       at-end end outs = ap (read_drivers (cells_of lib) end outs) (lines_none s at h) ∙ sym (ap (read_names end 0 outs) (lines_none s at h))
 
   module _ (h : at < length s) where
-    pub so_names : is_gate here ≡ false → Gathered s lib first (record { at = at; count = count; broken = false }) before now
+    pub so_names : is_gate here ≡ false → Gates s lib first (record { at = at; count = count }) before now
     so_names g = record {
       drivers = so.drivers;
       counted = so.counted;
       few = few;
       capacity = so.capacity;
       stored = so.stored;
-      expected = λ _ end outs. so.expected end outs ∙ ap (λ (r : Read (List Driver)). next r (λ ds. holds (so.drivers ++ ds))) (no_gate_lem end outs);
-      refused = λ e. absurd (true≢false (sym e));
+      expected = λ end outs. so.expected end outs ∙ ap (λ (r : Read (List Driver)). next r (λ ds. holds (so.drivers ++ ds))) (no_gate_lem end outs);
     }
       where
         other : (end outs : ℕ) (ls : List Line) → read_drivers (cells_of lib) end outs (here ∷ ls) ≡ read_names end 0 outs (here ∷ ls)
@@ -174,21 +164,13 @@ module _ (s : List ℕ) (lib : Library) (first at count : ℕ) (before now : Lis
       gate-line end outs = ap (read_drivers (cells_of lib) end outs) (lines-here h) ∙ (unfold read_drivers line_at in
           ap (λ (b : Bool). cond b (next (from? (gate_driver (cells_of lib) here) 32 at) (λ d. next (read_drivers (cells_of lib) end outs behind) (λ ds. holds (d ∷ ds)))) (read_names end 0 outs (here ∷ behind))) gate)
 
-      pub so_broken : gate_driver (cells_of lib) here ≡ none → Gathered s lib first (record { at = at; count = count; broken = true }) before now
+      pub so_broken : gate_driver (cells_of lib) here ≡ None → (end outs : ℕ) → read_drivers (cells_of lib) end outs (lines_at s first) ≡ fault 32 at
       unfolding from? next
-      so_broken e = record {
-        drivers = so.drivers;
-        counted = so.counted;
-        few = few;
-        capacity = so.capacity;
-        stored = so.stored;
-        expected = λ q. absurd (true≢false q);
-        refused = λ _ end outs.
-            so.expected end outs ∙ ap (λ (r : Read (List Driver)). next r (λ ds. holds (so.drivers ++ ds)))
-            (gate-line end outs ∙ ap (λ (o : Option Driver). next (from? o 32 at) (λ d. next (read_drivers (cells_of lib) end outs behind) (λ ds. holds (d ∷ ds)))) e);
-      }
+      so_broken e end outs =
+          so.expected end outs ∙ ap (λ (r : Read (List Driver)). next r (λ ds. holds (so.drivers ++ ds)))
+          (gate-line end outs ∙ ap (λ (o : Option Driver). next (from? o 32 at) (λ d. next (read_drivers (cells_of lib) end outs behind) (λ ds. holds (d ∷ ds)))) e)
 
-      pub so_step : (d : Driver) → gate_driver (cells_of lib) here ≡ some d → here.ending ≡ 1 → (after : List ℕ) → after ≡ put_at now (8 * count) (driver_words d)
+      pub so_step : (d : Driver) → gate_driver (cells_of lib) here ≡ Some d → here.ending ≡ 1 → (after : List ℕ) → after ≡ put_at now (8 * count) (driver_words d)
           → 8 * count + 8 ≤ length before → Sofar s lib first (past_line s at) (count + 1) before after
       unfolding from? next
       so_step d e ten after puts capacity = record {

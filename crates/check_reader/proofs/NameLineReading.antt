@@ -1,17 +1,15 @@
 -- An output's two lines, read.
-use Rattle.base.specs.{ℕ, suc, ◌+◌, ◌-◌, ◌*◌, ◌≤◌, ◌<◌, arith, ◌≡◌, refl, sym, ◌∙◌, ap, ap₂, Bool, true, false, cond, true≢false, Option}
-use Rattle.base.specs.{none, some, List, [], ◌∷◌, ◌++◌, eqb, length, take, drop, get_or, length-append, take-append_seam, eqb-true, lt-ltb}
+use Rattle.base.specs.{ℕ, suc, ◌+◌, ◌-◌, ◌*◌, ◌≤◌, ◌<◌, arith, ◌≡◌, refl, sym, ◌∙◌, ap, ap₂, Bool, true, false, cond, Option}
+use Rattle.base.specs.{None, Some, List, [], ◌∷◌, ◌++◌, eqb, length, take, drop, get_or, length-append, take-append_seam, eqb-true, lt-ltb}
 use Rattle.base.specs.{add-one}
-use Rattle.model.specs.{each, same, only, Line, ended, ended_by_ten, text, decimal, fields, Read, holds, fault, next, from?, out_name}
-use Rattle.model.specs.{Driver, is_net, name_driver, past_row, past_lines, read_names}
+use Rattle.model.specs.{each, only, Line, ended, ended_by_ten, text, decimal, fields, Read, holds, fault, next, from?, out_name}
+use Rattle.model.specs.{Driver, name_driver, past_row, past_lines, read_names}
 use Rattle.base_words.specs.{put_at}
 use Rattle.base_words.proofs.{length-put, put-none, put_append}
 use Rattle.base_text.specs.{line_at, past_line}
 use Rattle.base_text.proofs.{lines_at_lem, lines_none, and_left, and_right, dec_below}
-use Rattle.check_names.specs.{code, gate_of, name_code}
-use Rattle.check_names.proofs.{code-some}
-use Rattle.check_reader.specs.{lines_at, gate_words, driver_words, wire_gate, Expected, Stepped, Paired}
-use Rattle.check_reader.specs.declared.Reached.{Reached}
+use Rattle.check_names.specs.{code, gate_by, name_code}
+use Rattle.check_reader.specs.{lines_at, gate_words, driver_words, wire_gate, Stands, Missed, Step, Pairs}
 use Rattle.check_reader.proofs.GateGathering.{words_long, driver-eight, each_last, next-same, next-twice}
 
 -- ---- a letter's net
@@ -35,43 +33,40 @@ out_put (b ∷ w) x k n e =
 
 -- ---- the driver of a `.names` line
 
-only-some : (b : Bool) (x d : Driver) → only b x ≡ some d → (b ≡ true) × (x ≡ d)
+only-some : (b : Bool) (x d : Driver) → only b x ≡ Some d → (b ≡ true) × (x ≡ d)
 unfolding only
 only-some true x d e = (refl, cc)
 only-some false x d e = absurd (let z : ◌≡◌ {A = ℕ} 0 1 = cc in omega arith)
 
--- number 0 where there is none; else the line has its end, and its driver's numbers are those of a wire
-pub name-none : (k : ℕ) (l : Line) → name_code (name_driver k l) ≡ 0 → name_driver k l ≡ none
-unfolding name_driver
-name-none k l z = go (name_driver k l) refl z
+-- the line has its end, and its driver's numbers are those of a wire
+pub name-none : (k : ℕ) (l : Line) → name_code (name_driver k l) ≡ None → name_driver k l ≡ None
+name-none k l e = go (name_driver k l) e
   where
-    go : (o : Option Driver) → name_driver k l ≡ o → name_code o ≡ 0 → o ≡ none
-    go none e q = refl
-    go (some d) e q =
-        let ws = fields l.bytes in
-        let r = only-some _ (record { offset = l.offset; table = 2; uses = get_or ws 1 [] ∷ []; net = out_name k }) d e in
-        let t : is_net (get_or ws 1 []) ≡ true = and_left (is_net (get_or ws 1 [])) _ (and_right (same (get_or ws 0 []) (text ".names")) _ (and_right (eqb (length ws) 3) _ (and_right (ended_by_ten l) _ r.0))) in
-        let p : 0 < code (get_or ws 1 []) = code-some (get_or ws 1 []) t in
-        let s : code (get_or ws 1 []) ≡ code (get_or d.uses 0 []) = ap (λ (x : Driver). code (get_or x.uses 0 [])) r.1 in
-        absurd (omega arith)
+    go : (o : Option Driver) → name_code o ≡ None → o ≡ None
+    go None q = refl
+    go (Some d) q = absurd (let z : ◌≡◌ {A = ℕ} 0 1 = cc in omega arith)
 
-pub name-some : (k : ℕ) (l : Line) (n : ℕ) → n ≡ name_code (name_driver k l) → (n ≡ 0 → ⊥) → (d : Driver) × (name_driver k l ≡ some d) × (l.ending ≡ 1) × (gate_words l.offset (wire_gate n k) ≡ driver_words d)
+same-number : (a b : ℕ) → ◌≡◌ {A = Option ℕ} (Some a) (Some b) → a ≡ b
+same-number a b e = cc
+
+pub name-some : (k : ℕ) (l : Line) (n : ℕ) → name_code (name_driver k l) ≡ Some n → (d : Driver) × (name_driver k l ≡ Some d) × (l.ending ≡ 1) × (gate_words l.offset (wire_gate n k) ≡ driver_words d)
 unfolding driver_words name_driver
-name-some k l n e z = go (name_driver k l) refl
+name-some k l n e = go (name_driver k l) refl e
   where
-    go : (o : Option Driver) → name_driver k l ≡ o → (d : Driver) × (name_driver k l ≡ some d) × (l.ending ≡ 1) × (gate_words l.offset (wire_gate n k) ≡ driver_words d)
-    go none q = absurd (z (e ∙ ap name_code q))
-    go (some d) q =
+    go : (o : Option Driver) → name_driver k l ≡ o → name_code o ≡ Some n → (d : Driver) × (name_driver k l ≡ Some d) × (l.ending ≡ 1) × (gate_words l.offset (wire_gate n k) ≡ driver_words d)
+    go None q f = absurd (let z : ◌≡◌ {A = ℕ} 0 1 = cc in omega arith)
+    go (Some d) q f =
         let ws = fields l.bytes in
-        let r = only-some _ (record { offset = l.offset; table = 2; uses = get_or ws 1 [] ∷ []; net = out_name k }) d q in (
+        let r = only-some _ (record { offset = l.offset; table = 2; uses = get_or ws 1 [] ∷ []; net = out_name k }) d q in
+        let s : code (get_or d.uses 0 []) ≡ n = same-number (code (get_or d.uses 0 [])) n f in (
           d,
           q,
           eqb-true l.ending 1 (and_left (ended_by_ten l) _ r.0),
-          ap (λ (m : ℕ). gate_words l.offset (wire_gate m k)) (e ∙ ap name_code (q ∙ ap some (sym r.1))) ∙ ap (λ (x : Driver). gate_words x.offset (gate_of (some x))) r.1,
+          ap (λ (m : ℕ). gate_words l.offset (wire_gate m k)) (sym s ∙ sym (ap (λ (x : Driver). code (get_or x.uses 0 [])) r.1)) ∙ ap (λ (x : Driver). gate_words x.offset (gate_by x)) r.1,
         )
 
 -- its line is not empty
-pub name-long : (k : ℕ) (l : Line) (d : Driver) → name_driver k l ≡ some d → 1 ≤ length l.bytes
+pub name-long : (k : ℕ) (l : Line) (d : Driver) → name_driver k l ≡ Some d → 1 ≤ length l.bytes
 unfolding name_driver fields
 name-long k l d e =
     let ws = fields l.bytes in
@@ -101,12 +96,12 @@ module _ (s : List ℕ) (k at : ℕ) where
     unfolding read_names line_at
     first left = ap (read_names (length s) k (suc left)) (lines_at_lem s at h)
 
-    pub names-broken : name_driver k (line_at s at) ≡ none → (left : ℕ) → read_names (length s) k (suc left) (lines_at s at) ≡ fault 32 at
+    pub names-broken : name_driver k (line_at s at) ≡ None → (left : ℕ) → read_names (length s) k (suc left) (lines_at s at) ≡ fault 32 at
     unfolding from? next
     names-broken e left = first left ∙ ap (λ (o : Option Driver). next (from? o 32 at) (λ d. next (past_row (length s) (cond (ended (line_at s at)) (lines_at s (past_line s at)) []))
         (λ rest. next (read_names (length s) (suc k) left rest) (λ ds. holds (d ∷ ds))))) e
 
-    module _ (d : Driver) (is : name_driver k (line_at s at) ≡ some d) (ten : (line_at s at).ending ≡ 1) where
+    module _ (d : Driver) (is : name_driver k (line_at s at) ≡ Some d) (ten : (line_at s at).ending ≡ 1) where
       second : (left : ℕ) → read_names (length s) k (suc left) (lines_at s at) ≡ next (past_row (length s) (lines_at s (past_line s at))) (λ rest. next (read_names (length s) (suc k) left rest) (λ ds. holds (d ∷ ds)))
       unfolding from? next
       second left =
@@ -118,18 +113,18 @@ module _ (s : List ℕ) (k at : ℕ) where
       third : (left : ℕ) → read_names (length s) k (suc left) (lines_at s at) ≡ next (past_lines (length s) (text "1 1" ∷ []) (lines_at s (past_line s at))) (λ rest. next (read_names (length s) (suc k) left rest) (λ ds. holds (d ∷ ds)))
       third left = second left ∙ ap (λ (r : Read (List Line)). next r (λ rest. next (read_names (length s) (suc k) left rest) (λ ds. holds (d ∷ ds)))) (row_line (length s) (lines_at s (past_line s at)))
 
-      module _ (r : Reached) (row : Expected s (text "1 1") (past_line s at) r) where
-        pub row-broken : r.broken ≡ true → (left : ℕ) → read_names (length s) k (suc left) (lines_at s at) ≡ fault 32 r.at
-        unfolding next
-        row-broken e left = third left ∙ ap (λ (x : Read (List Line)). next x (λ rest. next (read_names (length s) (suc k) left rest) (λ ds. holds (d ∷ ds)))) (row.refused e [])
+      pub row-broken : (p : ℕ) → Missed s (text "1 1") (past_line s at) p → (left : ℕ) → read_names (length s) k (suc left) (lines_at s at) ≡ fault 32 p
+      unfolding next
+      row-broken p row left = third left ∙ ap (λ (x : Read (List Line)). next x (λ rest. next (read_names (length s) (suc k) left rest) (λ ds. holds (d ∷ ds)))) (row.refused [])
 
-        pub row_fine : r.broken ≡ false → (left : ℕ) → read_names (length s) k (suc left) (lines_at s at) ≡ next (read_names (length s) (suc k) left (lines_at s r.at)) (λ ds. holds (d ∷ ds))
-        unfolding next past_lines
-        row_fine e left = third left ∙ ap (λ (x : Read (List Line)). next x (λ rest. next (read_names (length s) (suc k) left rest) (λ ds. holds (d ∷ ds)))) (row.next e [])
+      pub row_fine : (p : ℕ) → Stands s (text "1 1") (past_line s at) p
+          → (left : ℕ) → read_names (length s) k (suc left) (lines_at s at) ≡ next (read_names (length s) (suc k) left (lines_at s p)) (λ ds. holds (d ∷ ds))
+      unfolding next past_lines
+      row_fine p row left = third left ∙ ap (λ (x : Read (List Line)). next x (λ rest. next (read_names (length s) (suc k) left rest) (λ ds. holds (d ∷ ds)))) (row.next [])
 
 -- ---- the pairs so far
 
-pub record Pairs (s : List ℕ) (outs first i at k : ℕ) (before now : List ℕ) : Type 0 where
+pub record SoMany (s : List ℕ) (outs first i at k : ℕ) (before now : List ℕ) : Type 0 where
   pub drivers : List Driver
   pub counted : length drivers ≡ k
   pub capacity : 8 * (i + k) ≤ length before
@@ -137,7 +132,7 @@ pub record Pairs (s : List ℕ) (outs first i at k : ℕ) (before now : List ℕ
   pub stored : now ≡ put_at before (8 * i) (each driver_words drivers)
   pub expected : read_names (length s) 0 outs (lines_at s first) ≡ next (read_names (length s) k (outs - k) (lines_at s at)) (λ ds. holds (drivers ++ ds))
 
-pub pairs_start : (s : List ℕ) (outs first i : ℕ) (w : List ℕ) → 8 * i ≤ length w → Pairs s outs first i first 0 w w
+pub pairs_start : (s : List ℕ) (outs first i : ℕ) (w : List ℕ) → 8 * i ≤ length w → SoMany s outs first i first 0 w w
 unfolding each
 pairs_start s outs first i w capacity = record {
   drivers = [];
@@ -148,38 +143,30 @@ pairs_start s outs first i w capacity = record {
   expected = next-same (read_names (length s) 0 outs (lines_at s first)) ∙ ap (λ (n : ℕ). next (read_names (length s) 0 n (lines_at s first)) (λ ds. holds ds)) (let z : outs ≡ outs - 0 = omega arith in z);
 }
 
-module _ (s : List ℕ) (outs first i at k : ℕ) (before now : List ℕ) (so : Pairs s outs first i at k before now) (here : k < outs) (p : Reached) (after : List ℕ)
-    (step : Stepped s k at (i + k) p now after) where
+module _ (s : List ℕ) (outs first i at k : ℕ) (before now : List ℕ) (so : SoMany s outs first i at k before now) (here : k < outs) where
   left : outs - k ≡ suc (outs - (k + 1))
   left = omega arith
 
-  pub pairs-broken : p.broken ≡ true → Paired s outs first i (record { at = p.at; count = i + k; broken = true }) before after
+  pub pairs-broken : (p : ℕ) → ((more : ℕ) → read_names (length s) k (suc more) (lines_at s at) ≡ fault 32 p) → read_names (length s) 0 outs (lines_at s first) ≡ fault 32 p
   unfolding next
-  pairs-broken e = record {
-    drivers = so.drivers;
-    counted = ap (λ (n : ℕ). i + n) (sym so.counted);
-    capacity = so.capacity;
-    size = step.size ∙ so.size;
-    stored = (step.refused e).0 ∙ so.stored;
-    refused = λ _. so.expected ∙ ap (λ (n : ℕ). next (read_names (length s) k n (lines_at s at)) (λ ds. holds (so.drivers ++ ds))) left
-        ∙ ap (λ (r : Read (List Driver)). next r (λ ds. holds (so.drivers ++ ds))) ((step.refused e).1 (outs - (k + 1)));
-    expected = λ q. absurd (true≢false q);
-  }
+  pairs-broken p step =
+      so.expected ∙ ap (λ (n : ℕ). next (read_names (length s) k n (lines_at s at)) (λ ds. holds (so.drivers ++ ds))) left
+      ∙ ap (λ (r : Read (List Driver)). next r (λ ds. holds (so.drivers ++ ds))) (step (outs - (k + 1)))
 
-  pub pairs-step : 8 * (i + k) + 8 ≤ length before → p.broken ≡ false → Pairs s outs first i p.at (k + 1) before after
-  pairs-step capacity e =
-      let d = step.expected e in record {
-        drivers = so.drivers ++ (d.0 ∷ []);
-        counted = length-append so.drivers (d.0 ∷ []) ∙ ap (λ (n : ℕ). n + 1) so.counted;
-        capacity = omega arith;
-        size = step.size ∙ so.size;
-        stored = d.1 ∙ ap₂ (λ (w : List ℕ) (n : ℕ). put_at w n (driver_words d.0)) so.stored place
-            ∙ put_append before (8 * i) (each driver_words so.drivers) (driver_words d.0) (omega (arith, long, driver-eight d.0)) ∙ sym (ap (put_at before (8 * i)) (each_last so.drivers d.0));
-        expected = so.expected ∙ ap (λ (n : ℕ). next (read_names (length s) k n (lines_at s at)) (λ ds. holds (so.drivers ++ ds))) left
-            ∙ ap (λ (r : Read (List Driver)). next r (λ ds. holds (so.drivers ++ ds))) (d.3 (outs - (k + 1)))
-            ∙ next-twice (read_names (length s) (suc k) (outs - (k + 1)) (lines_at s p.at)) d.0 so.drivers
-            ∙ ap (λ (j : ℕ). next (read_names (length s) j (outs - (k + 1)) (lines_at s p.at)) (λ ds. holds ((so.drivers ++ (d.0 ∷ [])) ++ ds))) (sym (add-one k));
-      }
+  pub pairs-step : 8 * (i + k) + 8 ≤ length before → (p : ℕ) (after : List ℕ) → Step s k at (i + k) p now after → SoMany s outs first i p (k + 1) before after
+  pairs-step capacity p after step = record {
+    drivers = so.drivers ++ (step.driver ∷ []);
+    counted = length-append so.drivers (step.driver ∷ []) ∙ ap (λ (n : ℕ). n + 1) so.counted;
+    capacity = omega arith;
+    size = ap length step.stored ∙ length-put now (8 * (i + k)) (driver_words step.driver) (omega (arith, so.size, driver-eight step.driver)) ∙ so.size;
+    stored = step.stored ∙ ap₂ (λ (w : List ℕ) (n : ℕ). put_at w n (driver_words step.driver)) so.stored place
+        ∙ put_append before (8 * i) (each driver_words so.drivers) (driver_words step.driver) (omega (arith, long, driver-eight step.driver))
+        ∙ sym (ap (put_at before (8 * i)) (each_last so.drivers step.driver));
+    expected = so.expected ∙ ap (λ (n : ℕ). next (read_names (length s) k n (lines_at s at)) (λ ds. holds (so.drivers ++ ds))) left
+        ∙ ap (λ (r : Read (List Driver)). next r (λ ds. holds (so.drivers ++ ds))) (step.expected (outs - (k + 1)))
+        ∙ next-twice (read_names (length s) (suc k) (outs - (k + 1)) (lines_at s p)) step.driver so.drivers
+        ∙ ap (λ (j : ℕ). next (read_names (length s) j (outs - (k + 1)) (lines_at s p)) (λ ds. holds ((so.drivers ++ (step.driver ∷ [])) ++ ds))) (sym (add-one k));
+  }
     where
       long : length (each driver_words so.drivers) ≡ 8 * k
       long = words_long so.drivers ∙ ap (λ (n : ℕ). 8 * n) so.counted
@@ -187,17 +174,13 @@ module _ (s : List ℕ) (outs first i at k : ℕ) (before now : List ℕ) (so : 
       place : 8 * (i + k) ≡ 8 * i + length (each driver_words so.drivers)
       place = omega (arith, long)
 
-pub pairs_end : (s : List ℕ) (outs first i at k : ℕ) (before now : List ℕ) → Pairs s outs first i at k before now → k ≡ outs → 6 * (i + k) ≤ at
-    → Paired s outs first i (record { at = at; count = i + outs; broken = false }) before now
+pub pairs_end : (s : List ℕ) (outs first i at k : ℕ) (before now : List ℕ) → SoMany s outs first i at k before now → k ≡ outs → 6 * (i + k) ≤ at
+    → Pairs s outs first i at before now
 pairs_end s outs first i at k before now so e few = record {
   drivers = so.drivers;
-  counted = ap (λ (n : ℕ). i + n) (sym (so.counted ∙ e));
+  counted = sym (so.counted ∙ e);
   capacity = omega (arith, so.capacity);
-  size = so.size;
   stored = so.stored;
-  refused = λ q. absurd (true≢false (sym q));
-  expected = λ _. (
-    omega arith,
-    so.expected ∙ ap₂ (λ (j n : ℕ). next (read_names (length s) j n (lines_at s at)) (λ ds. holds (so.drivers ++ ds))) e (let z : outs - k ≡ 0 = omega arith in z),
-  );
+  few = omega arith;
+  expected = so.expected ∙ ap₂ (λ (j n : ℕ). next (read_names (length s) j n (lines_at s at)) (λ ds. holds (so.drivers ++ ds))) e (let z : outs - k ≡ 0 = omega arith in z);
 }

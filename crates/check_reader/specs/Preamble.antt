@@ -1,12 +1,11 @@
 -- Lines that are expected, and the first three of a netlist.
-use Rattle.std.specs.Prelude.{◌+◌, ◌≤◌, ◌<◌, ◌≡◌, ◌∷◌, ◌++◌}
-use Rattle.base.specs.{ℕ, zero, suc, true, false, cond, List, [], ltb, length, drop, get_or}
+use Rattle.std.specs.Prelude.{◌+◌, ◌≤◌, ◌<◌, ◌≡◌, ◌∷◌, ◌++◌, Result, Ok, Err}
+use Rattle.base.specs.{ℕ, zero, suc, cond, List, [], ltb, length, drop, get_or}
 use Rattle.model.specs.{Line, lines_from, decimal, holds, fault, is_line, past_lines}
 use Rattle.model.specs.Graph.{Graph}
 use Rattle.model.specs.declared.Header.{Header}
 use Rattle.base_words.specs.{HasCapacity, slot_at}
 use Rattle.base_text.specs.{line_at}
-use Rattle.check_reader.specs.declared.Reached.{Reached}
 
 -- the lines of a text from a place on
 abbrev pub lines_at : List ℕ → ℕ → List Line
@@ -22,25 +21,36 @@ unfoldable pub input_name : List ℕ → ℕ → ℕ → List ℕ
 input_name w m i = 112 ∷ decimal (slot_at w m (i + 1))
 
 -- the place behind the line w, if it stands at a place; else that place, and where no line begins the text's length
-unfoldable pub expected_at : List ℕ → List ℕ → ℕ → Reached
+unfoldable pub expected_at : List ℕ → List ℕ → ℕ → Result ℕ ℕ
 unfolding is_line line_at
-expected_at s w at =
-    cond (ltb at (length s))
-    (cond (is_line w (line_at s at)) (record { at = at + length w + 1; broken = false }) (record { at = at; broken = true }))
-    (record { at = length s; broken = true })
+expected_at s w at = cond (ltb at (length s)) (cond (is_line w (line_at s at)) (Ok (at + length w + 1)) (Err at)) (Err (length s))
+
+-- a place goes on
+abbrev pub goes_on : Result ℕ ℕ → (ℕ → Result ℕ ℕ) → Result ℕ ℕ
+goes_on (Ok k) f = f k
+goes_on (Err k) f = Err k
 
 -- so of lines one behind the other: the place behind all of them, or that of the first that is another or missing
-unfoldable pub expected_from : List ℕ → List (List ℕ) → ℕ → Reached
+unfoldable pub expected_from : List ℕ → List (List ℕ) → ℕ → Result ℕ ℕ
 unfolding expected_at
-expected_from s [] at = record { at = at; broken = false }
-expected_from s (w ∷ ws) at = let p = expected_at s w at in cond p.broken p (expected_from s ws p.at)
+expected_from s [] at = Ok at
+expected_from s (w ∷ ws) at = goes_on (expected_at s w at) (expected_from s ws)
 
--- the line w is expected at a place: the lines behind it come next, or it is another or missing
-pub record Expected (s w : List ℕ) (at : ℕ) (r : Reached) : Type 0 where
-  pub is : r ≡ expected_at s w at
-  pub refused : r.broken ≡ true → (ws : List (List ℕ)) → past_lines (length s) (w ∷ ws) (lines_at s at) ≡ fault 32 r.at
-  pub next : r.broken ≡ false → (ws : List (List ℕ)) → past_lines (length s) (w ∷ ws) (lines_at s at) ≡ past_lines (length s) ws (lines_at s r.at)
-  pub within : r.broken ≡ false → at < length s
+-- the line w stands at a place: the lines behind it, which begin at place k, come next
+pub record Stands (s w : List ℕ) (at k : ℕ) : Type 0 where
+  pub is : expected_at s w at ≡ Ok k
+  pub next : (ws : List (List ℕ)) → past_lines (length s) (w ∷ ws) (lines_at s at) ≡ past_lines (length s) ws (lines_at s k)
+  pub within : at < length s
+
+-- it is another or missing
+pub record Missed (s w : List ℕ) (at k : ℕ) : Type 0 where
+  pub is : expected_at s w at ≡ Err k
+  pub refused : (ws : List (List ℕ)) → past_lines (length s) (w ∷ ws) (lines_at s at) ≡ fault 32 k
+
+-- the line w is expected at a place: one of the two
+abbrev pub Expected : List ℕ → List ℕ → ℕ → Result ℕ ℕ → Type 0
+Expected s w at (Ok k) = Stands s w at k
+Expected s w at (Err k) = Missed s w at k
 
 -- the graph whose inputs and outputs are named: its inputs stand behind variable 0 in the topological order, and there are at most twelve
 pub record Framing (w : List ℕ) (h : Header) (g : Graph) : Type 0 where
@@ -52,8 +62,17 @@ pub record Framing (w : List ℕ) (h : Header) (g : Graph) : Type 0 where
   pub few_outputs : h.outputs ≤ 4096
   pub slots : (i : ℕ) → i < h.inputs → slot_at w h.size (i + 1) ≡ get_or g.inputs i 0
 
--- these lines come first: the lines behind them come next, or one of them is another or missing
-pub record Framed (s : List ℕ) (ws : List (List ℕ)) (r : Reached) : Type 0 where
-  pub is : r ≡ expected_from s ws 0
-  pub refused : r.broken ≡ true → past_lines (length s) ws (lines_at s 0) ≡ fault 32 r.at
-  pub next : r.broken ≡ false → past_lines (length s) ws (lines_at s 0) ≡ holds (lines_at s r.at)
+-- these lines come first: the lines behind them come next
+pub record Begun (s : List ℕ) (ws : List (List ℕ)) (k : ℕ) : Type 0 where
+  pub is : expected_from s ws 0 ≡ Ok k
+  pub next : past_lines (length s) ws (lines_at s 0) ≡ holds (lines_at s k)
+
+-- one of them is another or missing
+pub record Unbegun (s : List ℕ) (ws : List (List ℕ)) (k : ℕ) : Type 0 where
+  pub is : expected_from s ws 0 ≡ Err k
+  pub refused : past_lines (length s) ws (lines_at s 0) ≡ fault 32 k
+
+-- these lines are expected first: one of the two
+abbrev pub Framed : List ℕ → List (List ℕ) → Result ℕ ℕ → Type 0
+Framed s ws (Ok k) = Begun s ws k
+Framed s ws (Err k) = Unbegun s ws k

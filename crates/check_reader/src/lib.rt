@@ -3,7 +3,7 @@
 #![tactic(auto)]
 
 ghost use Rattle.std.specs.Prelude.{◌≡◌, ◌∷◌, ◌++◌, ◌+◌, ◌≤◌, ◌*◌, ◌<◌};
-ghost use Rattle.base.specs.{length, replicate};
+ghost use Rattle.base.specs.{length};
 ghost use Rattle.model.specs.{text, decimal, out_name, is_line, preamble_of, gate_driver, name_driver, cells_of};
 ghost use Rattle.model.specs.Graph.{Graph};
 ghost use Rattle.base_words.specs.{HasCapacity, put_at};
@@ -17,13 +17,7 @@ use check_names::Gate;
 use model::{Header, Library};
 
 // The lines that an edited netlist must have as they are printed: "BLIF as we print it up to `.end`". A line that is expected is printed and compared.
-
-// Where reading goes on; or the line there breaks its form or is missing.
-#[derive(Clone, Copy)]
-pub struct Reached {
-    pub at: usize,
-    pub broken: bool,
-}
+// `Ok` has the place where reading goes on, `Err` that of a line that breaks its form or is missing.
 
 // The line at a place is these bytes: "byte 10 ends each line".
 pub fn is_line(s: &[u8], at: usize, w: &[u8]) -> bool
@@ -39,22 +33,17 @@ pub fn is_line(s: &[u8], at: usize, w: &[u8]) -> bool
 }
 
 // A line that must be these bytes. A missing line's place is the text's length.
-pub fn expected_line(s: &[u8], at: usize, w: &[u8]) -> Reached
+pub fn expected_line(s: &[u8], at: usize, w: &[u8]) -> Result<usize, usize>
     requires { length s.now ≤ 65536 }
     ensures { Expected s.now w.now at result }
 {
     if at >= s.len() {
-        let end = s.len();
-        return Reached {
-            at: end,
-            broken: true,
-        };
+        return Err(s.len());
     }
     if !is_line(s, at, w) {
-        return Reached { at, broken: true };
+        return Err(at);
     }
-    let at = at + w.len() + 1;
-    Reached { at, broken: false }
+    Ok(at + w.len() + 1)
 }
 
 // A space, a net's letter and its number.
@@ -73,11 +62,9 @@ fn put_inputs(work: &[u16], m: usize, n: usize, out: &mut [u8], at: usize) -> us
     ensures { Wrote out.old out.new at result (names_from (input_name work.now m) 0 n) }
 {
     let mut next = at;
-    let mut i: usize = 0;
-    while i < n {
+    for i in 0..n {
         let v = base_words::slot(work, m, i + 1);
         next = put_word(out, next, b'p', v as u32);
-        i += 1;
     }
     next
 }
@@ -88,15 +75,13 @@ fn put_outputs(n: usize, out: &mut [u8], at: usize) -> usize
     ensures { Wrote out.old out.new at result (names_from out_name 0 n) }
 {
     let mut next = at;
-    let mut i: usize = 0;
-    while i < n {
+    for i in 0..n {
         next = put_word(out, next, b'o', i as u32);
-        i += 1;
     }
     next
 }
 
-fn expected_inputs(s: &[u8], at: usize, work: &[u16], m: usize, n: usize) -> Reached
+fn expected_inputs(s: &[u8], at: usize, work: &[u16], m: usize, n: usize) -> Result<usize, usize>
     requires { (length s.now ≤ 65536) × HasCapacity work.now m × (n ≤ m) × (n ≤ 12) }
     ensures { Expected s.now (text ".inputs" ++ names_from (input_name work.now m) 0 n) at result }
 {
@@ -106,7 +91,7 @@ fn expected_inputs(s: &[u8], at: usize, work: &[u16], m: usize, n: usize) -> Rea
     expected_line(s, at, &line[..b])
 }
 
-fn expected_outputs(s: &[u8], at: usize, n: usize) -> Reached
+fn expected_outputs(s: &[u8], at: usize, n: usize) -> Result<usize, usize>
     requires { (length s.now ≤ 65536) × (n ≤ 4096) }
     ensures { Expected s.now (text ".outputs" ++ names_from out_name 0 n) at result }
 {
@@ -117,42 +102,23 @@ fn expected_outputs(s: &[u8], at: usize, n: usize) -> Reached
 }
 
 // "`.model top`, `.inputs` and `.outputs`": a netlist that "has other inputs or outputs than the graph" breaks its form at that line.
-pub fn preamble(s: &[u8], work: &[u16], h: Header) -> Reached
+pub fn preamble(s: &[u8], work: &[u16], h: Header) -> Result<usize, usize>
     requires { (length s.now ≤ 65536) × ((g : Graph) × Framing work.now h g) }
     ensures { (g : Graph) → Framing work.now h g → Framed s.now (preamble_of g) result }
 {
-    let a = expected_line(s, 0, b".model top");
-    if a.broken {
-        return a;
-    }
-    let b = expected_inputs(s, a.at, work, h.size, h.inputs);
-    if b.broken {
-        return b;
-    }
-    expected_outputs(s, b.at, h.outputs)
+    let a = expected_line(s, 0, b".model top")?;
+    let b = expected_inputs(s, a, work, h.size, h.inputs)?;
+    expected_outputs(s, b, h.outputs)
 }
 
 // A text within the length in 1 has at most so many lines that drive a net: a line begins at least six bytes behind the one before.
 pub const DRIVERS: usize = 10923;
 
-// How far reading came: to which place, with how many drivers; or the line there breaks its form.
+// How far the gates' lines were read: to which place, with how many drivers.
 #[derive(Clone, Copy)]
 pub struct Progress {
     pub at: usize,
     pub count: usize,
-    pub broken: bool,
-}
-
-// All of `from`, from number `at` on.
-fn put(nets: &mut [u64], at: usize, from: &[u64])
-    requires { at + length from.now ≤ length nets.old }
-    ensures { nets.new ≡ put_at nets.old at from.now }
-{
-    let mut i = 0;
-    while i < from.len() {
-        nets[at + i] = from[i];
-        i += 1;
-    }
 }
 
 // Driver i.
@@ -163,7 +129,7 @@ fn store(nets: &mut [u64], i: usize, offset: usize, g: Gate)
     let codes = g.codes;
     let ws = [
         offset as u64,
-        g.table as u64,
+        u64::from(g.table),
         g.count as u64,
         codes[0],
         codes[1],
@@ -171,29 +137,29 @@ fn store(nets: &mut [u64], i: usize, offset: usize, g: Gate)
         codes[3],
         g.net,
     ];
-    put(nets, 8 * i, &ws);
+    nets[8 * i..8 * i + 8].copy_from_slice(&ws);
 }
 
 // The gate's line at a place: "byte 10 ends each line".
-fn gate_at(s: &[u8], at: usize, line: Span, lib: Library) -> Gate
+fn gate_at(s: &[u8], at: usize, line: Span, lib: Library) -> Option<Gate>
     requires { Fitting lib × (at ≤ length s.now) × (line ≡ span_at s.now at) }
     ensures { result ≡ gate_of (gate_driver (cells_of lib) (line_at s.now at)) }
 {
     let stop = line.stop;
     if line.next - stop != 1 {
-        return check_names::no_gate();
+        return None;
     }
     check_names::gate_line(lib, &s[at..stop])
 }
 
-// The net of output k's `.names` line at a place, 0 where it breaks its form.
-fn name_at(s: &[u8], at: usize, line: Span, k: usize) -> u64
+// The net of output k's `.names` line at a place.
+fn name_at(s: &[u8], at: usize, line: Span, k: usize) -> Option<u64>
     requires { (k ≤ 65535) × (at ≤ length s.now) × (line ≡ span_at s.now at) }
     ensures { result ≡ name_code (name_driver k (line_at s.now at)) }
 {
     let stop = line.stop;
     if line.next - stop != 1 {
-        return 0;
+        return None;
     }
     check_names::name_line(&s[at..stop], k)
 }
@@ -224,128 +190,94 @@ fn wire(net: u64, k: usize) -> Gate
 
 // Output k's two lines: "each gets `.names` with its net and its own name, then `1 1`", and their driver at place i. A missing line's place is the text's
 // length.
-fn name_step(s: &[u8], at: usize, k: usize, nets: &mut [u64], i: usize) -> Reached
+fn name_step(s: &[u8], at: usize, k: usize, nets: &mut [u64], i: usize) -> Result<usize, usize>
     requires { (k ≤ 65535) × (6 * i ≤ at) × (87384 ≤ length nets.old) × (length s.now ≤ 65536) }
     ensures { Stepped s.now k at i result nets.old nets.new }
 {
-    if at >= s.len() {
-        let at = s.len();
-        return Reached { at, broken: true };
+    let end = s.len();
+    if at >= end {
+        return Err(end);
     }
     let line = base_text::line(s, at);
-    let net = name_at(s, at, line, k);
-    if net == 0 {
-        return Reached { at, broken: true };
-    }
-    let row = expected_line(s, line.next, b"1 1");
-    if row.broken {
-        return row;
-    }
+    let net = name_at(s, at, line, k).ok_or(at)?;
+    let row = expected_line(s, line.next, b"1 1")?;
     store(nets, i, at, wire(net, k));
-    row
+    Ok(row)
 }
 
 // The pairs of lines of so many outputs, their drivers from place `first` of the array on.
-fn read_pairs(s: &[u8], from: usize, outs: usize, nets: &mut [u64], first: usize) -> Progress
+fn read_pairs(
+    s: &[u8],
+    from: usize,
+    outs: usize,
+    nets: &mut [u64],
+    first: usize,
+) -> Result<usize, usize>
     requires { (outs ≤ 4096) × (length s.now ≤ 65536) × (6 * first ≤ from) × (87384 ≤ length nets.old) × (8 * first ≤ length nets.old) }
     ensures { Paired s.now outs from first result nets.old nets.new }
 {
     let mut at = from;
-    let mut k = 0;
-    while k < outs {
-        let p = name_step(s, at, k, nets, first + k);
-        at = p.at;
-        if p.broken {
-            let count = first + k;
-            let broken = true;
-            return Progress { at, count, broken };
-        }
-        k += 1;
+    for k in 0..outs {
+        at = name_step(s, at, k, nets, first + k)?;
     }
-    let count = first + outs;
-    let broken = false;
-    Progress { at, count, broken }
+    Ok(at)
 }
 
 // "gates in any order": the gates' lines from a place on, into the array's first places.
-fn read_gates(s: &[u8], from: usize, lib: Library, nets: &mut [u64]) -> Progress
+fn read_gates(s: &[u8], from: usize, lib: Library, nets: &mut [u64]) -> Result<Progress, usize>
     requires { Fitting lib × (length s.now ≤ 65536) × (87384 ≤ length nets.old) }
     ensures { Gathered s.now lib from result nets.old nets.new }
 {
     let mut at = from;
     let mut count = 0;
+    // Stays: the step is a line's length, not one.
     while at < s.len() {
         let line = base_text::line(s, at);
-        let stop = line.stop;
-        if !check_names::is_gate(&s[at..stop]) {
-            let broken = false;
-            return Progress { at, count, broken };
+        if !check_names::is_gate(&s[at..line.stop]) {
+            return Ok(Progress { at, count });
         }
-        let g = gate_at(s, at, line, lib);
-        if g.net == 0 {
-            let broken = true;
-            return Progress { at, count, broken };
-        }
-        store(nets, count, at, g);
+        let gate = gate_at(s, at, line, lib).ok_or(at)?;
+        store(nets, count, at, gate);
         count += 1;
         at = line.next;
     }
-    let broken = false;
-    Progress { at, count, broken }
+    Ok(Progress { at, count })
 }
 
 // "BLIF as we print it up to `.end`": the first three lines, the gates' lines, the outputs' lines and `.end`; "what follows `.end` isn't read".
-fn read_lines(s: &[u8], lib: Library, work: &[u16], h: Header, nets: &mut [u64]) -> Progress
+// The answer is how many drivers were read.
+fn read_lines(
+    s: &[u8],
+    lib: Library,
+    work: &[u16],
+    h: Header,
+    nets: &mut [u64],
+) -> Result<usize, usize>
     requires { Fitting lib × (length s.now ≤ 65536) × (87384 ≤ length nets.old) × ((g : Graph) × Framing work.now h g) }
     ensures { (g : Graph) → Framing work.now h g → Lined s.now lib g result nets.old nets.new }
 {
-    let f = preamble(s, work, h);
-    if f.broken {
-        return Progress {
-            at: f.at,
-            count: 0,
-            broken: true,
-        };
-    }
-    let g = read_gates(s, f.at, lib, nets);
-    if g.broken {
-        return g;
-    }
-    let p = read_pairs(s, g.at, h.outputs, nets, g.count);
-    if p.broken {
-        return p;
-    }
-    let e = expected_line(s, p.at, b".end");
-    Progress {
-        at: e.at,
-        count: p.count,
-        broken: e.broken,
-    }
+    let from = preamble(s, work, h)?;
+    let gates = read_gates(s, from, lib, nets)?;
+    let at = read_pairs(s, gates.at, h.outputs, nets, gates.count)?;
+    let _end = expected_line(s, at, b".end")?;
+    Ok(gates.count + h.outputs)
 }
 
-// Zeros throughout.
-fn clear(nets: &mut [u64])
-    ensures { nets.new ≡ replicate (length nets.old) 0 }
-{
-    let mut i = 0;
-    while i < nets.len() {
-        nets[i] = 0;
-        i += 1;
-    }
-}
-
-// "32 when a line breaks its form, names no listed cell or has other inputs or outputs than the graph". Then the array is zeros; else the
-// drivers stand first in it, and no place is left to go on from.
-pub fn read(s: &[u8], lib: Library, work: &[u16], h: Header, nets: &mut [u64]) -> Progress
+// "32 when a line breaks its form, names no listed cell or has other inputs or outputs than the graph". Then the array is zeros, and `Err` has
+// the line's place; else the drivers stand first in it, and `Ok` has their number.
+pub fn read(
+    s: &[u8],
+    lib: Library,
+    work: &[u16],
+    h: Header,
+    nets: &mut [u64],
+) -> Result<usize, usize>
     requires { Fitting lib × (length s.now ≤ 65536) × (87384 ≤ length nets.old) × ((g : Graph) × Framing work.now h g) }
     ensures { (g : Graph) → Framing work.now h g → Taken s.now lib g result nets.old nets.new }
 {
-    let mut p = read_lines(s, lib, work, h, nets);
-    if p.broken {
-        clear(nets);
-        p.count = 0;
-    } else {
-        p.at = 0;
+    let r = read_lines(s, lib, work, h, nets);
+    if r.is_err() {
+        nets.fill(0);
     }
-    p
+    r
 }

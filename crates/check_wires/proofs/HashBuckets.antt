@@ -1,5 +1,5 @@
 -- Buckets walked and grown.
-use Rattle.base.specs.{ℕ, zero, suc, ◌+◌, ◌-◌, ◌%◌, ◌≤◌, ◌<◌, mod-lt, arith, ◌≡◌, refl, sym, ap, subst, ◌∙◌, List, lit<, length, get_or, set}
+use Rattle.base.specs.{ℕ, None, Some, zero, suc, ◌+◌, ◌-◌, ◌%◌, ◌≤◌, ◌<◌, mod-lt, arith, ◌≡◌, refl, sym, ap, subst, ◌∙◌, List, lit<, length, get_or, set}
 use Rattle.base.specs.{replicate, length-replicate, length-set, get_or-set_same, get_or-set_other}
 use Rattle.theory_graph.proofs.{by_eqb}
 use Rattle.check_wires.specs.{own_at, On, here, later, Falling, head_of, Chained, Found, InputOf, Looked}
@@ -17,31 +17,24 @@ on-next ws links h x ne k e (later p o) = o
 -- ---- what drives a net
 
 module _ (ws ins heads links : List ℕ) (count i x : ℕ) (buckets : Chained ws heads links i) where
-  pub looked_input : (k : ℕ) → InputOf ins count x k → k < 12 → Looked ws ins count i x k
-  looked_input k a h = record { most = omega arith; input = λ p. a.is p; driver = λ p q. absurd (omega arith); none = λ e. absurd (omega arith) }
+  pub looked_input : (k : ℕ) → count ≤ 12 → InputOf ins count x (Some k) → Looked ws ins count i x k
+  looked_input k few a = record {
+    most = let h : k < count = a.0 in omega arith;
+    input = λ p. a;
+    driver = λ p q. absurd (let h : k < count = a.0 in omega arith);
+    none = λ e. absurd (let h : k < count = a.0 in omega arith);
+  }
 
-  pub looked_none : (k g f : ℕ) → InputOf ins count x k → 12 ≤ k → g ≡ head_of heads x → Found ws links g x f → f ≡ 0 → Looked ws ins count i x (12 + i)
-  looked_none k g f a h e w z = record {
+  pub looked_none : (g : ℕ) → InputOf ins count x None → g ≡ head_of heads x → Found ws links g x None → Looked ws ins count i x (12 + i)
+  looked_none g a e w = record {
     most = omega arith;
     input = λ p. absurd (omega arith);
     driver = λ p q. absurd (omega arith);
     none = λ p. record {
-      no_input = a.none (let m : k ≤ 12 = a.most in omega arith);
-      no_driver = λ j q s. w.none z j (subst (On links j) (ap (head_of heads) s ∙ sym e) (buckets.on j q)) s;
+      no_input = a;
+      no_driver = λ j q s. w j (subst (On links j) (ap (head_of heads) s ∙ sym e) (buckets.on j q)) s;
     };
   }
-
-  pub looked_driver : (g f : ℕ) → g ≡ head_of heads x → Found ws links g x f → (f ≡ 0 → ⊥) → Looked ws ins count i x (11 + f)
-  looked_driver g f e w z =
-      let m : f ≤ g = w.most in
-      let b : head_of heads x ≤ i = buckets.below (x % 16381) in
-      let p : 0 < f = omega arith in
-      record {
-        most = omega arith;
-        input = λ q. absurd (omega arith);
-        driver = λ q s. ap (own_at ws) (let y : 11 + f - 12 ≡ f - 1 = omega arith in y) ∙ w.is p;
-        none = λ q. absurd (omega arith);
-      }
 
 -- ---- a driver more
 

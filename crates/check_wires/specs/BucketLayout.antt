@@ -1,6 +1,6 @@
 -- Drivers found by the numbers of their nets: each stands on the bucket of its number's remainder.
 use Rattle.std.specs.Prelude.{◌+◌, ◌-◌, ◌*◌, ◌%◌, ◌≤◌, ◌<◌, ◌≡◌}
-use Rattle.base.specs.{ℕ, List, length, get_or}
+use Rattle.base.specs.{ℕ, Option, None, Some, List, length, get_or}
 
 -- of the eight numbers of driver i: how many nets it uses, the number of net j of these, and that of its own net
 abbrev pub pins_at : List ℕ → ℕ → ℕ
@@ -33,14 +33,12 @@ pub record Chained (ws heads links : List ℕ) (i : ℕ) : Type 0 where
   pub below : (b : ℕ) → get_or heads b 0 ≤ i
   pub on : (k : ℕ) → k < i → On links k (head_of heads (own_at ws k))
 
--- an answer of a walk along a bucket: one more than the place of a driver of this number, or 0 where the bucket has none
-pub record Found (ws links : List ℕ) (h x r : ℕ) : Type 0 where
-  pub most : r ≤ h
-  pub is : 0 < r → own_at ws (r - 1) ≡ x
-  pub none : r ≡ 0 → (k : ℕ) → On links k h → own_at ws k ≡ x → ⊥
+-- an answer of a walk along a bucket: the place of a driver of this number, or none that the bucket has
+abbrev pub Found : List ℕ → List ℕ → ℕ → ℕ → Option ℕ → Type 0
+Found ws links h x (Some k) = (k < h) × (own_at ws k ≡ x)
+Found ws links h x None = (k : ℕ) → On links k h → own_at ws k ≡ x → ⊥
 
--- an answer of a walk over the inputs: the place of the first with this number, or 12
-pub record InputOf (ins : List ℕ) (count x r : ℕ) : Type 0 where
-  pub most : r ≤ 12
-  pub is : r < 12 → (r < count) × (get_or ins r 0 ≡ x) × ((k : ℕ) → k < r → get_or ins k 0 ≡ x → ⊥)
-  pub none : r ≡ 12 → (k : ℕ) → k < count → get_or ins k 0 ≡ x → ⊥
+-- an answer of a walk over the inputs: the place of the first with this number, or none
+abbrev pub InputOf : List ℕ → ℕ → ℕ → Option ℕ → Type 0
+InputOf ins count x (Some r) = (r < count) × (get_or ins r 0 ≡ x) × ((k : ℕ) → k < r → get_or ins k 0 ≡ x → ⊥)
+InputOf ins count x None = (k : ℕ) → k < count → get_or ins k 0 ≡ x → ⊥

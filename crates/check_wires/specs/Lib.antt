@@ -4,4 +4,4 @@ pub mod References
 pub mod PinDrivers
 pub use BucketLayout.{Chained, Falling, Found, InputOf, On, head_of, here, later, own_at, pins_at, use_at}
 unfoldable pub use References.{driver_of, first_from, uses_undriven, is_driven_twice, pin_of, ref_at, refs_left, refused_at, values_from}
-pub use PinDrivers.{Driven, Drivers, First, Looked, UsesUndriven, Once, Pin, PinLooked, Referred, Row, Rows, Undriven, Written, once, twice_driven}
+pub use PinDrivers.{Driven, Drivers, First, Looked, UsesUndriven, Once, Pin, PinLooked, Referred, Row, Rows, Undriven, Upto, Written, once, twice_driven}

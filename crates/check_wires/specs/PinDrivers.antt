@@ -1,5 +1,5 @@
 -- What stands at each pin of a netlist: below 12 the place of an input, from 12 on that of a driver.
-use Rattle.std.specs.Prelude.{◌+◌, ◌-◌, ◌*◌, ◌≤◌, ◌<◌, ◌≡◌, ◌⊎◌}
+use Rattle.std.specs.Prelude.{◌+◌, ◌-◌, ◌*◌, ◌≤◌, ◌<◌, ◌≡◌, ◌⊎◌, Result, Ok, Err}
 use Rattle.base.specs.{ℕ, List, length, get_or, replicate}
 use Rattle.check_wires.specs.BucketLayout.{pins_at, use_at, own_at}
 use Rattle.check_wires.specs.References.{refused_at, refs_left}
@@ -48,6 +48,11 @@ Row ws ins count n refs i = (j : ℕ) → j < 4 → Pin ws ins count n i j (get_
 -- "uses a net that no line drives"
 abbrev pub UsesUndriven : List ℕ → List ℕ → ℕ → ℕ → ℕ → Type 0
 UsesUndriven ws ins count n i = (j : ℕ) × (j < pins_at ws i) × Undriven ws ins count n (use_at ws i j)
+
+-- a fact of the first driver that is refused, or of n where none is
+abbrev pub Upto : (ℕ → Type 0) → ℕ → Result (Unit {0}) ℕ → Type 0
+Upto P n (Ok u) = P n
+Upto P n (Err r) = (r < n) × P r
 
 -- the first driver of a net already driven, n where there is none
 pub record Once (ws ins : List ℕ) (count n r : ℕ) : Type 0 where

@@ -6,7 +6,7 @@
 ghost use Rattle.std.specs.Prelude.{◌≡◌, ◌+◌, ◌*◌, ◌/◌, ◌%◌, ◌≤◌, ◌<◌};
 ghost use Rattle.base.specs.{length, get_or, set};
 ghost use Rattle.check_wires.specs.{Falling, own_at, head_of, Chained, Found, InputOf, Drivers, Looked, PinLooked, Once};
-ghost use Rattle.check_wires.specs.{Written, Referred};
+ghost use Rattle.check_wires.specs.{Written, Referred, Upto};
 
 use check_reader::DRIVERS;
 
@@ -29,32 +29,23 @@ const BUCKETS: usize = 16381;
 type Heads = [u16; BUCKETS];
 
 // The input of this number.
-fn input_of(inputs: &[u64; 12], count: usize, x: u64) -> usize
+fn input_of(inputs: &[u64; 12], count: usize, x: u64) -> Option<usize>
     requires { count ≤ 12 }
     ensures { InputOf inputs.now count x result }
 {
-    let mut k = 0;
-    while k < count {
+    for k in 0..count {
         if inputs[k] == x {
-            return k;
+            return Some(k);
         }
-        k += 1;
     }
-    12
-}
-
-// A word as an index.
-pub fn index_of(x: u16) -> usize
-    ensures { (result ≡ x) × (result < 65536) }
-{
-    x as usize
+    None
 }
 
 // The head of a number's bucket.
 fn head(heads: &Heads, x: u64) -> usize
     ensures { result ≡ head_of heads.now x }
 {
-    index_of(heads[(x % 16381) as usize])
+    usize::from(heads[(x % 16381) as usize])
 }
 
 // The next of a bucket.
@@ -62,26 +53,28 @@ fn next(links: &Words, k: usize) -> usize
     requires { k < 10923 }
     ensures { result ≡ get_or links.now k 0 }
 {
-    index_of(links[k])
+    usize::from(links[k])
 }
 
 // The driver of this number on the bucket from a head.
-fn find(nets: &[u64], links: &Words, from: usize, x: u64) -> usize
+fn find(nets: &[u64], links: &Words, from: usize, x: u64) -> Option<usize>
     requires { Falling links.now × (8 * from ≤ length nets.now) × (from ≤ 10923) }
     ensures { Found nets.now links.now from x result }
 {
     let mut h = from;
+    // Stays: the step is a link of the bucket, not one.
     while h > 0 {
         let k = h - 1;
         if nets[8 * k + 7] == x {
-            return h;
+            return Some(k);
         }
         h = next(links, k);
     }
-    0
+    None
 }
 
 // What drives the net of this number, of the inputs and the first i drivers.
+// Stays: the number is what the definition `driver_of` says, 12 + i where nothing drives the net.
 fn look(
     nets: &[u64],
     i: usize,
@@ -94,15 +87,13 @@ fn look(
     requires { (count ≤ 12) × Chained nets.now heads.now links.now i × (8 * i ≤ length nets.now) × (i ≤ 10923) }
     ensures { Looked nets.now inputs.now count i x result }
 {
-    let k = input_of(inputs, count, x);
-    if k < 12 {
+    if let Some(k) = input_of(inputs, count, x) {
         return k;
     }
-    let f = find(nets, links, head(heads, x), x);
-    if f == 0 {
-        return 12 + i;
+    match find(nets, links, head(heads, x), x) {
+        Some(k) => 12 + k,
+        None => 12 + i,
     }
-    11 + f
 }
 
 // Driver i at the head of its number's bucket.
@@ -116,7 +107,7 @@ fn enter(nets: &[u64], i: usize, heads: &mut Heads, links: &mut Words)
     heads[b] = (i + 1) as u16;
 }
 
-// "a line drives a net already driven": the first such driver, or n with all drivers on their buckets.
+// "a line drives a net already driven": `Err` has the first such driver; else all drivers are on their buckets.
 fn first_driven_twice(
     nets: &[u64],
     n: usize,
@@ -124,21 +115,18 @@ fn first_driven_twice(
     count: usize,
     heads: &mut Heads,
     links: &mut Words,
-) -> usize
+) -> Result<(), usize>
     requires { Drivers nets.now n count × Chained nets.now heads.old links.old 0 }
-    ensures { Once nets.now inputs.now count n result ×
-        (result ≡ n → Chained nets.now heads.new links.new n) }
+    ensures { Upto (Once nets.now inputs.now count n) n result × (result ≡ Ok tt → Chained nets.now heads.new links.new n) }
 {
-    let mut i = 0;
-    while i < n {
+    for i in 0..n {
         let x = nets[8 * i + 7];
         if look(nets, i, inputs, count, heads, links, x) != 12 + i {
-            return i;
+            return Err(i);
         }
         enter(nets, i, heads, links);
-        i += 1;
     }
-    i
+    Ok(())
 }
 
 // What stands at the pin at `at`: pin j of driver i is at 4 i + j.
@@ -162,7 +150,7 @@ fn pin_of(
     look(nets, n, inputs, count, heads, links, nets[8 * i + 3 + j])
 }
 
-// "one uses a net that no line drives": the first such driver, or n with every pin's number written.
+// "one uses a net that no line drives": `Err` has the first such driver; else every pin's number is written.
 fn first_undriven(
     nets: &[u64],
     n: usize,
@@ -171,37 +159,41 @@ fn first_undriven(
     heads: &Heads,
     links: &Words,
     refs: &mut Refs,
-) -> usize
+) -> Result<(), usize>
     requires { Drivers nets.now n count × Chained nets.now heads.now links.now n × (length refs.old ≡ 43692) }
-    ensures { Written nets.now inputs.now count n result refs.old refs.new }
+    ensures { Upto (λ r. Written nets.now inputs.now count n r refs.old refs.new) n result }
 {
-    let mut at = 0;
-    while at < 4 * n {
+    for at in 0..4 * n {
         let r = pin_of(nets, n, inputs, count, heads, links, at);
         if r == 12 + n {
-            return at / 4;
+            return Err(at / 4);
         }
         refs[at] = r as u16;
-        at += 1;
     }
-    n
+    Ok(())
 }
 
-// The first driver that the first part of 33 refuses, else the first that the second does, with zeros left; else n, with every pin's number.
-pub fn refer(nets: &[u64], n: usize, inputs: &[u64; 12], count: usize, refs: &mut Refs) -> usize
+// `Err` has the first driver that the first part of 33 refuses, else the first that the second does, with zeros left; else every pin's number
+// is written.
+pub fn refer(
+    nets: &[u64],
+    n: usize,
+    inputs: &[u64; 12],
+    count: usize,
+    refs: &mut Refs,
+) -> Result<(), usize>
     requires { Drivers nets.now n count × (length refs.old ≡ 43692) }
-    ensures { Referred nets.now inputs.now count n result refs.old refs.new }
+    ensures { Upto (λ r. Referred nets.now inputs.now count n r refs.old refs.new) n result }
 {
     let mut heads = [0u16; BUCKETS];
     let mut links = [0u16; DRIVERS];
-    let t = first_driven_twice(nets, n, inputs, count, &mut heads, &mut links);
-    if t < n {
+    if let Err(t) = first_driven_twice(nets, n, inputs, count, &mut heads, &mut links) {
         *refs = [0u16; PINS];
-        return t;
+        return Err(t);
     }
-    let f = first_undriven(nets, n, inputs, count, &heads, &links, refs);
-    if f < n {
+    if let Err(f) = first_undriven(nets, n, inputs, count, &heads, &links, refs) {
         *refs = [0u16; PINS];
+        return Err(f);
     }
-    f
+    Ok(())
 }

@@ -5,16 +5,15 @@
 ghost use Rattle.base.specs.{length};
 ghost use Rattle.checker.specs.BufferBounds.{Enough};
 
-use model::Checked;
-use program_files::Loaded;
+use model::{Comparison, Refusal};
 
-fn show(rt: &(impl Print + Eprint), c: Checked) {
+fn show(rt: &(impl Print + Eprint), c: Result<Comparison, Refusal>) {
     let written = match c {
-        Checked::Accepted => program_files::put(rt, b"accepted\n"),
-        Checked::Differs(assignment, output) => program_files::line(
+        Ok(Comparison::Equal) => program_files::put(rt, b"accepted\n"),
+        Ok(Comparison::Differs(assignment, output)) => program_files::line(
             rt, "differs", assignment, output,
         ),
-        Checked::Refused(number, place) => program_files::refused(rt, number, place),
+        Err(refusal) => program_files::refused(rt, refusal),
     };
     program_files::said(rt, written, "checker");
 }
@@ -39,11 +38,14 @@ fn main(rt: HostRuntime) {
     let mut graph = [0u8; 65537];
     let mut netlist = [0u8; 65537];
     let mut work = [0u16; 1036288];
-    let cells_read = program_files::load(&rt, "checker", "cells.txt", &mut cells);
-    let Loaded::Bytes(n) = cells_read else { return };
-    let graph_read = program_files::load(&rt, "checker", "graph.aag", &mut graph);
-    let Loaded::Bytes(m) = graph_read else { return };
-    let blif_read = program_files::load(&rt, "checker", "netlist.blif", &mut netlist);
-    let Loaded::Bytes(k) = blif_read else { return };
+    let Ok(n) = program_files::load(&rt, "checker", "cells.txt", &mut cells) else {
+        return
+    };
+    let Ok(m) = program_files::load(&rt, "checker", "graph.aag", &mut graph) else {
+        return
+    };
+    let Ok(k) = program_files::load(&rt, "checker", "netlist.blif", &mut netlist) else {
+        return
+    };
     check_files(&rt, &cells[..n], &graph[..m], &netlist[..k], &mut work);
 }

@@ -11,8 +11,7 @@ use Rattle.model.specs.declared.Phase.{Phase}
 use Rattle.base_words.specs.{put_at, HasCapacity, positive_addr, negative_addr, lists_from, slot_at, PhaseFits, phase_words, positive_at, negative_at}
 use Rattle.base_words.specs.{phases_at, phase_at}
 use Rattle.base_words.proofs.{length-put, length-phase, phase-put, phase-apart}
-use Rattle.cells_matching.specs.declared.Inverter.{Inverter}
-use Rattle.cells_matching.specs.{inverter_of, inverted, Matchable}
+use Rattle.cells_matching.specs.{Inverter, inverter_of, inverted, Matchable}
 use Rattle.cells_matching.proofs.{inverter-chosen}
 use Rattle.cover_choice.specs.{CutsIn, InputArrivalIn, uninverted_at, put_phases, chosen_step, chosen_up, Early, Choosable, Unchosen}
 use Rattle.cover_choice.proofs.KeptWords.{PhasesKept, kept_same, kept_on, kept_put, cuts_in_kept, input-arrival_in_kept, slots_in_kept}

@@ -1,8 +1,8 @@
 -- A cut of the words: how many leaves, whether it is the variable alone, and the arrivals of its leaves.
---     size_few, size-four, trivial_one, trivial_not       by the word of its size
+--     size_least, trivial_one, trivial_not       by the word of its size
 --     leaf_there, leaf_past                           the arrival of a leaf
 --     times_of_lem, times-bounded                          those of all are what matching asks for
-use Rattle.base.specs.{ℕ, zero, suc, ◌+◌, ◌*◌, ◌≤◌, ◌<◌, arith, ◌≡◌, refl, sym, ap, ◌∙◌, Bool, true, false, cond, ◌&&◌, List, [], ◌∷◌, eqb}
+use Rattle.base.specs.{ℕ, zero, suc, min, ◌+◌, ◌*◌, ◌≤◌, ◌<◌, arith, ◌≡◌, refl, sym, ap, ◌∙◌, Bool, true, false, cond, ◌&&◌, List, [], ◌∷◌, eqb}
 use Rattle.base.specs.{ltb, length, take, get_or, length-take, get_or-take, eqb-true, eqb-false, ltb-true, lt-ltb, le-ltb}
 use Rattle.model.specs.{same, literal, absent}
 use Rattle.model.specs.declared.Cut.{Cut}
@@ -11,11 +11,8 @@ use Rattle.base_words.specs.{leaves_of, phases_at, phase_at}
 use Rattle.cells_matching.specs.{infinite, last_time, time_of, ArrivalsBounded, TimesOf, Quick}
 use Rattle.cover_choice.specs.{leaf_time, times_at, Early}
 
-pub size_few : (c : Cut) → length c.leaves ≡ 4 → c.count < 4 → c.count ≡ length (leaves_of c)
-size_few c e h = omega (arith, length-take c.count c.leaves)
-
-pub size-four : (c : Cut) → length c.leaves ≡ 4 → 4 ≤ c.count → 4 ≡ length (leaves_of c)
-size-four c e h = omega (arith, length-take c.count c.leaves)
+pub size_least : (c : Cut) → length c.leaves ≡ 4 → min c.count 4 ≡ length (leaves_of c)
+size_least c e = omega (arith, length-take c.count c.leaves)
 
 -- ---- the variable alone
 

@@ -2,15 +2,14 @@
 -- words have.
 use Rattle.std.specs.Prelude.{◌≡◌, ◌+◌, ◌*◌, ◌≤◌, ◌∷◌, ◌++◌}
 use Rattle.base.specs.{ℕ, zero, suc, Bool, true, false, cond, List, [], map, ltb, length, get_or}
-use Rattle.model.specs.{same, Node, constant, input, undefined, both, literal, phase_table, Phases, no_phase, choose, match_phase, cut_matches}
+use Rattle.model.specs.{same, Node, constant, input, undefined, both, literal, phase_table, Phases, no_phase, choose, earlier, match_phase, cut_matches}
 use Rattle.model.specs.{joined}
 use Rattle.model.specs.declared.Cell.{Cell}
 use Rattle.model.specs.declared.Phase.{Phase}
 use Rattle.model.specs.declared.Source.TheVariants.{Input}
 use Rattle.base_words.specs.{put_at, slot_at, count_at, input_arrival_at, positive_addr, negative_addr, node_at, leaves_at, function_of, phase_words, phases_at}
 use Rattle.base_words.specs.{phase_at}
-use Rattle.cells_matching.specs.{MatchTable, inverter_of, infinite, time_of, phase_as}
-use Rattle.cells_matching.specs.declared.Inverter.{Inverter}
+use Rattle.cells_matching.specs.{Inverter, MatchTable, inverter_of, infinite, time_of, phase_as}
 use Rattle.cover_choice.specs.declared.CutMatch.{CutMatch}
 use Rattle.cover_choice.specs.ChoiceConditions.{SlotsIn, CutsIn, InputArrivalIn}
 
@@ -32,6 +31,10 @@ times_at w m cut =
 -- the phase that a best match gives
 abbrev pub found_phase : CutMatch → Phase
 found_phase found = phase_as found.cut found.best
+
+-- the best of what a best match gives and of other phases
+abbrev pub best_with : CutMatch → List Phase → Phase
+best_with former ps = earlier (found_phase former) (choose ps)
 
 -- what the matches on a cut give, f its function in the phase
 unfoldable pub found_on : List Cell → List ℕ → ℕ → ℕ → List ℕ → ℕ → List Phase

@@ -1,7 +1,6 @@
 -- The first output without a source, as the words have it.
 use Rattle.base.specs.{ℕ, List, map}
-use Rattle.model.specs.{from, refused_at, first_of, uncovered}
-use Rattle.model.specs.declared.Verdict.{Verdict}
+use Rattle.model.specs.{from, refused_at, first_of, uncovered, Verdict}
 use Rattle.base_words.specs.{output_at, phase_at}
 
 -- n outputs' literals from output k on

@@ -11,22 +11,12 @@ ghost use Rattle.cells_pairs.specs.{Joinable, cells_by, Coded};
 ghost use Rattle.cells_matching.specs.{LibraryInBounds, Matchable, match_table_length, list_matched, MatchTable, is_listed, ArrivalsBounded, time_of, best_of};
 ghost use Rattle.cells_matching.specs.{phase_as};
 ghost use Rattle.cells_matching.specs.{inverted};
-ghost use Rattle.cells_matching.specs.declared.Inverter.TheVariants.{Is};
 ghost use Rattle.cover_choice.specs.{PinsOf, PinsIn, LeavesIn, OutputsIn, SlotsIn, CutsIn, MatchIn, MatchesIn, leaf_time, times_at};
-ghost use Rattle.cover_choice.specs.{found_phase, found_on, found_at, best_at, input_phase, uninverted_at, chosen_step, chosen_up, ToolsIn};
+ghost use Rattle.cover_choice.specs.{found_phase, best_with, found_on, found_at, best_at, input_phase, uninverted_at, chosen_step, chosen_up, ToolsIn};
 ghost use Rattle.cover_choice.specs.{Choosable, Unchosen, missing, put_all, put_outputs, feeds_at, fed_once, fed_step, fed_down, marked};
 
-use cells_matching::{Best, Inverter};
-use model::{Cut, Header, Library, Match, Phase, Source, Verdict};
-
-// ---- used throughout
-
-// A word as an index.
-fn index_of(x: u16) -> usize
-    ensures { (result ≡ x) × (result < 65536) }
-{
-    x as usize
-}
+use cells_matching::Best;
+use model::{Cut, Header, Library, Match, Phase, Refusal, Source};
 
 // ---- the choice
 
@@ -68,7 +58,7 @@ fn size(cut: Cut) -> usize
     requires { length cut.leaves ≡ 4 }
     ensures { result ≡ length (leaves_of cut) }
 {
-    if cut.count < 4 { cut.count } else { 4 }
+    cut.count.min(4)
 }
 
 // Whether cut number k of v is "the variable alone". "The matcher should scan sizes alone": the leaf is looked at where it is the only one.
@@ -76,11 +66,7 @@ fn is_trivial(work: &[u16], m: usize, v: usize, k: usize) -> bool
     requires { HasCapacity work.now m × (v ≤ m) × (k < cut_limit) }
     ensures { result ≡ same (leaves_at work.now m v k) (v ∷ []) }
 {
-    if base_words::cut_size(work, m, v, k) == 1 {
-        index_of(base_words::leaf(work, m, v, k, 0)) == v
-    } else {
-        false
-    }
+    base_words::cut_size(work, m, v, k) == 1 && usize::from(base_words::leaf(work, m, v, k, 0)) == v
 }
 
 // The arrival of leaf i in a phase.
@@ -89,8 +75,7 @@ fn leaf_time(work: &[u16], m: usize, cut: Cut, i: usize, neg: usize) -> u32
     ensures { result ≡ leaf_time work.now m (leaves_of cut) i (eqb neg 1) }
 {
     if i < size(cut) {
-        let leaves = cut.leaves;
-        time(base_words::phase(work, m, 2 * index_of(leaves[i]) + neg))
+        time(base_words::phase(work, m, 2 * usize::from(cut.leaves[i]) + neg))
     } else {
         cells_matching::INFINITE
     }
@@ -121,14 +106,14 @@ fn times(work: &[u16], m: usize, cut: Cut) -> [u32; 16]
     ]
 }
 
-// Both phases of a variable.
+// What belongs to each phase of a variable.
 #[derive(Clone, Copy)]
-struct Both {
-    positive: Phase,
-    negative: Phase,
+struct Both<T> {
+    positive: T,
+    negative: T,
 }
 
-fn neither() -> Both
+fn neither() -> Both<Phase>
     ensures { (result.positive ≡ no_phase) × (result.negative ≡ no_phase) }
 {
     let p = nothing();
@@ -143,11 +128,8 @@ fn is_matched(matches: &[u32], f: u16) -> bool
     requires { 65536 ≤ length matches.now }
     ensures { result ≡ false → (is_listed matches.now f ≡ false) × (is_listed matches.now (phase_table true f) ≡ false) }
 {
-    if cells_matching::is_listed(matches, f) {
-        true
-    } else {
-        cells_matching::is_listed(matches, base_truth::in_phase(true, f))
-    }
+    cells_matching::is_listed(matches, f)
+        || cells_matching::is_listed(matches, base_truth::in_phase(true, f))
 }
 
 // A best match, and the number of its cut.
@@ -189,13 +171,6 @@ fn match_phase(matches: &[u32], k: usize, f: u16, t: &[u32; 16], former: CutMatc
     former
 }
 
-// The best matches in both phases.
-#[derive(Clone, Copy)]
-struct CutMatches {
-    positive: CutMatch,
-    negative: CutMatch,
-}
-
 // The best matches of the cuts before, or those on cut number k of v, f its function.
 fn match_cut(
     work: &[u16],
@@ -204,24 +179,23 @@ fn match_cut(
     k: usize,
     f: u16,
     matches: &[u32],
-    positive: CutMatch,
-    negative: CutMatch,
-) -> CutMatches
+    former: Both<CutMatch>,
+) -> Both<CutMatch>
     requires { ((cells : List Cell) × MatchTable cells matches.now) × Choosable work.now m × (v ≤ m) × (k < count_at work.now m v) }
     ensures { (cells : List Cell) → MatchTable cells matches.now →
-        (found_phase result.positive ≡
-        earlier (found_phase positive) (choose (found_on cells work.now m k (leaves_at work.now m v k) f))) ×
-        (found_phase result.negative ≡
-        earlier (found_phase negative)
-        (choose (found_on cells work.now m k (leaves_at work.now m v k) (phase_table true f)))) }
+        (found_phase result.positive ≡ best_with former.positive (found_on cells work.now m k (leaves_at work.now m v k) f)) ×
+        (found_phase result.negative ≡ best_with former.negative (found_on cells work.now m k (leaves_at work.now m v k) (phase_table true f))) }
 {
     let t = times(work, m, base_words::load_cut(work, m, v, k));
-    let p = match_phase(matches, k, f, &t, positive);
-    let n = match_phase(matches, k, base_truth::in_phase(true, f), &t, negative);
-    CutMatches {
-        positive: p,
-        negative: n,
-    }
+    let positive = match_phase(matches, k, f, &t, former.positive);
+    let negative = match_phase(
+        matches,
+        k,
+        base_truth::in_phase(true, f),
+        &t,
+        former.negative,
+    );
+    Both { positive, negative }
 }
 
 // The function of cut number k of v.
@@ -239,50 +213,45 @@ fn cut_phases(
     v: usize,
     k: usize,
     matches: &[u32],
-    positive: CutMatch,
-    negative: CutMatch,
-) -> CutMatches
+    former: Both<CutMatch>,
+) -> Both<CutMatch>
     requires { ((cells : List Cell) × MatchTable cells matches.now) × Choosable work.now m × (v ≤ m) × (k < count_at work.now m v) }
     ensures { (cells : List Cell) → MatchTable cells matches.now →
-        (found_phase result.positive ≡ earlier (found_phase positive) (choose (found_at cells work.now m v false k))) ×
-        (found_phase result.negative ≡ earlier (found_phase negative) (choose (found_at cells work.now m v true k))) }
+        (found_phase result.positive ≡ best_with former.positive (found_at cells work.now m v false k)) ×
+        (found_phase result.negative ≡ best_with former.negative (found_at cells work.now m v true k)) }
 {
     if is_trivial(work, m, v, k) {
-        return CutMatches { positive, negative };
+        return former;
     }
     let f = table(work, m, v, k);
     if !is_matched(matches, f) {
-        return CutMatches { positive, negative };
+        return former;
     }
-    match_cut(work, m, v, k, f, matches, positive, negative)
+    match_cut(work, m, v, k, f, matches, former)
 }
 
 // The best matches of v, from its first cut to its last: of equal arrivals the lowest cut's.
-fn best_phases(work: &[u16], m: usize, v: usize, matches: &[u32]) -> Both
+fn best_phases(work: &[u16], m: usize, v: usize, matches: &[u32]) -> Both<Phase>
     requires { ((cells : List Cell) × MatchTable cells matches.now) × Choosable work.now m × (v ≤ m) }
     ensures { (cells : List Cell) → MatchTable cells matches.now → (result.positive ≡ best_at cells work.now m v false) ×
         (result.negative ≡ best_at cells work.now m v true) }
 {
-    let mut positive = none_found();
-    let mut negative = none_found();
-    let n = base_words::count(work, m, v);
-    let mut k: usize = 0;
-    while k < n {
-        let b = cut_phases(work, m, v, k, matches, positive, negative);
-        positive = b.positive;
-        negative = b.negative;
-        k += 1;
+    let none = none_found();
+    let mut found = Both {
+        positive: none,
+        negative: none,
+    };
+    for k in 0..base_words::count(work, m, v) {
+        found = cut_phases(work, m, v, k, matches, found);
     }
-    let p = found_phase(positive);
-    let n = found_phase(negative);
     Both {
-        positive: p,
-        negative: n,
+        positive: found_phase(found.positive),
+        negative: found_phase(found.negative),
     }
 }
 
 // "an input's own positive net": "every arrival starts from it".
-fn input_source(work: &[u16], m: usize, v: usize) -> Both
+fn input_source(work: &[u16], m: usize, v: usize) -> Both<Phase>
     requires { HasCapacity work.now m × (v ≤ m) }
     ensures { (result.positive ≡ input_phase work.now m v false) × (result.negative ≡ input_phase work.now m v true) }
 {
@@ -295,7 +264,7 @@ fn input_source(work: &[u16], m: usize, v: usize) -> Both
 }
 
 // The phases of v without inverters: "for an input's positive phase its own net, otherwise earliest arrival".
-fn uninverted_source(work: &[u16], m: usize, v: usize, matches: &[u32]) -> Both
+fn uninverted_source(work: &[u16], m: usize, v: usize, matches: &[u32]) -> Both<Phase>
     requires { ((cells : List Cell) × MatchTable cells matches.now) × Choosable work.now m × (v ≤ m) }
     ensures { (cells : List Cell) → MatchTable cells matches.now → (result.positive ≡ uninverted_at cells work.now m v false) ×
         (result.negative ≡ uninverted_at cells work.now m v true) }
@@ -310,30 +279,30 @@ fn uninverted_source(work: &[u16], m: usize, v: usize, matches: &[u32]) -> Both
 // An inverter, if there is something to feed it.
 fn inverter_phase(line: usize, d: u16, from: Phase) -> Phase
     requires { from.arrival ≤ 4294901759 }
-    ensures { result ≡ inverted (Is line d) from }
+    ensures { result ≡ inverted (Some (line, d)) from }
 {
     if base_words::is_absent(from) {
         return nothing();
     }
     Phase {
         source: Source::Inverter(line),
-        arrival: from.arrival + d as u32,
+        arrival: from.arrival + u32::from(d),
     }
 }
 
 // "a one-pin cell with table 0001 fed by the opposite phase of that variable"
-fn invert(inv: Inverter, from: Phase) -> Phase
+fn invert(inv: Option<(usize, u16)>, from: Phase) -> Phase
     requires { from.arrival ≤ 4294901759 }
     ensures { result ≡ inverted inv from }
 {
     match inv {
-        Inverter::Is(line, d) => inverter_phase(line, d, from),
-        Inverter::Missing => nothing(),
+        Some((line, d)) => inverter_phase(line, d, from),
+        None => nothing(),
     }
 }
 
 // Both phases of v: "then a matched cell before the inverter". Both are known before an inverter is tried, so none feeds an inverter.
-fn choose_variable(work: &mut [u16], m: usize, v: usize, inv: Inverter, matches: &[u32])
+fn choose_variable(work: &mut [u16], m: usize, v: usize, inv: Option<(usize, u16)>, matches: &[u32])
     requires { ((cells : List Cell) × ToolsIn cells matches.now inv) × Choosable work.old m × (v ≤ m) }
     ensures { (cells : List Cell) → ToolsIn cells matches.now inv → work.new ≡ chosen_step cells work.old m v }
 {
@@ -347,15 +316,19 @@ fn choose_variable(work: &mut [u16], m: usize, v: usize, inv: Inverter, matches:
 }
 
 // In topological order.
-fn choose_variables(work: &mut [u16], m: usize, n: usize, inv: Inverter, matches: &[u32])
+fn choose_variables(
+    work: &mut [u16],
+    m: usize,
+    n: usize,
+    inv: Option<(usize, u16)>,
+    matches: &[u32],
+)
     requires { ((cells : List Cell) × ToolsIn cells matches.now inv) × Unchosen work.old m n }
     ensures { (cells : List Cell) → ToolsIn cells matches.now inv → work.new ≡ chosen_up cells work.old m n }
 {
-    let mut i: usize = 0;
-    while i < n {
+    for i in 0..n {
         let v = base_words::slot(work, m, i);
         choose_variable(work, m, v, inv, matches);
-        i += 1;
     }
 }
 
@@ -364,8 +337,7 @@ fn match_listed(lib: Library, matches: &mut [u32])
     requires { Joinable lib × (match_table_length lib.n ≤ length matches.old) }
     ensures { matches.new ≡ list_matched (cells_of lib) 0 matches.old }
 {
-    let cells = lib.cells;
-    cells_matching::build(&cells[..lib.n], matches);
+    cells_matching::build(&lib.cells[..lib.n], matches);
 }
 
 // The cells to map with, matched: "Pairs follow the listed cells", and a bucket is filled from its end. What a match table then holds serves every graph of
@@ -399,20 +371,19 @@ fn lacks_source(work: &[u16], m: usize, outputs: usize, k: usize) -> bool
 }
 
 // "An output has no cover; place, the lowest such index, from 0."
-pub fn uncovered(work: &[u16], h: Header) -> Verdict
+pub fn uncovered(work: &[u16], h: Header) -> Result<(), Refusal>
     requires { OutputsIn work.now h.size h.outputs }
     ensures { result ≡ missing work.now h.size h.outputs }
 {
-    let m = h.size;
-    let n = h.outputs;
-    let mut k: usize = 0;
-    while k < n {
-        if lacks_source(work, m, n, k) {
-            return Verdict::Refused(17, k);
+    for k in 0..h.outputs {
+        if lacks_source(work, h.size, h.outputs, k) {
+            return Err(Refusal {
+                number: 17,
+                place: k,
+            });
         }
-        k += 1;
     }
-    Verdict::Accepted
+    Ok(())
 }
 
 // ---- the needed phases
@@ -422,10 +393,8 @@ fn mark_pins(work: &mut [u16], m: usize, leaves: [u16; 4], order: usize, mask: u
     requires { HasCapacity work.old m × PinsIn leaves m order pins }
     ensures { work.new ≡ put_all work.old m (fed_nets pins (places_of order) mask leaves) }
 {
-    let mut j: usize = 0;
-    while j < pins {
+    for j in 0..pins {
         base_words::mark_needed(work, m, base_truth::pin_net(leaves, order, mask, j));
-        j += 1;
     }
 }
 
@@ -434,12 +403,9 @@ pub fn pin_counts(lib: Library, ids: &[u16]) -> [u16; 256]
     requires { Coded lib ids.now }
     ensures { PinsOf (cells_by (cells_of lib) ids.now) result }
 {
-    let n = lib.n + ids.len();
-    let mut pins = [0u16; 256];
-    let mut k: usize = 0;
-    while k < n {
+    let mut pins = [0; 256];
+    for k in 0..lib.n + ids.len() {
         pins[k] = cells_pairs::pins_of(lib, ids, k);
-        k += 1;
     }
     pins
 }
@@ -451,10 +417,14 @@ fn mark_match(work: &mut [u16], pins: &[u16; 256], m: usize, v: usize, x: Match)
         put_all work.old m (match_nets cells (leaves_at work.old m v x.cut) x) }
 {
     let cut = base_words::load_cut(work, m, v, x.cut);
-    let leaves = cut.leaves;
-    let k = x.cell;
-    let count = pins[k];
-    mark_pins(work, m, leaves, x.order, x.mask, index_of(count));
+    mark_pins(
+        work,
+        m,
+        cut.leaves,
+        x.order,
+        x.mask,
+        usize::from(pins[x.cell]),
+    );
 }
 
 // What feeds a phase is needed.
@@ -464,8 +434,7 @@ fn mark_feeds(work: &mut [u16], pins: &[u16; 256], m: usize, l: usize)
         work.old m (feeds_at cells work.old m l) }
 {
     let p = base_words::phase(work, m, l);
-    let s = p.source;
-    match s {
+    match p.source {
         Source::Cell(x) => mark_match(work, pins, m, l / 2, x),
         Source::Inverter(_) => base_words::mark_needed(work, m, base_truth::opposite(l)),
         Source::Input => {}
@@ -504,11 +473,9 @@ fn mark_outputs(work: &mut [u16], m: usize, outputs: usize)
     requires { OutputsIn work.old m outputs }
     ensures { work.new ≡ put_outputs work.old m 0 outputs }
 {
-    let mut k: usize = 0;
-    while k < outputs {
+    for k in 0..outputs {
         let l = base_words::output(work, m, outputs, k);
         base_words::mark_needed(work, m, l);
-        k += 1;
     }
 }
 
@@ -518,9 +485,7 @@ fn mark_variables(work: &mut [u16], pins: &[u16; 256], m: usize, n: usize)
     ensures { (cells : List Cell) → MatchesIn cells work.old m → PinsOf cells pins.now → work.new ≡ fed_down cells
         work.old m n }
 {
-    let mut i = n;
-    while i > 0 {
-        i -= 1;
+    for i in (0..n).rev() {
         let v = base_words::slot(work, m, i);
         mark_variable(work, pins, m, v);
     }

@@ -1,7 +1,7 @@
 -- The word that a walk finds is the table of `model`: bit r of it is what the walk of `model` gives in row r.
 --     walk-bit                    a bit of the word
 --     walk-table                  the word is `tabulate` of the walk
-use Rattle.base.specs.{◌≡◌, refl, sym, ap, ap₂, ◌∙◌, Bool, true, false, not, cond, ◌&&◌, none, some, ◌⊎◌, inl, inr, List, [], ◌∷◌, ℕ, zero}
+use Rattle.base.specs.{◌≡◌, refl, sym, ap, ap₂, ◌∙◌, Bool, true, false, not, cond, ◌&&◌, None, Some, ◌⊎◌, inl, inr, List, [], ◌∷◌, ℕ, zero}
 use Rattle.base.specs.{suc, ◌+◌, ◌≤◌, ◌<◌, arith, and_le_l, eqb, ltb, length, lt-ltb}
 use Rattle.model.specs.{bit, flip, or_else, Node, constant, input, undefined, both, node, var_of, negated, literal_value, node_value, leaf_bit}
 use Rattle.model.specs.{walk, cut_table, phase_table, value}
@@ -21,7 +21,7 @@ leaf_row j r h = value_pattern j r h
 
 -- a leaf by its word and by its bit: both say that v is none, or both are those of leaf j
 Both : List ℕ → ℕ → ℕ → ℕ → Type 0
-Both ls i r v = ((leaf_word ls i v ≡ 65536) × (leaf_bit ls i r v ≡ none)) ⊎ ((j : ℕ) × (j < 4) × (leaf_word ls i v ≡ leaf_table j) × (leaf_bit ls i r v ≡ some (bit r j)))
+Both ls i r v = ((leaf_word ls i v ≡ 65536) × (leaf_bit ls i r v ≡ None)) ⊎ ((j : ℕ) × (j < 4) × (leaf_word ls i v ≡ leaf_table j) × (leaf_bit ls i r v ≡ Some (bit r j)))
 
 leaf_both : (ls : List ℕ) (i r v : ℕ) → i + length ls ≤ 4 → Both ls i r v
 unfolding Both leaf_word leaf_bit
@@ -29,8 +29,8 @@ leaf_both [] i r v h = inl (refl, refl)
 leaf_both (x ∷ xs) i r v h = by (eqb v x) (leaf_both xs (suc i) r v (omega arith))
   where
     by : (t : Bool) → Both xs (suc i) r v
-        → ((cond t (leaf_table i) (leaf_word xs (suc i) v) ≡ 65536) × (cond t (some (bit r i)) (leaf_bit xs (suc i) r v) ≡ none))
-        ⊎ ((j : ℕ) × (j < 4) × (cond t (leaf_table i) (leaf_word xs (suc i) v) ≡ leaf_table j) × (cond t (some (bit r i)) (leaf_bit xs (suc i) r v) ≡ some (bit r j)))
+        → ((cond t (leaf_table i) (leaf_word xs (suc i) v) ≡ 65536) × (cond t (Some (bit r i)) (leaf_bit xs (suc i) r v) ≡ None))
+        ⊎ ((j : ℕ) × (j < 4) × (cond t (leaf_table i) (leaf_word xs (suc i) v) ≡ leaf_table j) × (cond t (Some (bit r i)) (leaf_bit xs (suc i) r v) ≡ Some (bit r j)))
     by true rest = inr (i, omega arith, refl, refl)
     by false rest = rest
 

@@ -229,9 +229,6 @@ module _ {w : List ℕ} {m base v : ℕ} {notes one : List ℕ} {x : ℕ} where
         later = λ i l. t.later i l ∙ n.later i l;
       }
 
-pub never : {b : Bool} → b ≡ true → b ≡ false → ⊥
-never e f = let z : ◌≡◌ {A = ℕ} 0 1 = cc in omega arith
-
 -- what is known of the notes and the answer of one arm, where both arms meet
 pub moved : (P : List ℕ → ℕ → Type 0) {one out : List ℕ} {x z : ℕ} → out ≡ one → z ≡ x → P one x → P out z
 moved P {one} {z = z} eo ez t = subst (λ (q : List ℕ). P q z) (sym eo) (subst (P one) (sym ez) t)

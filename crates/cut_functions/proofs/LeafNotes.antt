@@ -1,12 +1,11 @@
 -- The leaves' tables among the notes.
 --     leaf_begin, leaf_step       none noted yet, and one more, from the last to the first
 --     fresh-noted, fresh-early    what a walk with a new number begins from
---     four_same                   four leaves are equal one by one
 --     leaves-small                a leaf is a variable, so that it has a note
 --     cut-..., begun              a cut that is loaded, and the notes with its leaves
 use Rattle.base.specs.{◌≡◌, refl, sym, ap, ◌∙◌, subst, Bool, true, false, cond, ◌⊎◌, inl, inr, ⊎_elim, List, [], ◌∷◌, ℕ, zero, suc, ◌+◌}
 use Rattle.base.specs.{◌≤◌, ◌<◌, not-suc-le-zero, le_of_suc-le-suc, arith, eqb, length, drop, get_or, set, length-set, drop_of_length-le}
-use Rattle.base.specs.{drop-cons, get_or-set_same, get_or-set_other, ext_get_or, length-take-le, get_or-take, eqb-true, eqb-false}
+use Rattle.base.specs.{drop-cons, get_or-set_same, get_or-set_other, length-take-le, get_or-take, eqb-true, eqb-false}
 use Rattle.model.specs.declared.Cut.{Cut}
 use Rattle.base_words.specs.{count_at, node_at, leaves_of, leaves_at, cut_of, cuts_at, Leaves, Sound}
 use Rattle.base_words.proofs.{four-leaves, count-listed, cut-listed, good_get}
@@ -80,17 +79,6 @@ pub leaves-small : (lo : ℕ) (ls : List ℕ) → Leaves lo ls → (j : ℕ) →
 leaves-small lo [] good j h = absurd (not-suc-le-zero h)
 leaves-small lo (x ∷ xs) good zero h = good.1
 leaves-small lo (x ∷ xs) good (suc j) h = leaves-small (suc x) xs good.2 j (le_of_suc-le-suc h)
-
-pub four_same : (a b : List ℕ) → length a ≡ 4 → length b ≡ 4 → get_or a 0 0 ≡ get_or b 0 0 → get_or a 1 0 ≡ get_or b 1 0 → get_or a 2 0 ≡ get_or b 2 0 → get_or a 3 0 ≡ get_or b 3 0 → a ≡ b
-four_same a b la lb e₀ e₁ e₂ e₃ =
-    ext_get_or 0 a b (la ∙ sym lb) by
-  where
-    by : (i : ℕ) → i < length a → get_or a i 0 ≡ get_or b i 0
-    by zero h = e₀
-    by (suc zero) h = e₁
-    by (suc (suc zero)) h = e₂
-    by (suc (suc (suc zero))) h = e₃
-    by (suc (suc (suc (suc i)))) h = absurd (omega arith)
 
 -- a cut that is loaded: at most four leaves, each a variable
 module _ (w : List ℕ) (m v k : ℕ) (s : Sound w m v) (h : k < count_at w m v) (c : Cut) (e : c ≡ cut_of w m v k) where

@@ -1,6 +1,6 @@
 -- The function of a cut as a word of 16 rows, by the walk from the root down, and what a walk has noted.
 use Rattle.std.specs.Prelude.{◌≡◌, ◌∷◌, ◌+◌, ◌*◌, ◌/◌, ◌≤◌, ◌<◌}
-use Rattle.base.specs.{cond, List, [], ℕ, zero, suc, bit_and, eqb, ltb, length, get_or, set}
+use Rattle.base.specs.{cond, List, [], ℕ, zero, suc, bit_and, eqb, ltb, length, get_or, set, Option, None, Some}
 use Rattle.model.specs.{Node, constant, input, undefined, both, var_of, negated, phase_table}
 use Rattle.base_words.specs.{HasCapacity, and_kind, kind_at, left_at, right_at, position_at, node_at}
 use Rattle.base_truth.specs.{leaf_table}
@@ -74,6 +74,11 @@ pub record FromLeaves (w : List ℕ) (m base v : ℕ) (notes out : List ℕ) (r 
   pub unnoted : 65536 ≤ r → get_or out v 0 < base
   pub early : Early m (base + 65536) out
   pub later : (i : ℕ) → position_at w m v < position_at w m i → get_or out i 0 ≡ get_or notes i 0
+
+-- a table, or 65536 where a walk is asked for: above every table
+abbrev pub or_missing : Option ℕ → ℕ
+or_missing None = 65536
+or_missing (Some x) = x
 
 -- the AND of two literals whose variables have the tables x and y
 unfoldable pub joined : ℕ → ℕ → ℕ → ℕ → ℕ

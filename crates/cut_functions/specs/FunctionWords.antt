@@ -1,7 +1,6 @@
 -- The functions of all cuts, in topological order, and the words that hold them.
 use Rattle.std.specs.Prelude.{◌≡◌, ◌+◌, ◌/◌, ◌≤◌, ◌<◌}
-use Rattle.base.specs.{List, map, ℕ, zero, suc}
-use Rattle.model.specs.{cut_limit}
+use Rattle.base.specs.{List, map, ℕ, zero, suc, Option, None, Some}
 use Rattle.base_words.specs.{and_kind, kind_at, left_at, right_at, position_at, slot_at, count_at, node_at, leaves_at, cuts_at, function_of, put_functions}
 use Rattle.base_words.specs.{Sound}
 use Rattle.cut_functions.specs.ConeTable.{walk_word, Ordered}
@@ -22,10 +21,10 @@ unfolding functions_of
 filled w m zero = w
 filled w m (suc i) = put_functions (filled w m i) m (slot_at w m i) 0 (functions_of w m (slot_at w m i))
 
--- cut r of u, if it is one, has the leaves ls
-pub record SameCut (w : List ℕ) (m u : ℕ) (ls : List ℕ) (r : ℕ) : Type 0 where
-  pub listed : r < cut_limit → r < count_at w m u
-  pub same : r < cut_limit → leaves_at w m u r ≡ ls
+-- the cut of u that is found, if there is one, has the leaves ls
+abbrev pub SameCut : List ℕ → ℕ → ℕ → List ℕ → Option ℕ → Type 0
+SameCut w m u ls None = Unit {0}
+SameCut w m u ls (Some r) = (r < count_at w m u) × (leaves_at w m u r ≡ ls)
 
 -- every cut of u has its function
 pub record Done (w : List ℕ) (m u : ℕ) : Type 0 where

@@ -3,10 +3,10 @@
 #![tactic(auto)]
 
 ghost use Rattle.std.specs.Prelude.{◌≡◌, ◌∷◌, ◌+◌, ◌*◌, ◌/◌, ◌≤◌, ◌<◌};
-ghost use Rattle.base.specs.{true, false, [], ℕ, take, get_or, set};
+ghost use Rattle.base.specs.{true, [], ℕ, take, get_or, set};
 ghost use Rattle.model.specs.{cut_limit};
 ghost use Rattle.base_words.specs.{HasCapacity, and_kind, kind_at, left_at, right_at, count_at, position_at, leaves_at, put_functions};
-ghost use Rattle.cut_functions.specs.{leaf_notes, Early, Noted, Ordered, Walked, FromLeaves, joined, cut_word, functions_of, SameCut, Done};
+ghost use Rattle.cut_functions.specs.{leaf_notes, or_missing, Early, Noted, Ordered, Walked, FromLeaves, joined, cut_word, functions_of, SameCut, Done};
 ghost use Rattle.cut_functions.specs.{Reached, Ready, filled};
 
 // A note for each variable: "M exceeds 4,095" is refused.
@@ -17,32 +17,21 @@ type Notes = [usize; VARIABLES];
 // The notes of one walk go from 65536 times its number on, so that a higher number makes all earlier ones void.
 const STEP: usize = 65536;
 
-// In the place of a table that asks for a walk: above every table.
-const MISSING: usize = 65536;
-
-fn index_of(x: u16) -> usize
-    ensures { result ≡ x }
-{
-    x as usize
-}
-
 // The leaves' tables noted, "leaf number i (ascending, from 0) is bit i of the row". A cut has four leaves at most, and four turns are
 // compiled without a loop.
 fn note_leaves(notes: &mut Notes, base: usize, leaves: [u16; 4], n: usize)
     requires { (n ≤ 4) × (base < 65536000000) × ((i : ℕ) → i < n → get_or leaves i 0 < 4096) }
     ensures { notes.new ≡ leaf_notes (take n leaves) 0 base notes.old }
 {
-    let mut i = 4;
-    while i > 0 {
-        i -= 1;
+    for i in (0..4).rev() {
         if i < n {
-            let u = index_of(leaves[i]);
-            notes[u] = base + index_of(base_truth::pattern(i));
+            notes[usize::from(leaves[i])] = base + usize::from(base_truth::pattern(i));
         }
     }
 }
 
 // The AND of two literals, from their variables' tables.
+#[tactic(auto, unfolding(crate::specs::joined, crate::specs::literal_word, model::specs::negated))]
 fn and_word(l: usize, x: u16, r: usize, y: u16) -> u16
     ensures { result ≡ joined l x r y }
 {
@@ -55,83 +44,67 @@ fn note_and(notes: &mut Notes, base: usize, v: usize, l: usize, x: u16, r: usize
     ensures { (result ≡ joined l x r y) × (notes.new ≡ set notes.old v (base + result)) }
 {
     let z = and_word(l, x, r, y);
-    notes[v] = base + index_of(z);
+    notes[v] = base + usize::from(z);
     z
 }
 
 // The table of u over the leaves, where no walk is wanted: "a leaf gives its bit and the walk stops there", and so at all that is noted, at
-// what is no AND, and one step above what is noted. Callers have it without a call when compiled.
-fn from_leaves(work: &[u16], m: usize, notes: &mut Notes, base: usize, u: usize) -> usize
+// what is no AND, and one step above what is noted. None where it asks for a walk. Callers have it without a call when compiled.
+fn from_leaves(work: &[u16], m: usize, notes: &mut Notes, base: usize, u: usize) -> Option<u16>
     requires { Ordered work.now m × Early m (base + 65536) notes.old × (base < 65536000000) × (u ≤ m) ×
         (0 < position_at work.now m u) }
-    ensures { FromLeaves work.now m base u notes.old notes.new result }
+    ensures { FromLeaves work.now m base u notes.old notes.new (or_missing result) }
 {
     let t = notes[u];
     if base <= t {
-        return t - base;
+        return Some((t - base) as u16);
     }
     if base_words::kind(work, m, u) != base_words::AND {
-        return 0;
+        return Some(0);
     }
     let l = base_words::left(work, m, u);
     let x = notes[l / 2];
     if x < base {
-        return MISSING;
+        return None;
     }
     let r = base_words::right(work, m, u);
     let y = notes[r / 2];
     if y < base {
-        return MISSING;
+        return None;
     }
-    index_of(note_and(notes, base, u, l, (x - base) as u16, r, (y - base) as u16))
+    Some(note_and(notes, base, u, l, (x - base) as u16, r, (y - base) as u16))
 }
 
-// The table of an AND that is not noted, by a walk; where it is to be shallow, `MISSING` in the place of a walk from an operand on.
-fn recursive(
-    work: &[u16],
-    m: usize,
-    notes: &mut Notes,
-    base: usize,
-    v: usize,
-    shallow: bool,
-) -> usize
+// The table of an AND that is not noted, by a walk; none where the walk would go on from an operand.
+fn shallow(work: &[u16], m: usize, notes: &mut Notes, base: usize, v: usize) -> Option<u16>
     requires { Ordered work.now m × Early m (base + 65536) notes.old × (base < 65536000000) × (v ≤ m) × (kind_at work.now m v ≡ and_kind) ×
         (get_or notes.old v 0 < base) }
-    ensures from_leaves { FromLeaves work.now m base v notes.old notes.new result }
-    ensures upper_bound { shallow ≡ false → result < 65536 }
+    ensures { FromLeaves work.now m base v notes.old notes.new (or_missing result) }
 {
     let l = base_words::left(work, m, v);
     let r = base_words::right(work, m, v);
-    let mut x = from_leaves(work, m, notes, base, l / 2);
-    if x >= MISSING {
-        if shallow {
-            return MISSING;
-        }
-        x = recursive(work, m, notes, base, l / 2, false);
-    }
-    let mut y = from_leaves(work, m, notes, base, r / 2);
-    if y >= MISSING {
-        if shallow {
-            return MISSING;
-        }
-        y = recursive(work, m, notes, base, r / 2, false);
-    }
-    index_of(note_and(notes, base, v, l, x as u16, r, y as u16))
+    let x = from_leaves(work, m, notes, base, l / 2)?;
+    let y = from_leaves(work, m, notes, base, r / 2)?;
+    Some(note_and(notes, base, v, l, x, r, y))
 }
 
-fn same_leaves(a: [u16; 4], b: [u16; 4]) -> bool
-    ensures { result ≡ true → a ≡ b }
+// The same, where the walk goes on as far as it has to.
+fn recursive(work: &[u16], m: usize, notes: &mut Notes, base: usize, v: usize) -> u16
+    requires { Ordered work.now m × Early m (base + 65536) notes.old × (base < 65536000000) × (v ≤ m) × (kind_at work.now m v ≡ and_kind) ×
+        (get_or notes.old v 0 < base) }
+    ensures { FromLeaves work.now m base v notes.old notes.new result }
 {
-    if a[0] != b[0] {
-        return false;
-    }
-    if a[1] != b[1] {
-        return false;
-    }
-    if a[2] != b[2] {
-        return false;
-    }
-    a[3] == b[3]
+    let l = base_words::left(work, m, v);
+    let r = base_words::right(work, m, v);
+    let x = match from_leaves(work, m, notes, base, l / 2) {
+        Some(x) => x,
+        None => recursive(work, m, notes, base, l / 2),
+    };
+    let y = match from_leaves(work, m, notes, base, r / 2) {
+        Some(y) => y,
+        None => recursive(work, m, notes, base, r / 2),
+    };
+    note_and(notes, base, v, l, x, r, y)
 }
 
 // Whether cut k of u has these four leaves.
@@ -140,11 +113,7 @@ fn is_cut(work: &[u16], m: usize, u: usize, k: usize, leaves: [u16; 4]) -> bool
     ensures { result ≡ true → leaves_at work.now m u k ≡ leaves }
 {
     let c = base_words::load_cut(work, m, u, k);
-    let ls = c.leaves;
-    if c.count == 4 {
-        return same_leaves(ls, leaves);
-    }
-    false
+    c.count == 4 && c.leaves == leaves
 }
 
 // Whether cut k of u comes before the one with these four leaves: lists ascend by size, then leaves.
@@ -154,22 +123,20 @@ fn is_past(work: &[u16], m: usize, u: usize, k: usize, leaves: [u16; 4]) -> bool
     base_words::cut_size(work, m, u, k) < 4 || base_words::leaf(work, m, u, k, 0) < leaves[0]
 }
 
-// The number of u's cut with these four leaves, or the limit where there is none.
-fn same_cut(work: &[u16], m: usize, u: usize, leaves: [u16; 4]) -> usize
+// The number of u's cut with these four leaves, if there is one.
+fn same_cut(work: &[u16], m: usize, u: usize, leaves: [u16; 4]) -> Option<usize>
     requires { HasCapacity work.now m × (u ≤ m) × (count_at work.now m u ≤ cut_limit) }
     ensures { SameCut work.now m u leaves result }
 {
-    let mut k = base_words::count(work, m, u);
-    while k > 0 {
-        k -= 1;
+    for k in (0..base_words::count(work, m, u)).rev() {
         if is_past(work, m, u, k, leaves) {
-            return base_words::LIMIT;
+            return None;
         }
         if is_cut(work, m, u, k, leaves) {
-            return k;
+            return Some(k);
         }
     }
-    base_words::LIMIT
+    None
 }
 
 // The table of u, an operand of the root that is not noted. A cut of four leaves may have a cone as long as the graph, as a chain of ANDs
@@ -191,19 +158,17 @@ fn from_stored(
     ensures { Walked work.now m (take n leaves) base u notes.new result ×
         Early m (base + 65536) notes.new }
 {
-    let x = recursive(work, m, notes, base, u, true);
-    if x < MISSING {
-        return x as u16;
+    if let Some(x) = shallow(work, m, notes, base, u) {
+        return x;
     }
     if n == 4 {
-        let k = same_cut(work, m, u, leaves);
-        if k < base_words::LIMIT {
+        if let Some(k) = same_cut(work, m, u, leaves) {
             let f = base_words::function(work, m, u, k);
             notes[u] = base + f;
             return f as u16;
         }
     }
-    recursive(work, m, notes, base, u, false) as u16
+    recursive(work, m, notes, base, u)
 }
 
 // The function of a cut of v: v is of this kind and has the operands l and r.
@@ -230,17 +195,13 @@ fn cut_word(
     if kind != base_words::AND {
         return 0;
     }
-    let x = from_leaves(work, m, notes, base, l / 2);
-    let p = if x < MISSING {
-        x as u16
-    } else {
-        from_stored(work, m, notes, base, leaves, n, l / 2)
+    let p = match from_leaves(work, m, notes, base, l / 2) {
+        Some(x) => x,
+        None => from_stored(work, m, notes, base, leaves, n, l / 2),
     };
-    let y = from_leaves(work, m, notes, base, r / 2);
-    let q = if y < MISSING {
-        y as u16
-    } else {
-        from_stored(work, m, notes, base, leaves, n, r / 2)
+    let q = match from_leaves(work, m, notes, base, r / 2) {
+        Some(y) => y,
+        None => from_stored(work, m, notes, base, leaves, n, r / 2),
     };
     and_word(l, p, r, q)
 }
@@ -281,11 +242,9 @@ fn fill_node(work: &mut [u16], m: usize, notes: &mut Notes, base: usize, v: usiz
     let l = base_words::left(work, m, v);
     let r = base_words::right(work, m, v);
     let mut next = base;
-    let mut k = 0;
-    while k < n {
+    for k in 0..n {
         fill_one(work, m, notes, next, v, kind, l, r, k);
         next += STEP;
-        k += 1;
     }
     next
 }
@@ -297,10 +256,8 @@ pub fn functions(work: &mut [u16], m: usize, ordered: usize)
 {
     let mut notes = [0usize; VARIABLES];
     let mut base = STEP;
-    let mut i = 0;
-    while i < ordered {
+    for i in 0..ordered {
         let v = base_words::slot(work, m, i);
         base = fill_node(work, m, &mut notes, base, v);
-        i += 1;
     }
 }

@@ -4,13 +4,13 @@
 --     verdict-model               the answer is `cuts_verdict`: refusal 16 names "the first such variable in placing order"
 --     listed-model                all listed: what is known is `cut_lists_of`
 --     cuts_of_lem                     the lists in the words are `cuts_of`
+use Rattle.std.specs.Prelude.{Ok, Err}
+use Rattle.model.specs.{Verdict, refused_with}
 use Rattle.base.specs.{◌≡◌, refl, sym, ap, ◌∙◌, subst, Bool, true, false, cond, List, [], ◌∷◌, ◌++◌, ℕ, zero, suc, ◌≤◌, ◌<◌, add-one, arith}
 use Rattle.base.specs.{leb, ltb, length, take, drop, get_or, take-append-drop, take-suc, take_all, drop-cons, leb-true, leb-false, lt-ltb}
 use Rattle.base.specs.{le-ltb}
 use Rattle.model.specs.{cut_limit, find, run, keep, refused_at, first_of, node, topological_order, node_cuts, cut_lists_of, cuts_of, over_limit, cuts_verdict}
 use Rattle.model.specs.Graph.{Graph}
-use Rattle.model.specs.declared.Verdict.{Verdict}
-use Rattle.model.specs.declared.Verdict.TheVariants.{Accepted, Refused}
 use Rattle.theory_graph.proofs.{get_or_in, keep_append, run-split, order-once, order_small, cut_step, cuts_known, cuts_entry}
 use Rattle.base_words.specs.{slot_at, left_addr, right_addr, slot_addr, position_addr, counts_from, node_of, node_at, cuts_at}
 use Rattle.cut_lists.specs.{Known, State, Ready, few, step_cuts, onward, listing, listed, stored, Uncut}
@@ -63,39 +63,39 @@ ready_less w m n r =
 
 -- listed, with all before it, or refused, then or before
 data Next (w : List ℕ) (m n : ℕ) : Type 0 where
-  goes : (listing w m n).answer ≡ Accepted → leb (length (step_cuts w m (listing w m n).known (slot_at w m n))) cut_limit ≡ true → Next w m n
-  stops : (listing w m n).answer ≡ Accepted → leb (length (step_cuts w m (listing w m n).known (slot_at w m n))) cut_limit ≡ false → Next w m n
-  stopped : (k x : ℕ) → (listing w m n).answer ≡ Refused k x → Next w m n
+  goes : (listing w m n).answer ≡ Ok tt → leb (length (step_cuts w m (listing w m n).known (slot_at w m n))) cut_limit ≡ true → Next w m n
+  stops : (listing w m n).answer ≡ Ok tt → leb (length (step_cuts w m (listing w m n).known (slot_at w m n))) cut_limit ≡ false → Next w m n
+  stopped : (k x : ℕ) → (listing w m n).answer ≡ refused_with k x → Next w m n
 
 next : (w : List ℕ) (m n : ℕ) → Next w m n
 next w m n = by (listing w m n).answer refl
   where
-    test : (listing w m n).answer ≡ Accepted → (t : Bool) → leb (length (step_cuts w m (listing w m n).known (slot_at w m n))) cut_limit ≡ t → Next w m n
+    test : (listing w m n).answer ≡ Ok tt → (t : Bool) → leb (length (step_cuts w m (listing w m n).known (slot_at w m n))) cut_limit ≡ t → Next w m n
     test e true t = goes e t
     test e false t = stops e t
 
     by : (a : Verdict) → (listing w m n).answer ≡ a → Next w m n
-    by Accepted e = test e (leb (length (step_cuts w m (listing w m n).known (slot_at w m n))) cut_limit) refl
-    by (Refused k x) e = stopped k x e
+    by (Ok tt) e = test e (leb (length (step_cuts w m (listing w m n).known (slot_at w m n))) cut_limit) refl
+    by (Err r) e = stopped r.number r.place e
 
-stays : (w : List ℕ) (m n k x : ℕ) → (listing w m n).answer ≡ Refused k x → listing w m (suc n) ≡ record { answer = Refused k x; known = (listing w m n).known }
+stays : (w : List ℕ) (m n k x : ℕ) → (listing w m n).answer ≡ refused_with k x → listing w m (suc n) ≡ record { answer = refused_with k x; known = (listing w m n).known }
 unfolding listing onward
 stays w m n k x e = ap (λ (a : Verdict). onward w m (slot_at w m n) a (listing w m n).known) e
 
 -- what a listing of n + 1 that is done says of the n before
-before : (w : List ℕ) (m n : ℕ) → (listing w m (suc n)).answer ≡ Accepted
-    → ((listing w m n).answer ≡ Accepted) × (leb (length (step_cuts w m (listing w m n).known (slot_at w m n))) cut_limit ≡ true)
+before : (w : List ℕ) (m n : ℕ) → (listing w m (suc n)).answer ≡ Ok tt
+    → ((listing w m n).answer ≡ Ok tt) × (leb (length (step_cuts w m (listing w m n).known (slot_at w m n))) cut_limit ≡ true)
 before w m n e = by (next w m n)
   where
-    by : Next w m n → ((listing w m n).answer ≡ Accepted) × (leb (length (step_cuts w m (listing w m n).known (slot_at w m n))) cut_limit ≡ true)
+    by : Next w m n → ((listing w m n).answer ≡ Ok tt) × (leb (length (step_cuts w m (listing w m n).known (slot_at w m n))) cut_limit ≡ true)
     by (goes a t) = (a, t)
     by (stops a t) =
-        let s : listing w m (suc n) ≡ record { answer = Refused 16 (slot_at w m n); known = (listing w m n).known } = rw add-one at (listing_stop w m n a t) in
-        let clash : Refused 16 (slot_at w m n) ≡ Accepted = sym (ap (λ (q : State). q.answer) s) ∙ e in
+        let s : listing w m (suc n) ≡ record { answer = refused_with 16 (slot_at w m n); known = (listing w m n).known } = rw add-one at (listing_stop w m n a t) in
+        let clash : refused_with 16 (slot_at w m n) ≡ Ok tt = sym (ap (λ (q : State). q.answer) s) ∙ e in
         let z : ◌≡◌ {A = ℕ} 0 1 = cc in
         absurd (omega arith)
     by (stopped k x a) =
-        let clash : Refused k x ≡ Accepted = sym (ap (λ (q : State). q.answer) (stays w m n k x a)) ∙ e in
+        let clash : refused_with k x ≡ Ok tt = sym (ap (λ (q : State). q.answer) (stays w m n k x a)) ∙ e in
         let z : ◌≡◌ {A = ℕ} 0 1 = cc in
         absurd (omega arith)
 
@@ -135,14 +135,14 @@ module _ (w : List ℕ) (m : ℕ) (g : Graph) (nodes : (v : ℕ) → v ≤ m →
   unfolding step_cuts
   same_step known v h = ap (node_cuts (λ u. find [] u known) v) (nodes v h)
 
-  known-run : (n : ℕ) → Ready w m n → (listing w m n).answer ≡ Accepted → (listing w m n).known ≡ cuts_known g (slots w m n)
+  known-run : (n : ℕ) → Ready w m n → (listing w m n).answer ≡ Ok tt → (listing w m n).known ≡ cuts_known g (slots w m n)
   unfolding listing slots run
   known-run zero r e = refl
   known-run (suc n) r e =
       let p = before w m n e in
       let k : Known = (listing w m n).known in
       let x : ℕ = slot_at w m n in
-      let s : listing w m (suc n) ≡ record { answer = Accepted; known = (x, step_cuts w m k x) ∷ k } = rw add-one at (listing-next w m n p.0 p.1) in
+      let s : listing w m (suc n) ≡ record { answer = (Ok tt); known = (x, step_cuts w m k x) ∷ k } = rw add-one at (listing-next w m n p.0 p.1) in
       let rest : k ≡ cuts_known g (slots w m n) = known-run n (ready_less w m n r) p.0 in
       ap (λ (q : State). q.known) s
       ∙ ap (λ (cs : List (List ℕ)). (x, cs) ∷ k) (same_step k x (r.slots n (omega arith)))
@@ -152,12 +152,12 @@ module _ (w : List ℕ) (m : ℕ) (g : Graph) (nodes : (v : ℕ) → v ≤ m →
 -- ---- the whole topological order
 
 -- a refusal at the first of a list, and of a longer one
-refused_stays : (k x : ℕ) (xs ys : List ℕ) → refused_at 16 (first_of xs) ≡ Refused k x → refused_at 16 (first_of (xs ++ ys)) ≡ Refused k x
+refused_stays : (k x : ℕ) (xs ys : List ℕ) → refused_at 16 (first_of xs) ≡ refused_with k x → refused_at 16 (first_of (xs ++ ys)) ≡ refused_with k x
 unfolding refused_at first_of
 refused_stays k x [] ys e = let z : ◌≡◌ {A = ℕ} 0 1 = cc in absurd (omega arith)
 refused_stays k x (y ∷ xs) ys e = e
 
-accepted-none : (xs : List ℕ) → refused_at 16 (first_of xs) ≡ Accepted → xs ≡ []
+accepted-none : (xs : List ℕ) → refused_at 16 (first_of xs) ≡ Ok tt → xs ≡ []
 unfolding refused_at first_of
 accepted-none [] e = refl
 accepted-none (y ∷ xs) e = let z : ◌≡◌ {A = ℕ} 0 1 = cc in absurd (omega arith)
@@ -189,7 +189,7 @@ module _ (w : List ℕ) (m n : ℕ) (g : Graph) (rep : Represents w m n g) (ok :
       record { capacity = r.capacity; ordered = omega (arith, r.ordered); slots = λ j l. r.slots j (omega arith); lefts = r.lefts; rights = r.rights; none_yet = r.none_yet }
 
   -- the variable in slot i has as many cuts as `model` gives it
-  step-cuts : (i : ℕ) → i < n → (listing w m i).answer ≡ Accepted → step_cuts w m (listing w m i).known (slot_at w m i) ≡ find [] (slot_at w m i) (cut_lists_of g)
+  step-cuts : (i : ℕ) → i < n → (listing w m i).answer ≡ Ok tt → step_cuts w m (listing w m i).known (slot_at w m i) ≡ find [] (slot_at w m i) (cut_lists_of g)
   unfolding cuts_of
   step-cuts i h e =
       let x : ℕ = slot_at w m i in
@@ -210,13 +210,13 @@ module _ (w : List ℕ) (m n : ℕ) (g : Graph) (rep : Represents w m n g) (ok :
 
       by : Next w m i → (listing w m i).answer ≡ refused_at 16 (first_of (keep wide (slots w m i))) → (listing w m (suc i)).answer ≡ refused_at 16 (first_of (keep wide (slots w m i ++ (x ∷ []))))
       by (goes a t) e =
-          let s : (listing w m (suc i)).answer ≡ Accepted = ap (λ (q : State). q.answer) (rw add-one at (listing-next w m i a t)) in
+          let s : (listing w m (suc i)).answer ≡ Ok tt = ap (λ (q : State). q.answer) (rw add-one at (listing-next w m i a t)) in
           let none-wide : keep wide (slots w m i) ≡ [] = accepted-none (keep wide (slots w m i)) (sym e ∙ a) in
           let few-x : length (find [] x (cut_lists_of g)) ≤ cut_limit = omega (arith, leb-true (length (step_cuts w m (listing w m i).known x)) cut_limit t, ap length (step-cuts i h a)) in
           let narrow : wide x ≡ false = le-ltb cut_limit (length (find [] x (cut_lists_of g))) few-x in
           s ∙ sym (ap (λ (l : List ℕ). refused_at 16 (first_of l)) (more ∙ (λ j. none-wide j ++ cond (narrow j) (x ∷ []) [])))
       by (stops a t) e =
-          let s : (listing w m (suc i)).answer ≡ Refused 16 x = ap (λ (q : State). q.answer) (rw add-one at (listing_stop w m i a t)) in
+          let s : (listing w m (suc i)).answer ≡ refused_with 16 x = ap (λ (q : State). q.answer) (rw add-one at (listing_stop w m i a t)) in
           let none-wide : keep wide (slots w m i) ≡ [] = accepted-none (keep wide (slots w m i)) (sym e ∙ a) in
           let many-x : cut_limit < length (find [] x (cut_lists_of g)) = omega (arith, leb-false (length (step_cuts w m (listing w m i).known x)) cut_limit t, ap length (step-cuts i h a)) in
           let is_wide : wide x ≡ true = lt-ltb cut_limit (length (find [] x (cut_lists_of g))) many-x in
@@ -230,7 +230,7 @@ module _ (w : List ℕ) (m n : ℕ) (g : Graph) (rep : Represents w m n g) (ok :
   unfolding cuts_verdict over_limit wide
   verdict-model = verdict_so_far n (omega arith) ∙ ap (λ (vs : List ℕ). refused_at 16 (first_of (keep wide vs))) slots-all
 
-  module _ (e : (listing w m n).answer ≡ Accepted) where
+  module _ (e : (listing w m n).answer ≡ Ok tt) where
     pub listed-model : (listing w m n).known ≡ cut_lists_of g
     unfolding cut_lists_of
     listed-model = known-run w m g rep.nodes n (ready-listing w m n g rep ok fresh) e ∙ ap (cuts_known g) slots-all

@@ -2,11 +2,10 @@
 --     Held                        the words in the course of listing
 --     represented_begin, represented-next       at first, and after one variable more
 --     listing-next, listing_stop  one variable more of `listing`, listed or refused
+use Rattle.std.specs.Prelude.{Ok}
 use Rattle.base.specs.{◌≡◌, refl, sym, ap, ◌∙◌, subst, Bool, true, false, cond, List, [], ◌∷◌, ℕ, zero, suc, ◌+◌, ◌-◌, ◌/◌, ◌≤◌, ◌<◌}
 use Rattle.base.specs.{add-zero, add-suc, add-one, arith, eqb, leb, length, get_or, leb-true, eqb-true, eqb-false}
-use Rattle.model.specs.{cut_limit, find, constant, input, undefined, both, var_of, node_cuts}
-use Rattle.model.specs.declared.Verdict.{Verdict}
-use Rattle.model.specs.declared.Verdict.TheVariants.{Accepted, Refused}
+use Rattle.model.specs.{cut_limit, find, constant, input, undefined, both, var_of, node_cuts, Verdict, refused_with}
 use Rattle.base_words.specs.{HasCapacity, constant_kind, input_kind, and_kind, kind_at, left_at, right_at, slot_at, count_at, left_addr, right_addr}
 use Rattle.base_words.specs.{slot_addr, counts_from, counts_to, lists_from, lists_to, node_of, node_at, cuts_at, put_list, AllGood, Sound}
 use Rattle.base_words.proofs.{none-listed, put_list_length, put_list_below, put_list_middle, put_list_above, put_list_cuts, put_list_other}
@@ -112,32 +111,32 @@ module _ (w : List ℕ) (m n : ℕ) (r : Ready w m n) (known : Known) (v : List 
     few-same = ap (λ (q : List (List ℕ)). leb (length q) cut_limit) same-cuts
 
 -- one variable more of a listing that goes on
-module _ (w : List ℕ) (m i : ℕ) (on : (listing w m i).answer ≡ Accepted) where
+module _ (w : List ℕ) (m i : ℕ) (on : (listing w m i).answer ≡ Ok tt) where
   more : listing w m (i + 1) ≡ join (slot_at w m i) (step_cuts w m (listing w m i).known (slot_at w m i)) (listing w m i).known
   unfolding listing onward
   more = rw add-one (ap (λ (a : Verdict). onward w m (slot_at w m i) a (listing w m i).known) on)
 
   pub listing-next : leb (length (step_cuts w m (listing w m i).known (slot_at w m i))) cut_limit ≡ true
-      → listing w m (i + 1) ≡ record { answer = Accepted; known = (slot_at w m i, step_cuts w m (listing w m i).known (slot_at w m i)) ∷ (listing w m i).known }
+      → listing w m (i + 1) ≡ record { answer = (Ok tt); known = (slot_at w m i, step_cuts w m (listing w m i).known (slot_at w m i)) ∷ (listing w m i).known }
   unfolding join
   listing-next e = more ∙ rw e
 
   pub listing_stop : leb (length (step_cuts w m (listing w m i).known (slot_at w m i))) cut_limit ≡ false
-      → listing w m (i + 1) ≡ record { answer = Refused 16 (slot_at w m i); known = (listing w m i).known }
+      → listing w m (i + 1) ≡ record { answer = refused_with 16 (slot_at w m i); known = (listing w m i).known }
   unfolding join
   listing_stop e = more ∙ rw e
 
 -- after a refusal nothing more is done
-pub stuck : (w : List ℕ) (m i k x : ℕ) (known : Known) → listing w m i ≡ record { answer = Refused 16 x; known = known }
-    → listing w m (i + k) ≡ record { answer = Refused 16 x; known = known }
+pub stuck : (w : List ℕ) (m i k x : ℕ) (known : Known) → listing w m i ≡ record { answer = refused_with 16 x; known = known }
+    → listing w m (i + k) ≡ record { answer = refused_with 16 x; known = known }
 unfolding listing onward
 stuck w m i zero x known e = rw add-zero e
 stuck w m i (suc k) x known e =
-    let rest : listing w m (i + k) ≡ record { answer = Refused 16 x; known = known } = stuck w m i k x known e in
+    let rest : listing w m (i + k) ≡ record { answer = refused_with 16 x; known = known } = stuck w m i k x known e in
     rw add-suc (ap (λ (s : State). onward w m (slot_at w m (i + k)) s.answer s.known) rest)
 
 -- a step of `lists`: v are the words at its start, x the variable in slot i, out what `list_node` leaves
-module _ (w : List ℕ) (m n : ℕ) (r : Ready w m n) (i : ℕ) (h : i < n) (on : (listing w m i).answer ≡ Accepted)
+module _ (w : List ℕ) (m n : ℕ) (r : Ready w m n) (i : ℕ) (h : i < n) (on : (listing w m i).answer ≡ Ok tt)
     (v : List ℕ) (represented : ListedSoFar w m (listing w m i).known v) (x : ℕ) (ex : x ≡ slot_at v m i) (out : List ℕ) (eo : out ≡ listed v m x) where
   pub step-slot : x ≡ slot_at w m i
   step-slot = ex ∙ represented-slot w m n r (listing w m i).known v represented i (omega (arith, r.ordered))
@@ -150,7 +149,7 @@ module _ (w : List ℕ) (m n : ℕ) (r : Ready w m n) (i : ℕ) (h : i < n) (on 
       subst (λ (y : ℕ). leb (length (step_cuts w m (listing w m i).known y)) cut_limit ≡ t) step-slot
       (sym (few-same w m n r (listing w m i).known v represented x step-inside) ∙ e)
 
-  pub step-on : few v m x ≡ true → ((listing w m (i + 1)).answer ≡ Accepted) × ListedSoFar w m (listing w m (i + 1)).known out
+  pub step-on : few v m x ≡ true → ((listing w m (i + 1)).answer ≡ Ok tt) × ListedSoFar w m (listing w m (i + 1)).known out
   step-on e =
       let s = listing-next w m i on (tested true e) in
       let k : Known = (listing w m i).known in (
@@ -160,14 +159,14 @@ module _ (w : List ℕ) (m n : ℕ) (r : Ready w m n) (i : ℕ) (h : i < n) (on 
             (subst (ListedSoFar w m ((x, step_cuts w m k x) ∷ k)) (sym eo) (represented-next w m n r k v represented x step-inside e))),
       )
 
-  pub step_off : few v m x ≡ false → (Refused 16 x ≡ (listing w m n).answer) × (out ≡ stored w m (listing w m n).known)
+  pub step_off : few v m x ≡ false → (refused_with 16 x ≡ (listing w m n).answer) × (out ≡ stored w m (listing w m n).known)
   unfolding listed
   step_off e =
       let k : Known = (listing w m i).known in
       let rest : i + 1 + (n - (i + 1)) ≡ n = omega arith in
-      let s : listing w m n ≡ record { answer = Refused 16 (slot_at w m i); known = k } =
-      subst (λ (j : ℕ). listing w m j ≡ record { answer = Refused 16 (slot_at w m i); known = k }) rest
+      let s : listing w m n ≡ record { answer = refused_with 16 (slot_at w m i); known = k } =
+      subst (λ (j : ℕ). listing w m j ≡ record { answer = refused_with 16 (slot_at w m i); known = k }) rest
       (stuck w m (i + 1) (n - (i + 1)) (slot_at w m i) k (listing_stop w m i on (tested false e))) in (
-        ap (Refused 16) step-slot ∙ sym (ap (λ (q : State). q.answer) s),
+        ap (refused_with 16) step-slot ∙ sym (ap (λ (q : State). q.answer) s),
         eo ∙ rw e (represented.is ∙ ap (λ (q : State). stored w m q.known) (sym s)),
       )

@@ -1,10 +1,14 @@
--- What the loops of `insert_position` and `move_up` go by: the keys that stand in an array from a place on.
---     one_more_lem, put-more, put-at  a key more before a place, and a key put there
+-- What the loop of `insert_position` goes by, and what `move_up` and `insert` leave: the keys that stand in an array from a place on.
+--     one_more_lem, put-at        a key more before a place, and a key put there
 --     passed, stopped, same       the key at a place is below the one that is put in, above it, or the same
+--     moved-ahead, moved-behind   keys copied to the place before theirs
 --     added-capacity, added_full      what adding a key comes to
 use Rattle.base.specs.{◌≡◌, sym, ap, ◌∙◌, List, [], ◌∷◌, ◌++◌, ℕ, suc, ◌+◌, ◌≤◌, ◌<◌, compare, arith, add-one, length, take, drop, get_or}
-use Rattle.base.specs.{set, take-append-drop, drop_of_length-le, length-take, drop-cons, take-suc, take-suc-set, set_split, drop-append-le}
-use Rattle.base.specs.{append_snoc, length-take-le, lt-ltb, le-ltb}
+use Rattle.base.specs.{set, take-append-drop, drop_of_length-le, length-take, drop-cons, take-suc, set_split, drop-append-le}
+use Rattle.base.specs.{append_snoc, length-take-le, lt-ltb, le-ltb, length-drop, drop-drop, drop_at, ◌-◌}
+use Rattle.std.specs.List.{copy_within}
+use Rattle.std.proofs.lemmas.List.{drop-take}
+use Rattle.std.proofs.lemmas.List.Edits.{drop-paste, take-paste}
 use Rattle.model.specs.{insert}
 use Rattle.cut_lists.specs.{added, key_capacity}
 use Rattle.cut_lists.proofs.CutMerge.{insert-before, insert-past, insert-same}
@@ -23,9 +27,6 @@ module _ (L : List ℕ) (p i : ℕ) (h : p ≤ i) where
   module _ (l : i < length L) where
     pub one_more_lem : drop p (take (suc i) L) ≡ drop p (take i L) ++ (get_or L i 0 ∷ [])
     one_more_lem = ap (drop p) (take-suc L i 0 l) ∙ behind (get_or L i 0 ∷ []) (omega arith)
-
-    pub put-more : (v : ℕ) → drop p (take (suc i) (set L i v)) ≡ drop p (take i L) ++ (v ∷ [])
-    put-more v = ap (drop p) (take-suc-set L i v l) ∙ behind (v ∷ []) (omega arith)
 
     pub put-at : (v : ℕ) → drop p (set L i v) ≡ drop p (take i L) ++ (v ∷ drop (suc i) L)
     put-at v = ap (drop p) (set_split L i v l) ∙ behind (v ∷ drop (suc i) L) (omega arith)
@@ -52,12 +53,25 @@ pub ended : (L : List ℕ) (i k : ℕ) → length L ≤ i → insert compare k (
 unfolding insert
 ended L i k h = rw (drop_of_length-le L {i = i} h)
 
--- two lists that are the same from i on
-pub heads : (L K : List ℕ) (i : ℕ) → i < length L → i < length K → drop i L ≡ drop i K
-    → (get_or L i 0 ≡ get_or K i 0) × (drop (suc i) L ≡ drop (suc i) K)
-heads L K i l k e =
-    let both : get_or L i 0 ∷ drop (suc i) L ≡ get_or K i 0 ∷ drop (suc i) K = sym (drop-cons L i 0 l) ∙ e ∙ drop-cons K i 0 k in
-    (cc, cc)
+-- the keys from f on that stand before t, copied to the place before theirs
+module _ (K : List ℕ) (f t : ℕ) (out : List ℕ) (some : 0 < f) (h : f ≤ t) (l : t ≤ length K) (e : out ≡ copy_within K f t (f - 1)) where
+  many : t - f ≤ length (drop f K)
+  many = omega (arith, length-drop f K)
+
+  pub moved-ahead : drop (f - 1) (take (t - 1) out) ≡ drop f (take t K)
+  moved-ahead =
+      let n : t - 1 ≡ f - 1 + (t - f) = omega arith in
+      let m : f + (t - f) ≡ t = omega arith in
+      rw (e, n) (ap (drop (f - 1)) (take-paste K (f - 1) (drop f K) (t - f) (omega arith) many)
+      ∙ drop_at (take (f - 1) K) (take (t - f) (drop f K)) (f - 1) (length-take-le (f - 1) K (omega arith))
+      ∙ sym (drop-take f (t - f) K) ∙ ap (λ (k : ℕ). drop f (take k K)) m)
+
+  pub moved-behind : drop t out ≡ drop t K
+  moved-behind =
+      let n : t ≡ f - 1 + (t - f) + 1 = omega arith in
+      let k : ℕ = f - 1 + (t - f) in
+      ap (drop t) e ∙ ap (λ (j : ℕ). drop j (copy_within K f t (f - 1))) n ∙ sym (drop-drop 1 k (copy_within K f t (f - 1)))
+      ∙ ap (drop 1) (drop-paste K (f - 1) (drop f K) (t - f) (omega arith) many) ∙ drop-drop 1 k K ∙ ap (λ (j : ℕ). drop j K) (sym n)
 
 pub added-capacity : (k : ℕ) (ks : List ℕ) → length ks < key_capacity → added k ks ≡ insert compare k ks
 unfolding added

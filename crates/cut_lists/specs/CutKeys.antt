@@ -1,8 +1,8 @@
 -- A cut as one number, its key: its size and its four leaves, the first highest, so that "by size, then by ascending leaves compared left to right" is the order of the keys.
 -- A list being built has room for one cut more than the limit; what comes after that is left out.
-use Rattle.std.specs.Prelude.{◌∷◌, ◌++◌, ◌+◌, ◌-◌, ◌*◌, ◌/◌, ◌%◌, ◌≤◌, ◌<◌, ◌≡◌}
+use Rattle.std.specs.Prelude.{◌∷◌, ◌++◌, ◌+◌, ◌-◌, ◌*◌, ◌/◌, ◌%◌, ◌≤◌, ◌≡◌}
 use Rattle.base.specs.{cond, List, [], map, ℕ, zero, suc, compare, ltb, leb, length, take}
-use Rattle.base.specs.{drop}
+use Rattle.base.specs.{drop, Option, None, Some}
 use Rattle.model.specs.{insert, union, Node, constant, input, undefined, both, var_of, cut_limit}
 use Rattle.base_words.specs.{put_at, count_addr, put_cuts}
 
@@ -39,10 +39,11 @@ pub record Building (keys : List ℕ) (from : ℕ) : Type 0 where
   pub capacity : length keys ≡ key_capacity
   pub fits : from ≤ key_capacity
 
--- r is where k goes among the keys, or 0 where it is one of them
-pub record InsertPosition (keys : List ℕ) (from k r : ℕ) : Type 0 where
-  pub there : r ≡ 0 → insert compare k (drop from keys) ≡ drop from keys
-  pub free : 0 < r → (from ≤ r) × (r ≤ key_capacity) × (insert compare k (drop from keys) ≡ drop from (take r keys) ++ (k ∷ drop r keys))
+-- where k goes among the keys, or none where it is one of them
+abbrev pub InsertPosition : List ℕ → ℕ → ℕ → Option ℕ → Type 0
+InsertPosition keys from k None = insert compare k (drop from keys) ≡ drop from keys
+InsertPosition keys from k (Some r) =
+    (from ≤ r) × (r ≤ key_capacity) × (insert compare k (drop from keys) ≡ drop from (take r keys) ++ (k ∷ drop r keys))
 
 -- the keys before `to` stand one place before where they were, and those behind where they were
 pub record Moved (keys : List ℕ) (from to : ℕ) (out : List ℕ) : Type 0 where

@@ -1,9 +1,7 @@
 -- The cut lists of all variables, in topological order, in terms of `model`, and the words that hold them.
-use Rattle.std.specs.Prelude.{◌∷◌, ◌≡◌, ◌+◌, ◌*◌, ◌≤◌, ◌<◌}
+use Rattle.std.specs.Prelude.{◌∷◌, ◌≡◌, ◌+◌, ◌*◌, ◌≤◌, ◌<◌, Ok, Err}
 use Rattle.base.specs.{Bool, cond, List, [], ℕ, zero, suc, leb, length}
-use Rattle.model.specs.{cut_limit, find, node_cuts}
-use Rattle.model.specs.declared.Verdict.{Verdict}
-use Rattle.model.specs.declared.Verdict.TheVariants.{Accepted, Refused}
+use Rattle.model.specs.{cut_limit, find, node_cuts, Verdict, refused_with}
 use Rattle.base_words.specs.{HasCapacity, left_at, right_at, slot_at, count_at, node_at, cuts_at, put_list, Sound}
 
 -- the cuts of v, from the lists in the words
@@ -36,17 +34,17 @@ pub record State : Type 0 where
   pub known : Known
 
 abbrev pub begun : State
-begun = record { answer = Accepted; known = [] }
+begun = record { answer = Ok tt; known = [] }
 
 -- v's list joins those known, unless it has more cuts than the limit: "16. An AND, used or not, has more than 18 cuts"
 unfoldable pub join : ℕ → List (List ℕ) → Known → State
-join v cs known = cond (leb (length cs) cut_limit) (record { answer = Accepted; known = (v, cs) ∷ known }) (record { answer = Refused 16 v; known = known })
+join v cs known = cond (leb (length cs) cut_limit) (record { answer = Ok tt; known = (v, cs) ∷ known }) (record { answer = refused_with 16 v; known = known })
 
 -- one variable more; after a refusal nothing more is done
 unfoldable pub onward : List ℕ → ℕ → ℕ → Verdict → Known → State
 unfolding join step_cuts
-onward w m v Accepted known = join v (step_cuts w m known v) known
-onward w m v (Refused number place) known = record { answer = Refused number place; known = known }
+onward w m v (Ok tt) known = join v (step_cuts w m known v) known
+onward w m v (Err r) known = record { answer = Err r; known = known }
 
 -- the first n variables of the topological order
 unfoldable pub listing : List ℕ → ℕ → ℕ → State

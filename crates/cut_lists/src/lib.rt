@@ -9,19 +9,14 @@ ghost use Rattle.base_words.specs.{HasCapacity, left_at, right_at, leaves_of, Go
 ghost use Rattle.cut_lists.specs.{key_capacity, key, key_words, Building, InsertPosition, Moved, added, merge_row_keys, merged_keys, node_keys, put_keys};
 ghost use Rattle.cut_lists.specs.{Digit, pack, Packed, signature, conflict_mask, Masked, Ready, Operands, few, listed, listing, stored};
 
-use model::{Cut, Verdict};
+use model::{Cut, Refusal};
 
 // Cuts being listed are keys in ascending order at the end of an array: at most one more than the limit, which then says that there are too
 // many. Pairs of cuts are taken from the last to the first, so that most keys go to the front, where few have to move.
 const CAPACITY: usize = base_words::LIMIT + 1;
 
-fn wide(x: u16) -> u64
-    ensures { result ≡ x }
-{
-    x as u64
-}
-
 // A variable alone as one number: its size, then its leaf.
+#[tactic(auto, unfolding(crate::specs::key, crate::specs::key_from))]
 fn trivial_key(v: usize) -> u64
     requires { v < 4096 }
     ensures { result ≡ key (v ∷ []) }
@@ -30,6 +25,7 @@ fn trivial_key(v: usize) -> u64
 }
 
 // The words of the cut that a key stands for: its size and its leaves.
+#[tactic(auto, unfolding(crate::specs::key_words))]
 fn key_words(k: u64) -> [u16; 5]
     requires { k / 4096 / 4096 / 4096 / 4096 ≤ 4 }
     ensures { result ≡ key_words k }
@@ -47,23 +43,21 @@ fn key_words(k: u64) -> [u16; 5]
     ]
 }
 
-// Where a key goes among those from `from` on: behind all that are below it. 0 where it is there already.
-fn insert_position(keys: &[u64], from: usize, k: u64) -> usize
-    requires { Building keys.now from × (0 < from) }
+// Where a key goes among those from `from` on: behind all that are below it. None where it is there already.
+fn insert_position(keys: &[u64], from: usize, k: u64) -> Option<usize>
+    requires { Building keys.now from }
     ensures { InsertPosition keys.now from k result }
 {
-    let mut i = from;
-    while i < CAPACITY {
+    for i in from..CAPACITY {
         let y = keys[i];
         if k < y {
-            return i;
+            return Some(i);
         }
         if k == y {
-            return 0;
+            return None;
         }
-        i += 1;
     }
-    i
+    Some(CAPACITY)
 }
 
 // The keys before `to`, each moved to the place before it.
@@ -71,11 +65,7 @@ fn move_up(keys: &mut [u64], from: usize, to: usize)
     requires { (length keys.old ≡ key_capacity) × (0 < from) × (from ≤ to) × (to ≤ key_capacity) }
     ensures { Moved keys.old from to keys.new }
 {
-    let mut i = from;
-    while i < to {
-        keys[i - 1] = keys[i];
-        i += 1;
-    }
+    keys.copy_within(from..to, from - 1);
 }
 
 // A key put into its place; "Equal sets count once", and past the room nothing is added. The answer is where the keys begin then.
@@ -86,10 +76,9 @@ fn insert(keys: &mut [u64], from: usize, k: u64) -> usize
     if from == 0 {
         return 0;
     }
-    let at = insert_position(keys, from, k);
-    if at == 0 {
+    let Some(at) = insert_position(keys, from, k) else {
         return from;
-    }
+    };
     move_up(keys, from, at);
     keys[at - 1] = k;
     from - 1
@@ -100,7 +89,11 @@ fn digit(leaves: [u16; 4], n: usize, i: usize) -> u64
     requires { (i < 4) × (i < n → get_or leaves i 0 < 4096) }
     ensures { Digit leaves n i result }
 {
-    if i < n { 4096 - wide(leaves[i]) } else { 0 }
+    if i < n {
+        4096 - u64::from(leaves[i])
+    } else {
+        0
+    }
 }
 
 // The leaves of a cut in one number, the first lowest: the merge then reads no words.
@@ -120,26 +113,22 @@ fn packed(c: Cut) -> u64
 fn with_bit(s: u32, d: u64) -> u32
     ensures { result ≡ bit_or s (2 ^ (d % 32)) }
 {
-    s | (1u32 << ((d % 32) as u32))
-}
-
-fn long(x: u32) -> u64
-    ensures { (result ≡ x) × (result < 4294967296) }
-{
-    x as u64
+    s | 1u32 << (d % 32)
 }
 
 // A bit for each digit of a packed cut.
+#[tactic(auto, unfolding(crate::specs::signature))]
 fn signature(p: u64) -> u64
     ensures { (result ≡ signature 4 p) × (result < 4294967296) }
 {
     let b = p / 65536;
     let c = b / 65536;
     let d = c / 65536;
-    long(with_bit(with_bit(with_bit(with_bit(1, d), c), b), p))
+    u64::from(with_bit(with_bit(with_bit(with_bit(1, d), c), b), p))
 }
 
 // Four leaves shut out each leaf more: the bits that no leaf of a cut beside them may have.
+#[tactic(auto, unfolding(crate::specs::conflict_mask))]
 fn conflict_mask(n: usize, s: u64) -> u64
     requires { s < 4294967296 }
     ensures { (result ≡ conflict_mask n s) × (result < 4294967296) }
@@ -153,15 +142,12 @@ fn pack_cuts(work: &[u16], m: usize, v: usize, ys: &mut [u64], masks: &mut [u64]
     requires { HasCapacity work.now m × (v ≤ m) × Sound work.now m v × (length ys.old ≡ cut_limit) × (length masks.old ≡ cut_limit) }
     ensures { Packed work.now m v ys.new × Masked work.now m v masks.new }
 {
-    let n = base_words::count(work, m, v);
-    let mut i = 0;
-    while i < n {
+    for i in 0..base_words::count(work, m, v) {
         let c = base_words::load_cut(work, m, v, i);
         let p = packed(c);
         ys[i] = p;
         let s = signature(p);
         masks[i] = conflict_mask(c.count, s) * 4294967296 + s;
-        i += 1;
     }
 }
 
@@ -196,9 +182,7 @@ fn merge_row(
     let s = signature(xs);
     let own = s * 4294967296 + conflict_mask(xn, s);
     let mut n = had;
-    let mut j = base_words::count(work, m, v);
-    'pairs: while 0 < j {
-        j -= 1;
+    'pairs: for j in (0..base_words::count(work, m, v)).rev() {
         if masks[j] & own != 0 {
             continue;
         }
@@ -253,9 +237,7 @@ fn merge_lists(work: &[u16], m: usize, a: usize, b: usize, keys: &mut [u64]) -> 
     let mut masks = [0u64; base_words::LIMIT];
     pack_cuts(work, m, b, &mut ys, &mut masks);
     let mut n = CAPACITY;
-    let mut i = base_words::count(work, m, a);
-    while 0 < i {
-        i -= 1;
+    for i in (0..base_words::count(work, m, a)).rev() {
         let x = base_words::load_cut(work, m, a, i);
         n = merge_row(work, m, x, b, &ys, &masks, keys, n);
     }
@@ -285,6 +267,7 @@ fn and_keys(work: &[u16], m: usize, v: usize, keys: &mut [u64]) -> usize
 }
 
 // "of variable 0 is {∅}; of input i, {{i}}", or those of an AND.
+#[tactic(auto, unfolding(crate::specs::node_keys, crate::specs::key, crate::specs::key_from, model::specs::var_of, base_words::specs::node_at))]
 fn node_keys(work: &[u16], m: usize, v: usize, keys: &mut [u64]) -> usize
     requires { Operands work.now m × (v ≤ m) × (length keys.old ≡ key_capacity) }
     ensures { (drop result keys.new ≡ node_keys (cuts_at work.now m) v (node_at work.now m v)) × (result ≤ key_capacity) }
@@ -298,19 +281,15 @@ fn node_keys(work: &[u16], m: usize, v: usize, keys: &mut [u64]) -> usize
     }
 }
 
-// The keys from `from` on, stored as the cuts of v.
-fn store_keys(work: &mut [u16], m: usize, v: usize, keys: &[u64], from: usize)
-    requires { HasCapacity work.old m × (v ≤ m) × (0 < from) × Building keys.now from ×
-        ((i : ℕ) → i < key_capacity - from → get_or (drop from keys.now) i 0 / 4096 / 4096 / 4096 / 4096 ≤ 4) }
-    ensures { work.new ≡ put_keys work.old m v (drop from keys.now) }
+// The cuts that keys stand for, stored as those of v.
+fn store_keys(work: &mut [u16], m: usize, v: usize, keys: &[u64])
+    requires { HasCapacity work.old m × (v ≤ m) × (length keys.now ≤ cut_limit) ×
+        ((i : ℕ) → i < length keys.now → get_or keys.now i 0 / 4096 / 4096 / 4096 / 4096 ≤ 4) }
+    ensures { work.new ≡ put_keys work.old m v keys.now }
 {
-    let n = CAPACITY - from;
-    base_words::set_count(work, m, v, n);
-    let mut i = 0;
-    while i < n {
-        let ws = key_words(keys[from + i]);
-        base_words::store_cut(work, m, v, i, ws);
-        i += 1;
+    base_words::set_count(work, m, v, keys.len());
+    for (k, key) in keys.iter().enumerate() {
+        base_words::store_cut(work, m, v, k, key_words(*key));
     }
 }
 
@@ -325,24 +304,24 @@ fn list_node(work: &mut [u16], m: usize, v: usize) -> bool
     if first == 0 {
         return false;
     }
-    store_keys(work, m, v, &keys, first);
+    store_keys(work, m, v, &keys[first..]);
     true
 }
 
 // The cuts of each ordered variable, in topological order. "16. An AND, used or not, has more than 18 cuts; place, the first such variable in placing order."
-pub fn lists(work: &mut [u16], m: usize, ordered: usize) -> Verdict
+pub fn lists(work: &mut [u16], m: usize, ordered: usize) -> Result<(), Refusal>
     requires { Ready work.old m ordered }
     ensures value { result ≡ (listing work.old m ordered).answer }
     ensures work_after { work.new ≡ stored work.old m (listing work.old m ordered).known }
 {
-    let mut i = 0;
-    while i < ordered {
+    for i in 0..ordered {
         let v = base_words::slot(work, m, i);
-        let done = list_node(work, m, v);
-        if !done {
-            return Verdict::Refused(16, v);
+        if !list_node(work, m, v) {
+            return Err(Refusal {
+                number: 16,
+                place: v,
+            });
         }
-        i += 1;
     }
-    Verdict::Accepted
+    Ok(())
 }

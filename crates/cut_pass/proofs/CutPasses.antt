@@ -1,9 +1,9 @@
 -- What joins the two passes of the layer:
 --     ready_filling               what `lists` leaves is what `functions` asks for
 --     after-accepted, -refused    what both leave
+use Rattle.std.specs.Prelude.{Ok}
+use Rattle.model.specs.{Verdict, refused_with}
 use Rattle.base.specs.{◌≡◌, sym, ap, ◌∙◌, subst, List, ℕ, ◌/◌, ◌≤◌, ◌<◌, arith, get_or}
-use Rattle.model.specs.declared.Verdict.{Verdict}
-use Rattle.model.specs.declared.Verdict.TheVariants.{Accepted, Refused}
 use Rattle.base_words.specs.{and_kind, kind_at, slot_at, slot_addr, position_at, kind_addr, left_addr, right_addr, counts_from}
 use Rattle.cut_lists.proofs.{ListedSoFar, all-represented}
 use Rattle.cut_functions.proofs.{ordered-kept, same_place}
@@ -53,10 +53,10 @@ ready_filling w m n r =
         }
 
 module _ (w : List ℕ) (m n : ℕ) where
-  pub after-accepted : (lists.listing w m n).answer ≡ Accepted → enumerated w m n ≡ filling.filled (lists.stored w m (lists.listing w m n).known) m n
+  pub after-accepted : (lists.listing w m n).answer ≡ Ok tt → enumerated w m n ≡ filling.filled (lists.stored w m (lists.listing w m n).known) m n
   unfolding enumerated filled_after
   after-accepted e = ap (λ (a : Verdict). filled_after a (lists.stored w m (lists.listing w m n).known) m n) e
 
-  pub after-refused : (number place : ℕ) → (lists.listing w m n).answer ≡ Refused number place → enumerated w m n ≡ lists.stored w m (lists.listing w m n).known
+  pub after-refused : (number place : ℕ) → (lists.listing w m n).answer ≡ refused_with number place → enumerated w m n ≡ lists.stored w m (lists.listing w m n).known
   unfolding enumerated filled_after
   after-refused number place e = ap (λ (a : Verdict). filled_after a (lists.stored w m (lists.listing w m n).known) m n) e

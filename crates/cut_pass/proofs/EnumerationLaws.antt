@@ -3,11 +3,11 @@
 --     enumerate_verdict           its answer is `cuts_verdict`
 --     enumerate_listed            without a refusal the words hold the cuts of `model` and their functions, and all else stays
 --     enumerate_represents        the words go on representing the graph
+use Rattle.std.specs.Prelude.{Ok}
 use Rattle.base.specs.{◌≡◌, refl, sym, ap, ◌∙◌, subst, List, [], ◌∷◌, map, Memᴰ, ℕ, zero, suc, ◌+◌, ◌≤◌, ◌<◌, arith, length, get_or}
 use Rattle.base.specs.{length-append, get_or-append-add}
 use Rattle.model.specs.Graph.{Graph}
 use Rattle.model.specs.{topological_order, cuts_of, cut_at, cut_table, cuts_verdict}
-use Rattle.model.specs.declared.Verdict.TheVariants.{Accepted}
 use Rattle.theory_graph.proofs.{cuts-none, length-order}
 use Rattle.theory_order.proofs.{by_elem, split_at}
 use Rattle.base_words.specs.{slot_at, position_at, count_at, lists_to, cuts_at, function_of}
@@ -53,7 +53,7 @@ module _ (w : List ℕ) (m n : ℕ) (g : Graph) (rep : Represents w m n g) (ok :
   unfolding out
   ready_out = ready_filling w m n enumerate_ready
 
-  module _ (done : cuts_verdict g ≡ Accepted) where
+  module _ (done : cuts_verdict g ≡ Ok tt) where
     end : List ℕ
     end = filling.filled out m n
 

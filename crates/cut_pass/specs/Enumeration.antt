@@ -1,8 +1,7 @@
 -- What the cut layer asks of the words and what it leaves: the cut lists, and then the functions of the cuts, unless there are too many.
-use Rattle.std.specs.Prelude.{◌≡◌, ◌/◌, ◌<◌}
+use Rattle.model.specs.{Verdict}
+use Rattle.std.specs.Prelude.{◌≡◌, ◌/◌, ◌<◌, Ok, Err}
 use Rattle.base.specs.{List, ℕ}
-use Rattle.model.specs.declared.Verdict.{Verdict}
-use Rattle.model.specs.declared.Verdict.TheVariants.{Accepted, Refused}
 use Rattle.base_words.specs.{and_kind, kind_at, left_at, right_at, position_at, slot_at}
 use Rattle.cut_functions.specs.{Ordered, Earlier, filled}
 use Rattle.cut_lists.specs.CutLists as lists
@@ -18,8 +17,8 @@ pub record Ready (w : List ℕ) (m n : ℕ) : Type 0 where
 -- the functions join the lists, unless there was a refusal
 unfoldable pub filled_after : Verdict → List ℕ → ℕ → ℕ → List ℕ
 unfolding filled
-filled_after Accepted w m n = filled w m n
-filled_after (Refused number place) w m n = w
+filled_after (Ok tt) w m n = filled w m n
+filled_after (Err r) w m n = w
 
 -- the words after the layer: those of the entry with the lists of all variables up to the first that is refused, and with the functions if none is
 unfoldable pub enumerated : List ℕ → ℕ → ℕ → List ℕ

@@ -6,22 +6,17 @@ ghost use Rattle.base_words.specs.{ordered_count};
 ghost use Rattle.cut_lists.specs.{listing};
 ghost use Rattle.cut_pass.specs.{Ready, enumerated};
 
-use model::{Header, Verdict};
+use model::{Header, Refusal};
 
 // "16. An AND, used or not, has more than 18 cuts; place, the first such variable in placing order."
-pub fn enumerate(work: &mut [u16], h: Header) -> Verdict
+pub fn enumerate(work: &mut [u16], h: Header) -> Result<(), Refusal>
     requires { Ready work.old h.size (ordered_count h) }
     ensures value { result ≡ (listing work.old h.size (ordered_count h)).answer }
     ensures work_after { work.new ≡ enumerated work.old h.size (ordered_count h) }
 {
     let m = h.size;
     let ordered = base_words::ordered_count(h);
-    let verdict = cut_lists::lists(work, m, ordered);
-    match verdict {
-        Verdict::Accepted => {
-            cut_functions::functions(work, m, ordered);
-            Verdict::Accepted
-        }
-        Verdict::Refused(number, place) => Verdict::Refused(number, place),
-    }
+    cut_lists::lists(work, m, ordered)?;
+    cut_functions::functions(work, m, ordered);
+    Ok(())
 }

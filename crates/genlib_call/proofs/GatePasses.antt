@@ -5,18 +5,20 @@
 --     too_long, refused, over, fine    what the call writes: 1; 22 to 24; 18; the text
 --     refuses, writes                  its answer and the memory after it
 --     length-within                    a length that it answers is within the memory
-use Rattle.base.specs.{◌≡◌, refl, sym, ap, ◌∙◌, Bool, true, false, List, [], ◌∷◌, ◌++◌, append-nil, ℕ, ◌+◌, ◌≤◌, ◌<◌, add-zero, arith, leb}
+use Rattle.std.specs.Prelude.{Ok}
+use Rattle.base.specs.{◌≡◌, refl, sym, ap, ap₂, ◌∙◌, Bool, true, false, List, [], ◌∷◌, ◌++◌, append-nil, ℕ, ◌+◌, ◌≤◌, ◌<◌, add-zero, arith, leb}
 use Rattle.base.specs.{length, drop, length-append, leb-true, le-leb, lt-leb}
-use Rattle.model.specs.{each, Line, text, lines_from, Read, holds, fault, next, unless, Group, grouped, groups, read_group, read_groups}
+use Rattle.model.specs.{each, Line, text, lines_from, Read, holds, fault, next, unless, Group, grouped, groups, read_group, read_groups, refused_with}
 use Rattle.model.specs.{read_genlib, gate_text, cells_text, genlib_text, written_answer, written_after}
 use Rattle.model.specs.Genlib.{Gate}
-use Rattle.model.specs.declared.Written.TheVariants.{Length, Refused}
+use Rattle.model.proofs.{refusal_parts}
 use Rattle.base_text.specs.{line_at, span_at, Wrote}
 use Rattle.base_text.proofs.{lines_none, put_front}
 use Rattle.genlib_groups.specs.{lines_of, group_at}
 use Rattle.genlib_groups.proofs.{bounded}
 use Rattle.genlib_call.specs.{measured, found, line_of, lines_for, text_for}
 
+-- a refusal that `?` hands on
 -- ---- groups
 
 pub read-start : (s : List ℕ) → read_genlib s ≡ read_groups (groups (lines_of s 0))
@@ -44,7 +46,7 @@ read_cons g gs = refl
 
 longer : (n : ℕ) (c : Gate) (r : Read (List Gate)) → measured n (next r (λ cs. holds (c ∷ cs))) ≡ measured (n + length (gate_text c)) r
 unfolding measured next each
-longer n c (holds cs) = let e : n + length (gate_text c ++ each gate_text cs) ≡ n + length (gate_text c) + length (each gate_text cs) = omega (arith, length-append (gate_text c) (each gate_text cs)) in ap Length e
+longer n c (holds cs) = let e : n + length (gate_text c ++ each gate_text cs) ≡ n + length (gate_text c) + length (each gate_text cs) = omega (arith, length-append (gate_text c) (each gate_text cs)) in ap Ok e
 longer n c (fault k p) = refl
 
 pub measure_more : (n : ℕ) (g : Group) (gs : List Group) (c : Gate) → read_group g ≡ holds c
@@ -53,15 +55,15 @@ unfolding next
 measure_more n g gs c e =
     ap (measured n) (read_cons g gs ∙ ap (λ (r : Read Gate). next r (λ c. next (read_groups gs) (λ cs. holds (c ∷ cs)))) e) ∙ longer n c (read_groups gs)
 
-pub measure_stop : (n : ℕ) (g : Group) (gs : List Group) (k p : ℕ) → read_group g ≡ fault k p → measured n (read_groups (g ∷ gs)) ≡ Refused k p
+pub measure_stop : (n : ℕ) (g : Group) (gs : List Group) (k p : ℕ) → read_group g ≡ fault k p → measured n (read_groups (g ∷ gs)) ≡ refused_with k p
 unfolding next measured
 measure_stop n g gs k p e = ap (measured n) (read_cons g gs ∙ ap (λ (r : Read Gate). next r (λ c. next (read_groups gs) (λ cs. holds (c ∷ cs)))) e)
 
-none_left : (n : ℕ) → measured n (read_groups (groups [])) ≡ Length n
+none_left : (n : ℕ) → measured n (read_groups (groups [])) ≡ Ok n
 unfolding measured read_groups groups each
-none_left n = ap Length (add-zero n)
+none_left n = ap Ok (add-zero n)
 
-pub measure_end : (s : List ℕ) (at n : ℕ) → length s ≤ at → measured n (read_groups (groups (lines_of s at))) ≡ Length n
+pub measure_end : (s : List ℕ) (at n : ℕ) → length s ≤ at → measured n (read_groups (groups (lines_of s at))) ≡ Ok n
 measure_end s at n h = ap (λ (ls : List Line). measured n (read_groups (groups ls))) (lines_none s at h) ∙ none_left n
 
 -- ---- the lines
@@ -121,10 +123,10 @@ cells-length : (gs : List Gate) → length (cells_text gs) ≡ 33 + length (each
 unfolding cells_text text
 cells-length gs = length-append (text "cell pins table area d0 d1 d2 d3\n") (each gate_text gs)
 
-not-refused : (bytes k p : ℕ) (r : Read (List Gate)) → measured 33 r ≡ Refused k p → next r (offered bytes) ≡ fault k p
+not-refused : (bytes k p : ℕ) (r : Read (List Gate)) → measured 33 r ≡ refused_with k p → next r (offered bytes) ≡ fault k p
 unfolding measured next
 not-refused bytes k p (holds gs) h = let z : ◌≡◌ {A = ℕ} 0 1 = cc in absurd (omega arith)
-not-refused bytes k p (fault a b) h = cc
+not-refused bytes k p (fault a b) h = let parts = refusal_parts h in ap₂ fault parts.0 parts.1
 
 -- the gates behind a length
 record Behind (n : ℕ) (r : Read (List Gate)) : Type 0 where
@@ -132,7 +134,7 @@ record Behind (n : ℕ) (r : Read (List Gate)) : Type 0 where
   read : r ≡ holds gates
   long : length (cells_text gates) ≡ n
 
-behind : (n : ℕ) (r : Read (List Gate)) → measured 33 r ≡ Length n → Behind n r
+behind : (n : ℕ) (r : Read (List Gate)) → measured 33 r ≡ Ok n → Behind n r
 unfolding measured
 behind n (holds gs) h = let e : 33 + length (each gate_text gs) ≡ n = cc in record { gates = gs; read = refl; long = cells-length gs ∙ e }
 behind n (fault k p) h = let z : ◌≡◌ {A = ℕ} 0 1 = cc in absurd (omega arith)
@@ -147,10 +149,10 @@ module _ (s : List ℕ) (bytes : ℕ) where
     unfolding genlib_text unless
     begun = rw (le-leb (length s) 65536 short)
 
-    pub refused : (k p : ℕ) → measured 33 (read_genlib s) ≡ Refused k p → genlib_text s bytes ≡ fault k p
+    pub refused : (k p : ℕ) → measured 33 (read_genlib s) ≡ refused_with k p → genlib_text s bytes ≡ fault k p
     refused k p e = begun ∙ not-refused bytes k p (read_genlib s) e
 
-    module _ (n : ℕ) (e : measured 33 (read_genlib s) ≡ Length n) where
+    module _ (n : ℕ) (e : measured 33 (read_genlib s) ≡ Ok n) where
       abbrev b : Behind n (read_genlib s)
       b = behind n (read_genlib s) e
 
@@ -187,15 +189,15 @@ unfolding text_for text
 text-parts s = refl
 
 -- what a call answers and leaves that refuses, and one that writes
-pub refuses : (r : Read (List ℕ)) (k p : ℕ) (memory : List ℕ) → r ≡ fault k p → (Refused k p ≡ written_answer r) × (memory ≡ written_after r memory)
+pub refuses : (r : Read (List ℕ)) (k p : ℕ) (memory : List ℕ) → r ≡ fault k p → (refused_with k p ≡ written_answer r) × (memory ≡ written_after r memory)
 unfolding written_answer written_after
 refuses r k p memory e = (sym (ap written_answer e), sym (ap (λ (x : Read (List ℕ)). written_after x memory) e))
 
-pub writes : (r : Read (List ℕ)) (t memory after : List ℕ) (n : ℕ) → r ≡ holds t → Wrote memory after 0 n t → (Length n ≡ written_answer r) × (after ≡ written_after r memory)
+pub writes : (r : Read (List ℕ)) (t memory after : List ℕ) (n : ℕ) → r ≡ holds t → Wrote memory after 0 n t → (Ok n ≡ written_answer r) × (after ≡ written_after r memory)
 unfolding written_answer written_after
 writes r t memory after n e w =
     let long : n ≡ length t = omega (arith, w.ends) in
-    (ap Length long ∙ sym (ap written_answer e), w.leaves ∙ put_front memory t ∙ sym (ap (λ (x : Read (List ℕ)). written_after x memory) e))
+    (ap Ok long ∙ sym (ap written_answer e), w.leaves ∙ put_front memory t ∙ sym (ap (λ (x : Read (List ℕ)). written_after x memory) e))
 
 -- ---- a length that is answered is within the memory
 
@@ -217,10 +219,10 @@ within_text : (s : List ℕ) (bytes : ℕ) → Within bytes (genlib_text s bytes
 unfolding genlib_text
 within_text s bytes = within-unless bytes (leb (length s) 65536) 1 0 (next (read_genlib s) (offered bytes)) (λ e. within-next bytes (read_genlib s))
 
-answered-within : (bytes n : ℕ) (r : Read (List ℕ)) → Within bytes r → Length n ≡ written_answer r → n ≤ bytes
+answered-within : (bytes n : ℕ) (r : Read (List ℕ)) → Within bytes r → Ok n ≡ written_answer r → n ≤ bytes
 unfolding written_answer
 answered-within bytes n (holds t) h e = let long : n ≡ length t = cc in omega arith
 answered-within bytes n (fault k p) h e = let z : ◌≡◌ {A = ℕ} 0 1 = cc in absurd (omega arith)
 
-pub length-within : (s : List ℕ) (bytes n : ℕ) → Length n ≡ written_answer (genlib_text s bytes) → n ≤ bytes
+pub length-within : (s : List ℕ) (bytes n : ℕ) → Ok n ≡ written_answer (genlib_text s bytes) → n ≤ bytes
 length-within s bytes n e = answered-within bytes n (genlib_text s bytes) (within_text s bytes) e

@@ -4,7 +4,7 @@
 --     gate-found, no_area, no_delays       24
 --     sized_many, sized_deep, sized_fits   23
 --     at_unended, at-broken, at-formed     22
-use Rattle.base.specs.{◌≡◌, refl, sym, ap, ap₂, ◌∙◌, Bool, true, false, cond, ◌&&◌, Option, none, some, List, [], ◌∷◌, map, ℕ, ◌+◌, ◌-◌}
+use Rattle.base.specs.{◌≡◌, refl, sym, ap, ap₂, ◌∙◌, Bool, true, false, cond, ◌&&◌, Option, None, Some, List, [], ◌∷◌, map, ℕ, ◌+◌, ◌-◌}
 use Rattle.base.specs.{◌^◌, ◌≤◌, ◌<◌, arith, leb, ltb, length, take, drop, get_or, length-drop, length-take-le, take-take, take-add, drop_at}
 use Rattle.base.specs.{drop-drop, ltb-false, lt-ltb, le-ltb, le-leb, lt-leb}
 use Rattle.model.specs.{all, keep, and_then, Line, ended, Read, fault, unless, from?, tokens, thousandths, is_pin, pins_of, name_value, row_bits}
@@ -12,12 +12,13 @@ use Rattle.model.specs.{shallow, Group, is_gate_line, is_pin_line, line_is, line
 use Rattle.model.specs.{table_of, grouped, group_formed, group_small, read_group}
 use Rattle.model.specs.GenlibFormula.{value_of}
 use Rattle.model.specs.Genlib.{Gate, gate_of}
+use Rattle.model.specs.declared.Refusal.{Refusal}
 use Rattle.base_text.specs.{line_at}
 use Rattle.genlib_expression.specs.{part}
 use Rattle.genlib_groups.specs.{lines_of, lines_behind, pin_has, delay_for, group_is, group_at}
-use Rattle.genlib_call.specs.{gate_option, Only24, validated_read, sized_read, InLine}
-use Rattle.genlib_call.specs.declared.Validated.{Validated}
-use Rattle.genlib_call.specs.declared.Validated.TheVariants.{Cell, Refused}
+use Rattle.std.specs.Option.{ok_or}
+use Rattle.genlib_celltext.specs.declared.Gate.{Gate as GateFound}
+use Rattle.genlib_call.specs.{GateIs, GateStands, gate_option, validated_read, sized_read, InLine}
 
 -- ---- delays
 
@@ -26,29 +27,29 @@ module _ (lines : List (List (List ℕ))) (names : List (List ℕ)) where
   unfolding pin_delay delay_for
   pin-there j name h e = rw (lt-ltb j (length names) h, e)
 
-  pub pin-absent : (j : ℕ) → length names ≤ j → pin_delay lines names j ≡ some 0
+  pub pin-absent : (j : ℕ) → length names ≤ j → pin_delay lines names j ≡ Some 0
   unfolding pin_delay
   pin-absent j h = rw (le-ltb j (length names) h)
 
   module _ (d0 d1 d2 : ℕ) where
-    pub four_is : (d3 : ℕ) → pin_delay lines names 0 ≡ some d0 → pin_delay lines names 1 ≡ some d1 → pin_delay lines names 2 ≡ some d2 → pin_delay lines names 3 ≡ some d3
-        → delays_of lines names ≡ some (d0 ∷ d1 ∷ d2 ∷ d3 ∷ [])
+    pub four_is : (d3 : ℕ) → pin_delay lines names 0 ≡ Some d0 → pin_delay lines names 1 ≡ Some d1 → pin_delay lines names 2 ≡ Some d2 → pin_delay lines names 3 ≡ Some d3
+        → delays_of lines names ≡ Some (d0 ∷ d1 ∷ d2 ∷ d3 ∷ [])
     unfolding delays_of and_then
     four_is d3 a b c d = rw (a, b, c, d)
 
-    pub none_3 : pin_delay lines names 0 ≡ some d0 → pin_delay lines names 1 ≡ some d1 → pin_delay lines names 2 ≡ some d2 → pin_delay lines names 3 ≡ none → delays_of lines names ≡ none
+    pub none_3 : pin_delay lines names 0 ≡ Some d0 → pin_delay lines names 1 ≡ Some d1 → pin_delay lines names 2 ≡ Some d2 → pin_delay lines names 3 ≡ None → delays_of lines names ≡ None
     unfolding delays_of and_then
     none_3 a b c d = rw (a, b, c, d)
 
-  pub none_2 : (d0 d1 : ℕ) → pin_delay lines names 0 ≡ some d0 → pin_delay lines names 1 ≡ some d1 → pin_delay lines names 2 ≡ none → delays_of lines names ≡ none
+  pub none_2 : (d0 d1 : ℕ) → pin_delay lines names 0 ≡ Some d0 → pin_delay lines names 1 ≡ Some d1 → pin_delay lines names 2 ≡ None → delays_of lines names ≡ None
   unfolding delays_of and_then
   none_2 d0 d1 a b c = rw (a, b, c)
 
-  pub none_1 : (d0 : ℕ) → pin_delay lines names 0 ≡ some d0 → pin_delay lines names 1 ≡ none → delays_of lines names ≡ none
+  pub none_1 : (d0 : ℕ) → pin_delay lines names 0 ≡ Some d0 → pin_delay lines names 1 ≡ None → delays_of lines names ≡ None
   unfolding delays_of and_then
   none_1 d0 a b = rw (a, b)
 
-  pub none_0 : pin_delay lines names 0 ≡ none → delays_of lines names ≡ none
+  pub none_0 : pin_delay lines names 0 ≡ None → delays_of lines names ≡ None
   unfolding delays_of and_then
   none_0 a = rw a
 
@@ -69,29 +70,29 @@ module _ (lines : List (List (List ℕ))) (ts : List (List ℕ)) where
   abbrev gate_by : ℕ → List ℕ → Gate
   gate_by area delays = record { name = get_or ts 1 []; pins = length (pins_of (drop 5 ts)); table = table_of (drop 5 ts); area = area; delays = delays }
 
-  gate_shape : gate_from lines ts ≡ and_then (thousandths (get_or ts 2 [])) (λ area. and_then (delays_of lines (pins_of (drop 5 ts))) (λ delays. some (gate_by area delays)))
+  gate_shape : gate_from lines ts ≡ and_then (thousandths (get_or ts 2 [])) (λ area. and_then (delays_of lines (pins_of (drop 5 ts))) (λ delays. Some (gate_by area delays)))
   unfolding gate_from
   gate_shape = refl
 
   with_area : (o : Option ℕ) (p : Option (List ℕ)) → thousandths (get_or ts 2 []) ≡ o → delays_of lines (pins_of (drop 5 ts)) ≡ p
-      → gate_from lines ts ≡ and_then o (λ area. and_then p (λ delays. some (gate_by area delays)))
+      → gate_from lines ts ≡ and_then o (λ area. and_then p (λ delays. Some (gate_by area delays)))
   with_area o p a d =
       gate_shape
-      ∙ ap (λ (x : Option ℕ). and_then x (λ area. and_then (delays_of lines (pins_of (drop 5 ts))) (λ delays. some (gate_by area delays)))) a
-      ∙ ap (λ (x : Option (List ℕ)). and_then o (λ area. and_then x (λ delays. some (gate_by area delays)))) d
+      ∙ ap (λ (x : Option ℕ). and_then x (λ area. and_then (delays_of lines (pins_of (drop 5 ts))) (λ delays. Some (gate_by area delays)))) a
+      ∙ ap (λ (x : Option (List ℕ)). and_then o (λ area. and_then x (λ delays. Some (gate_by area delays)))) d
 
-  pub gate-found : (area : ℕ) (delays : List ℕ) → thousandths (get_or ts 2 []) ≡ some area → delays_of lines (pins_of (drop 5 ts)) ≡ some delays
-      → gate_from lines ts ≡ some (record { name = get_or ts 1 []; pins = length (pins_of (drop 5 ts)); table = table_of (drop 5 ts); area = area; delays = delays })
+  pub gate-found : (area : ℕ) (delays : List ℕ) → thousandths (get_or ts 2 []) ≡ Some area → delays_of lines (pins_of (drop 5 ts)) ≡ Some delays
+      → gate_from lines ts ≡ Some (record { name = get_or ts 1 []; pins = length (pins_of (drop 5 ts)); table = table_of (drop 5 ts); area = area; delays = delays })
   unfolding and_then
-  gate-found area delays a d = with_area (some area) (some delays) a d
+  gate-found area delays a d = with_area (Some area) (Some delays) a d
 
-  pub no_area : thousandths (get_or ts 2 []) ≡ none → gate_from lines ts ≡ none
+  pub no_area : thousandths (get_or ts 2 []) ≡ None → gate_from lines ts ≡ None
   unfolding and_then
-  no_area a = with_area none (delays_of lines (pins_of (drop 5 ts))) a refl
+  no_area a = with_area None (delays_of lines (pins_of (drop 5 ts))) a refl
 
-  pub no_delays : (area : ℕ) → thousandths (get_or ts 2 []) ≡ some area → delays_of lines (pins_of (drop 5 ts)) ≡ none → gate_from lines ts ≡ none
+  pub no_delays : (area : ℕ) → thousandths (get_or ts 2 []) ≡ Some area → delays_of lines (pins_of (drop 5 ts)) ≡ None → gate_from lines ts ≡ None
   unfolding and_then
-  no_delays area a d = with_area (some area) none a d
+  no_delays area a d = with_area (Some area) None a d
 
 -- the table by the pins' names
 table_shape : (formula : List (List ℕ)) → table_of formula ≡ row_bits (λ row. value_of (name_value (pins_of formula) row) formula) 0 (2 ^ length (pins_of formula))
@@ -121,10 +122,11 @@ part-part s w at from to f e h k =
     ∙ ap (take m) (drop-drop from at s) in
     ap (λ (j : ℕ). take j (drop (at + from) s)) size ∙ sym (ap (take (to - from)) tail ∙ take-take (to - from) m (drop (at + from) s) (omega arith))
 
-pub as_read : (s : List ℕ) (at : ℕ) (r : Validated) (o : Option Gate) → gate_option s r ≡ o → Only24 r → validated_read s at r ≡ from? o 24 at
+pub as_read : (s : List ℕ) (at : ℕ) (r : Option GateFound) (o : Option Gate) → GateStands s r → gate_option s r ≡ o
+    → let a = ok_or {E = Refusal} r (record { number = 24; place = at }) in GateIs s a × (validated_read s a ≡ from? o 24 at)
 unfolding from?
-as_read s at (Cell g) o e u = ap (λ (x : Option Gate). from? x 24 at) e
-as_read s at (Refused n) o e u = ap (λ (k : ℕ). fault k at) u ∙ ap (λ (x : Option Gate). from? x 24 at) e
+as_read s at (Some g) o h e = (h, ap (λ (x : Option Gate). from? x 24 at) e)
+as_read s at None o h e = (tt, ap (λ (x : Option Gate). from? x 24 at) e)
 
 -- ---- 23
 

@@ -1,16 +1,14 @@
 -- What the two passes over the groups of a text find: how long the cell text is, and its lines.
-use Rattle.std.specs.Prelude.{◌+◌, ◌∷◌, ◌++◌}
+use Rattle.std.specs.Prelude.{◌+◌, ◌∷◌, ◌++◌, Ok}
 use Rattle.base.specs.{ℕ, List, [], length}
-use Rattle.model.specs.{each, text, lines_from, Read, holds, fault, Group, groups, read_group, gate_text}
+use Rattle.model.specs.{each, text, lines_from, Read, holds, fault, Group, groups, read_group, gate_text, Written, refused_with}
 use Rattle.model.specs.Genlib.{Gate}
-use Rattle.model.specs.declared.Written.{Written}
-use Rattle.model.specs.declared.Written.TheVariants.{Length, Refused}
 
 -- the length of so many bytes and the lines of the gates read, or the refusal
 unfoldable pub measured : ℕ → Read (List Gate) → Written
 unfolding each gate_text
-measured n (holds gs) = Length (n + length (each gate_text gs))
-measured n (fault k p) = Refused k p
+measured n (holds gs) = Ok (n + length (each gate_text gs))
+measured n (fault k p) = refused_with k p
 
 -- the gate that was read, or none
 unfoldable pub found : Read Gate → List Gate

@@ -1,6 +1,6 @@
 -- The parts of a gate's line in the order in which they are written, and their lengths.
 use Rattle.base.specs.{◌≡◌, refl, sym, ap, ◌∙◌, List, [], ◌∷◌, ◌++◌, append_assoc, ℕ, ◌+◌, ◌-◌, ◌≤◌, ◌<◌, add-one, arith, length, drop}
-use Rattle.base.specs.{length-append, length-drop, length-take-le}
+use Rattle.base.specs.{length-append, length-drop, length-take-le, zero, suc, take, get_or, drop-cons, drop_of_length-le}
 use Rattle.model.specs.{each, decimal, hex_text, number_text, gate_text}
 use Rattle.base_text.proofs.{dec_below}
 use Rattle.genlib_celltext.specs.declared.Gate.{Gate}
@@ -21,21 +21,25 @@ five-digits n h = dec_below 4 n (omega arith)
 
 -- ---- delays
 
-module _ (a b c d : ℕ) where
-  pub four_is : (more : List ℕ) → each number_text (a ∷ b ∷ c ∷ d ∷ []) ++ more ≡ number_text a ++ (number_text b ++ (number_text c ++ (number_text d ++ more)))
-  unfolding each
-  four_is more = simp append_assoc
+-- one delay more
+each-more : (l : List ℕ) (i : ℕ) → i < length l → each number_text (drop i l) ≡ number_text (get_or l i 0) ++ each number_text (drop (i + 1) l)
+unfolding each
+each-more l i h = rw (drop-cons l i 0 h, add-one i)
 
-  pub four-length : length (each number_text (a ∷ b ∷ c ∷ d ∷ [])) ≡ length (number_text a) + length (number_text b) + length (number_text c) + length (number_text d)
-  unfolding each
-  four-length =
-      omega (
-        arith,
-        length-append (number_text a) (number_text b ++ (number_text c ++ (number_text d ++ []))),
-        length-append (number_text b) (number_text c ++ (number_text d ++ [])),
-        length-append (number_text c) (number_text d ++ []),
-        length-append (number_text d) [],
-      )
+pub text-more : (l : List ℕ) (i : ℕ) → i < length l → each number_text (drop i l) ++ (10 ∷ []) ≡ number_text (get_or l i 0) ++ (each number_text (drop (i + 1) l) ++ (10 ∷ []))
+text-more l i h = rw (each-more l i h) (append_assoc (number_text (get_or l i 0)) (each number_text (drop (i + 1) l)) (10 ∷ []))
+
+pub text_end : (l : List ℕ) (i : ℕ) → length l ≤ i → each number_text (drop i l) ++ (10 ∷ []) ≡ 10 ∷ []
+unfolding each
+text_end l i h = rw (drop_of_length-le l h)
+
+pub length-more : (l : List ℕ) (i : ℕ) → i < length l → length (each number_text (take (i + 1) l)) ≡ length (each number_text (take i l)) + length (number_text (get_or l i 0))
+unfolding each
+length-more [] i h = absurd (omega arith)
+length-more (x ∷ l) zero h = omega (arith, length-append (number_text x) [])
+length-more (x ∷ l) (suc i) h =
+    let e : suc i + 1 ≡ suc (i + 1) = omega arith in
+    rw e (omega (arith, length-append (number_text x) (each number_text (take (i + 1) l)), length-append (number_text x) (each number_text (take i l)), length-more l i (omega arith)))
 
 -- ---- the line
 

@@ -1,12 +1,12 @@
 -- The gate that is written, as `model` has it.
-use Rattle.std.specs.Prelude.{◌-◌, ◌≤◌, ◌∷◌}
-use Rattle.base.specs.{ℕ, List, [], length, take, drop}
+use Rattle.std.specs.Prelude.{◌-◌, ◌≤◌}
+use Rattle.base.specs.{ℕ, List, length, take, drop}
 use Rattle.model.specs.Genlib.{Gate}
 use Rattle.genlib_celltext.specs.declared.Gate.{Gate as GateFound}
 
 -- d0 to d3
 abbrev pub delays_of : GateFound → List ℕ
-delays_of g = g.d0 ∷ g.d1 ∷ g.d2 ∷ g.d3 ∷ []
+delays_of g = g.delays
 
 -- its name, in the text s
 abbrev pub name_in : List ℕ → GateFound → List ℕ

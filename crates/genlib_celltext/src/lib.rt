@@ -7,7 +7,7 @@ ghost use Rattle.model.specs.{each, hex_byte, hex_text, number_text, gate_text};
 ghost use Rattle.base_text.specs.{Wrote};
 ghost use Rattle.genlib_celltext.specs.{delays_of, gate_in, Stands};
 
-// What is written of a gate. Its name is the bytes of the genlib text from `from` to `to`.
+// What is written of a gate. Its name is the bytes of the genlib text from `from` to `to`; `delays` are d0 to d3.
 #[derive(Clone, Copy)]
 pub struct Gate {
     pub from: usize,
@@ -15,10 +15,7 @@ pub struct Gate {
     pub pins: u16,
     pub table: u16,
     pub area: u16,
-    pub d0: u16,
-    pub d1: u16,
-    pub d2: u16,
-    pub d3: u16,
+    pub delays: [u16; 4],
 }
 
 // ---- lengths
@@ -27,13 +24,17 @@ pub struct Gate {
 fn field_len(n: u16) -> usize
     ensures { (result ≡ length (number_text n)) × (result ≤ 6) }
 {
-    base_text::number_len(n as u32) + 1
+    base_text::number_len(u32::from(n)) + 1
 }
 
 fn delays_len(g: Gate) -> usize
     ensures { (result ≡ length (each number_text (delays_of g))) × (result ≤ 24) }
 {
-    field_len(g.d0) + field_len(g.d1) + field_len(g.d2) + field_len(g.d3)
+    let mut n = 0;
+    for d in &g.delays {
+        n += field_len(*d);
+    }
+    n
 }
 
 // How long the line of a gate is, whatever text its name stands in.
@@ -51,13 +52,14 @@ fn put_field(out: &mut [u8], at: usize, n: u16) -> usize
     ensures { Wrote out.old out.new at result (number_text n) }
 {
     let a = base_text::put_byte(out, at, b' ');
-    base_text::put_number(out, a, n as u32)
+    base_text::put_number(out, a, u32::from(n))
 }
 
 fn hex_byte(d: u16) -> u8
     requires { d < 16 }
     ensures { result ≡ hex_byte d }
 {
+    // Stays: the new form is no plainer, a fallible try_from would have a case that never comes: a digit is below 16.
     if d < 10 { b'0' + d as u8 } else { 87 + d as u8 }
 }
 
@@ -79,11 +81,11 @@ fn put_delays(out: &mut [u8], at: usize, g: Gate) -> usize
     requires { at + length (each number_text (delays_of g) ++ (10 ∷ [])) ≤ length out.old }
     ensures { Wrote out.old out.new at result (each number_text (delays_of g) ++ (10 ∷ [])) }
 {
-    let a = put_field(out, at, g.d0);
-    let b = put_field(out, a, g.d1);
-    let c = put_field(out, b, g.d2);
-    let d = put_field(out, c, g.d3);
-    base_text::put_byte(out, d, b'\n')
+    let mut to = at;
+    for d in &g.delays {
+        to = put_field(out, to, *d);
+    }
+    base_text::put_byte(out, to, b'\n')
 }
 
 // The line of a gate whose name stands in the text s.
@@ -91,9 +93,7 @@ pub fn put_gate(out: &mut [u8], at: usize, s: &[u8], g: Gate) -> usize
     requires { Stands s.now g × (at + length (gate_text (gate_in s.now g)) ≤ length out.old) }
     ensures { Wrote out.old out.new at result (gate_text (gate_in s.now g)) }
 {
-    let from = g.from;
-    let to = g.to;
-    let a = base_text::put_bytes(out, at, &s[from..to]);
+    let a = base_text::put_bytes(out, at, &s[g.from..g.to]);
     let b = put_field(out, a, g.pins);
     let c = put_hex(out, b, g.table);
     let d = put_field(out, c, g.area);

@@ -1,14 +1,12 @@
 -- The steps of the expression's readers: signs that step a value, names, brackets, and parts with a sign between them.
 use Rattle.base.specs.{ℕ, zero, suc, ◌+◌, ◌-◌, ◌≤◌, ◌<◌, add-one, sub-one, arith, ◌≡◌, refl, sym, ap, ◌∙◌, Bool, true, false, not}
 use Rattle.base.specs.{◌&&◌, ◌||◌, bit_and, bit_or}
-use Rattle.base.specs.{cond, none, some, List, [], ◌∷◌, map, ltb, length, drop, ltb-true, ltb-false}
+use Rattle.base.specs.{cond, Option, None, Some, List, [], ◌∷◌, map, ltb, length, drop, ltb-true, ltb-false}
 use Rattle.model.specs.{bit, from, same, flip, and_then, is_blank, is_sign, is_word, is_empty, Taken, begins, negated_by_signs, chain, quoted, close_bracket}
 use Rattle.model.specs.{atom, name_value, factor_of, product_of, sum_of, index_of, value, phase_table}
 use Rattle.model.specs.GenlibFormula.{named, within}
 use Rattle.base_truth.proofs.{value_complement, value-and, value_or}
 use Rattle.genlib_expression.specs.declared.Pins.{Pins}
-use Rattle.genlib_expression.specs.declared.Parsed.{Parsed}
-use Rattle.genlib_expression.specs.declared.Parsed.TheVariants.{At, Broken}
 use Rattle.genlib_expression.specs.{end_at, from_at, rest_at, names_at, taken_at, Within, part}
 use Rattle.base_text.proofs.{class_from, class_le}
 use Rattle.genlib_expression.proofs.TokenSpans.{token_none, token_first, end_after, end_out}
@@ -102,11 +100,11 @@ module _ (w : List ℕ) (at : ℕ) (h : at ≤ length w) where
             let z : false ≡ true = sym word_none ∙ ap is_word (sym (nothing (ltb-false (from_at w at) (length w) p))) ∙ e in
             absurd (never z)
 
-    pub name_no : is_word here ≡ false → named value odd (rest_at w at) ≡ none
+    pub name_no : is_word here ≡ false → named value odd (rest_at w at) ≡ None
     unfolding named
     name_no e = go (ltb (from_at w at) (length w)) refl
       where
-        go : (s : Bool) → ltb (from_at w at) (length w) ≡ s → named value odd (rest_at w at) ≡ none
+        go : (s : Bool) → ltb (from_at w at) (length w) ≡ s → named value odd (rest_at w at) ≡ None
         go true p = rw (token_first w at (ltb-true (from_at w at) (length w) p), e)
         go false p = rw (token_none w at (ltb-false (from_at w at) (length w) p))
 
@@ -116,13 +114,13 @@ pub close_yes : (v : Bool) (ts us : List (List ℕ)) → begins 41 ts ≡ true �
 unfolding close_bracket
 close_yes v ts us e f = rw (e, f)
 
-pub close_no : (v : Bool) (ts : List (List ℕ)) → begins 41 ts ≡ false → close_bracket v ts ≡ none
+pub close_no : (v : Bool) (ts : List (List ℕ)) → begins 41 ts ≡ false → close_bracket v ts ≡ None
 unfolding close_bracket
 close_no v ts e = rw e
 
 -- a value that was turned, and the `'` behind it
 pub quoted-is : (w : List ℕ) (row u n : ℕ) (o q v : Bool) (ts : List (List ℕ)) → bit u row ≡ flip q v
-    → ◌≡◌ {A = Bool × List (List ℕ)} (q, rest_at w n) (negated_by_signs 39 o ts) → taken_at w row (At u n) ≡ quoted (flip o v) ts
+    → ◌≡◌ {A = Bool × List (List ℕ)} (q, rest_at w n) (negated_by_signs 39 o ts) → taken_at w row (Some (u, n)) ≡ quoted (flip o v) ts
 unfolding quoted
 quoted-is w row u n o q v ts f e = rw (signs_flip 39 o v ts, sym e, f)
 
@@ -131,7 +129,7 @@ quoted-is w row u n o q v ts f e = rw (signs_flip 39 o v ts, sym e, f)
 module _ (b : ℕ) (join : Bool → Bool → Bool) (part : List (List ℕ) → Taken) where
   -- one part more, once the part's answer is known
   unroll : (k : ℕ) (v : Bool) (ts : List (List ℕ)) → 0 < k
-      → chain b join part k v ts ≡ and_then (part ts) (λ q. cond (begins b q.1) (chain b join part (k - 1) (join v q.0) (drop 1 q.1)) (some (join v q.0, q.1)))
+      → chain b join part k v ts ≡ and_then (part ts) (λ q. cond (begins b q.1) (chain b join part (k - 1) (join v q.0) (drop 1 q.1)) (Some (join v q.0, q.1)))
   unfolding chain
   unroll zero v ts h = absurd (omega arith)
   unroll (suc k) v ts h = rw (sub-one (suc k))
@@ -145,12 +143,12 @@ module _ (b : ℕ) (join : Bool → Bool → Bool) (part : List (List ℕ) → T
       some_left : 0 < so.0
       some_left = omega (arith, so.1)
 
-      pub chain_bad : part (rest_at w at) ≡ none → chain b join part k v0 (rest_at w start) ≡ none
+      pub chain_bad : part (rest_at w at) ≡ None → chain b join part k v0 (rest_at w start) ≡ None
       unfolding and_then
       chain_bad e = so.2 ∙ unroll so.0 v (rest_at w at) some_left ∙ rw e
 
-      module _ (u : Bool) (n : ℕ) (e : part (rest_at w at) ≡ some (u, rest_at w n)) where
-        pub chain-end : begins b (rest_at w n) ≡ false → chain b join part k v0 (rest_at w start) ≡ some (join v u, rest_at w n)
+      module _ (u : Bool) (n : ℕ) (e : part (rest_at w at) ≡ Some (u, rest_at w n)) where
+        pub chain-end : begins b (rest_at w n) ≡ false → chain b join part k v0 (rest_at w start) ≡ Some (join v u, rest_at w n)
         unfolding and_then
         chain-end f = so.2 ∙ unroll so.0 v (rest_at w at) some_left ∙ rw (e, f)
 
@@ -172,16 +170,16 @@ module _ (value : List ℕ → Bool) (inside : List (List ℕ) → Taken) (odd :
   atom-name e = rw e
 
   module _ (us : List (List ℕ)) (e : begins 40 ts ≡ true) (d : drop 1 ts ≡ us) where
-    pub atom_bad : inside us ≡ none → atom value inside odd ts ≡ none
+    pub atom_bad : inside us ≡ None → atom value inside odd ts ≡ None
     unfolding atom and_then
     atom_bad f = rw (e, d, f)
 
-    pub atom-closed : (v : Bool) (rest : List (List ℕ)) → inside us ≡ some (v, rest) → atom value inside odd ts ≡ close_bracket (flip odd v) rest
+    pub atom-closed : (v : Bool) (rest : List (List ℕ)) → inside us ≡ Some (v, rest) → atom value inside odd ts ≡ close_bracket (flip odd v) rest
     unfolding atom and_then
     atom-closed v rest f = rw (e, d, f)
 
 module _ (value : List ℕ → Bool) (k depth : ℕ) (ts : List (List ℕ)) where
-  pub within_none : depth ≡ 0 → within value k depth ts ≡ none
+  pub within_none : depth ≡ 0 → within value k depth ts ≡ None
   unfolding within
   within_none e = rw e
 
@@ -208,14 +206,14 @@ signed_row false t row h k = refl
 pub in_phase-row : (r : ℕ) (odd : Bool) (t row : ℕ) → r ≡ phase_table odd t → t < 65536 → row < 16 → bit r row ≡ flip odd (bit t row)
 in_phase-row r odd t row e h k = ap (λ (x : ℕ). bit x row) e ∙ signed_row odd t row h k
 
--- a callee that answered `At v n` or nothing
-pub known : (w : List ℕ) (row : ℕ) (r s : Parsed) (t : Taken) → r ≡ s → taken_at w row r ≡ t → t ≡ taken_at w row s
+-- what a callee answered
+pub known : (w : List ℕ) (row : ℕ) (r s : Option (ℕ × ℕ)) (t : Taken) → r ≡ s → taken_at w row r ≡ t → t ≡ taken_at w row s
 known w row r s t e f = sym f ∙ ap (taken_at w row) e
 
 -- what starts later starts here
-pub later : (a b m : ℕ) (r : Parsed) → a ≤ b → Within b m r → Within a m r
-later a b m (At v n) h w = (omega arith, omega arith)
-later a b m Broken h w = tt
+pub later : (a b m : ℕ) (r : Option (ℕ × ℕ)) → a ≤ b → Within b m r → Within a m r
+later a b m (Some r) h w = (omega arith, omega arith)
+later a b m None h w = tt
 
 -- ---- the chains of a product and of a sum
 

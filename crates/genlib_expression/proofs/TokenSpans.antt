@@ -1,5 +1,5 @@
 -- The token at a place is the first of the line's tokens from there on.
-use Rattle.base.specs.{ℕ, suc, ◌+◌, ◌-◌, ◌≤◌, ◌<◌, add-one, arith, ◌≡◌, refl, sym, ap, ◌∙◌, Bool, true, false, cond, ◌&&◌, ◌||◌, List, []}
+use Rattle.base.specs.{ℕ, suc, ◌+◌, ◌-◌, ◌≤◌, ◌<◌, add-one, arith, ◌≡◌, refl, sym, ap, ◌∙◌, Bool, true, false, cond, ◌&&◌, ◌||◌, None, Some, List, []}
 use Rattle.base.specs.{◌∷◌, eqb, ltb, length, drop, get_or, drop_of_length-le, drop-cons, lt-ltb, le-ltb, ltb-true, ltb-false, eqb-true}
 use Rattle.model.specs.{is_name_byte, is_letter, between, onto, is_blank, is_word_byte, starts_word, token_prepended, tokens, span, lead, is_sign, begins}
 use Rattle.base_text.specs.{span_end}
@@ -138,16 +138,17 @@ module _ (w : List ℕ) (at b : ℕ) where
   unfolding begins
   begins-none h = rw (token_none w at h)
 
-  pub behind-yes : (n : ℕ) → n ≡ behind_at w at b → (n ≡ at → ⊥) → (begins b (rest_at w at) ≡ true) × (drop 1 (rest_at w at) ≡ rest_at w n) × (at < n) × (n ≤ length w)
-  behind-yes n e ne = go (ltb (from_at w at) (length w)) refl (eqb (get_or w (from_at w at) 0) b) refl
+  pub behind-yes : (n : ℕ) → Some n ≡ behind_at w at b → (begins b (rest_at w at) ≡ true) × (drop 1 (rest_at w at) ≡ rest_at w n) × (at < n) × (n ≤ length w)
+  behind-yes n e = go (ltb (from_at w at) (length w)) refl (eqb (get_or w (from_at w at) 0) b) refl
     where
       go : (s : Bool) → ltb (from_at w at) (length w) ≡ s → (t : Bool) → eqb (get_or w (from_at w at) 0) b ≡ t
           → (begins b (rest_at w at) ≡ true) × (drop 1 (rest_at w at) ≡ rest_at w n) × (at < n) × (n ≤ length w)
-      go false p t q = absurd (ne (e ∙ rw p))
-      go true p false q = absurd (ne (e ∙ rw (p, q)))
+      go false p t q = let k : Some n ≡ None = e ∙ rw p in let z : ◌≡◌ {A = ℕ} 0 1 = cc k in absurd (omega arith)
+      go true p false q = let k : Some n ≡ None = e ∙ rw (p, q) in let z : ◌≡◌ {A = ℕ} 0 1 = cc k in absurd (omega arith)
       go true p true q =
           let h : from_at w at < length w = ltb-true (from_at w at) (length w) p in
-          let m : n ≡ end_at w (from_at w at) = e ∙ rw (p, q) in
+          let there : Some n ≡ Some (end_at w (from_at w at)) = e ∙ rw (p, q) in
+          let m : n ≡ end_at w (from_at w at) = cc there in
           let k = end_after w (from_at w at) h in (
             begins-is h ∙ q,
             ap (drop 1) (token_first w at h) ∙ ap (rest_at w) (sym m),
@@ -155,13 +156,13 @@ module _ (w : List ℕ) (at b : ℕ) where
             omega arith,
           )
 
-  pub behind_no : (n : ℕ) → n ≡ behind_at w at b → n ≡ at → begins b (rest_at w at) ≡ false
-  behind_no n e same = go (ltb (from_at w at) (length w)) refl (eqb (get_or w (from_at w at) 0) b) refl
+  pub behind_no : None ≡ behind_at w at b → begins b (rest_at w at) ≡ false
+  behind_no e = go (ltb (from_at w at) (length w)) refl (eqb (get_or w (from_at w at) 0) b) refl
     where
       go : (s : Bool) → ltb (from_at w at) (length w) ≡ s → (t : Bool) → eqb (get_or w (from_at w at) 0) b ≡ t → begins b (rest_at w at) ≡ false
       go false p t q = begins-none (ltb-false (from_at w at) (length w) p)
       go true p false q = begins-is (ltb-true (from_at w at) (length w) p) ∙ q
       go true p true q =
-          let h : from_at w at < length w = ltb-true (from_at w at) (length w) p in
-          let m : n ≡ end_at w (from_at w at) = e ∙ rw (p, q) in
-          absurd (omega (arith, class_from is_blank w at, (end_after w (from_at w at) h).0))
+          let k : None ≡ Some (end_at w (from_at w at)) = e ∙ rw (p, q) in
+          let z : ◌≡◌ {A = ℕ} 0 1 = cc k in
+          absurd (omega arith)

@@ -1,6 +1,6 @@
 -- What the readers of a line find at its places.
 use Rattle.std.specs.Prelude.{◌+◌, ◌-◌, ◌≤◌, ◌<◌, ◌≡◌, ◌&&◌, ◌||◌, ◌∷◌}
-use Rattle.base.specs.{ℕ, zero, suc, Bool, true, false, cond, none, some, List, [], map, eqb, ltb}
+use Rattle.base.specs.{ℕ, zero, suc, Bool, true, false, cond, Option, None, Some, List, [], map, eqb, ltb}
 use Rattle.base.specs.{length, take, drop, get_or, set}
 use Rattle.model.specs.declared.Scan.{Scan}
 use Rattle.model.specs.declared.Scan.TheVariants.{Expected, After, Done, Broken as NoForm}
@@ -9,9 +9,6 @@ use Rattle.base_text.specs.{pick_n}
 use Rattle.base_text.specs.{span_end}
 use Rattle.genlib_expression.specs.declared.Token.{Token}
 use Rattle.genlib_expression.specs.declared.Pins.{Pins}
-use Rattle.genlib_expression.specs.declared.Signed.{Signed}
-use Rattle.genlib_expression.specs.declared.Parsed.{Parsed}
-use Rattle.genlib_expression.specs.declared.Parsed.TheVariants.{At, Broken}
 
 abbrev pub pick_l : Bool → List (List ℕ) → List (List ℕ) → List (List ℕ)
 pick_l true a b = a
@@ -30,8 +27,8 @@ abbrev pub token_at : List ℕ → ℕ → Token
 token_at w at = record { from = from_at w at; to = end_at w (from_at w at) }
 
 -- the place behind the sign b, if that is the next token
-abbrev pub behind_at : List ℕ → ℕ → ℕ → ℕ
-behind_at w at b = pick_n (ltb (from_at w at) (length w)) (pick_n (eqb (get_or w (from_at w at) 0) b) (end_at w (from_at w at)) at) at
+abbrev pub behind_at : List ℕ → ℕ → ℕ → Option ℕ
+behind_at w at b = cond (ltb (from_at w at) (length w) && eqb (get_or w (from_at w at) 0) b) (Some (end_at w (from_at w at))) None
 
 -- the tokens from a place on
 abbrev pub rest_at : List ℕ → ℕ → List (List ℕ)
@@ -46,17 +43,17 @@ unfolding span below
 names_at w p = map (name_at w p) (below p.n)
 
 -- what an answer by places says of the tokens in a row
-abbrev pub taken_at : List ℕ → ℕ → Parsed → Taken
-taken_at w row (At v n) = some (bit v row, rest_at w n)
-taken_at w row Broken = none
+abbrev pub taken_at : List ℕ → ℕ → Option (ℕ × ℕ) → Taken
+taken_at w row (Some r) = Some (bit r.0 row, rest_at w r.1)
+taken_at w row None = None
 
-abbrev pub signed_at : List ℕ → Signed → Bool × List (List ℕ)
-signed_at w t = (t.value, rest_at w t.at)
+abbrev pub signed_at : List ℕ → Bool × ℕ → Bool × List (List ℕ)
+signed_at w t = (t.0, rest_at w t.1)
 
 -- a form that starts at a ends after a and within n
-abbrev pub Within : ℕ → ℕ → Parsed → Type 0
-Within a n (At v m) = (a < m) × (m ≤ n)
-Within a n Broken = Unit {0}
+abbrev pub Within : ℕ → ℕ → Option (ℕ × ℕ) → Type 0
+Within a n (Some r) = (a < r.1) × (r.1 ≤ n)
+Within a n None = Unit {0}
 
 -- ---- tokens by number
 

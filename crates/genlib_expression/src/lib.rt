@@ -24,24 +24,11 @@ pub struct Token {
 }
 
 // Where each of the first four pins stands in the line first; `n` is their number, 5 where there are more.
+// Stays: the project's rule (no heap, fixed memory): an array with the number of its places that count beside it.
 #[derive(Clone, Copy)]
 pub struct Pins {
     pub n: usize,
     pub at: [usize; 4],
-}
-
-// The values in rows 0 to 15 as a table, and the place behind what has them.
-#[derive(Clone, Copy)]
-enum Parsed {
-    At(u16, usize),
-    Broken,
-}
-
-// A value that signs may have turned, and the place behind them.
-#[derive(Clone, Copy)]
-struct Signed {
-    value: bool,
-    at: usize,
 }
 
 // ---- tokens
@@ -66,15 +53,16 @@ pub fn next_token(w: &[u8], at: usize) -> Token
     Token { from, to }
 }
 
-// The place behind the sign b where that is the next token, else the place itself.
-fn behind(w: &[u8], at: usize, b: u8) -> usize
+// The place behind the sign b where that is the next token.
+fn behind(w: &[u8], at: usize, b: u8) -> Option<usize>
     ensures { result ≡ behind_at w.now at b }
 {
     let from = base_text::span_end(w, at, Class::Blank);
     if from < w.len() && w[from] == b {
-        return token_end(w, from);
+        Some(token_end(w, from))
+    } else {
+        None
     }
-    at
 }
 
 // Token k of a line; an empty one behind the last.
@@ -82,11 +70,8 @@ pub fn nth(w: &[u8], k: usize) -> Token
     ensures { Nth w.now k result }
 {
     let mut t = next_token(w, 0);
-    let mut i = 0;
-    while i < k {
-        let to = t.to;
-        t = next_token(w, to);
-        i += 1;
+    for i in 0..k {
+        t = next_token(w, t.to);
     }
     t
 }
@@ -96,9 +81,7 @@ pub fn nth_bytes(w: &[u8], k: usize) -> &[u8]
     ensures { result.now ≡ get_or (tokens w.now) k [] }
 {
     let t = nth(w, k);
-    let from = t.from;
-    let to = t.to;
-    &w[from..to]
+    &w[t.from..t.to]
 }
 
 // The bytes are a name.
@@ -153,14 +136,12 @@ fn scan_at(w: &[u8], t: Token, s: Scan) -> Scan
     requires { (t.from ≤ t.to) × (t.to ≤ length w.now) × (depth_of s < 18446744073709551615) }
     ensures { result ≡ scan s (parts_at w.now t) }
 {
-    let from = t.from;
-    let to = t.to;
-    if from == to {
+    if t.from == t.to {
         return s;
     }
     match s {
-        Scan::Expected(depth) => scan_expected(depth, w[from], is_word(&w[from..to])),
-        Scan::After(depth) => scan_after(depth, w[from]),
+        Scan::Expected(depth) => scan_expected(depth, w[t.from], is_word(&w[t.from..t.to])),
+        Scan::After(depth) => scan_after(depth, w[t.from]),
         Scan::Done => Scan::Broken,
         Scan::Broken => Scan::Broken,
     }
@@ -174,12 +155,13 @@ pub fn is_formed(w: &[u8], from: usize) -> bool
 {
     let mut s = Scan::Expected(0);
     let mut at = from;
+    // Stays: the new form is no plainer, the step is a token's length, not one.
     while at < w.len() {
         let t = next_token(w, at);
         s = scan_at(w, t, s);
         at = t.to;
     }
-    if let Scan::Done = s { true } else { false }
+    matches!(s, Scan::Done)
 }
 
 // The brackets that are open behind a token with this first byte.
@@ -189,7 +171,7 @@ fn step_depth(depth: usize, b: u8) -> usize
 {
     match b {
         b'(' => depth + 1,
-        b')' => if depth > 0 { depth - 1 } else { 0 },
+        b')' => depth.saturating_sub(1),
         _ => depth,
     }
 }
@@ -200,13 +182,11 @@ pub fn is_shallow(w: &[u8], from: usize) -> bool
     ensures { result ≡ shallow 0 (rest_at w.now from) }
 {
     let mut depth = 0;
-    let mut at = from;
-    while at < w.len() {
+    for at in from..w.len() {
         depth = step_depth(depth, w[at]);
         if depth > 16 {
             return false;
         }
-        at += 1;
     }
     true
 }
@@ -218,13 +198,11 @@ fn word_is(w: &[u8], from: usize, t: &[u8]) -> bool
     ensures { result ≡ same t.now (span is_word_byte (drop from w.now)) }
 {
     let mut at = from;
-    let mut i = 0;
-    while i < t.len() {
-        if at >= w.len() || w[at] != t[i] || !base_text::is_of(Class::Word, w[at]) {
+    for b in t {
+        if at >= w.len() || w[at] != *b || !base_text::is_of(Class::Word, w[at]) {
             return false;
         }
         at += 1;
-        i += 1;
     }
     at >= w.len() || !base_text::is_of(Class::Word, w[at])
 }
@@ -234,16 +212,12 @@ fn index(w: &[u8], p: Pins, t: &[u8]) -> usize
     requires { p.n ≤ 4 }
     ensures { (result ≡ index_of t.now (names_at w.now p)) × (result ≤ 4) }
 {
-    let n = p.n;
-    let mut i = 0;
-    while i < n {
-        let from = p.at[i];
-        if word_is(w, from, t) {
+    for i in 0..p.n {
+        if word_is(w, p.at[i], t) {
             return i;
         }
-        i += 1;
     }
-    n
+    p.n
 }
 
 // A name other than CONST0 and CONST1.
@@ -276,10 +250,8 @@ fn add_pin(w: &[u8], t: Token, p: Pins) -> Pins
     ensures { (length result.at ≡ 4) × Listed w.now (add_pins (names_at w.now p) (parts_at w.now t)) result ×
         (result ≡ add_pin w.now p t) }
 {
-    let from = t.from;
-    let to = t.to;
-    if from < to && is_pin(&w[from..to]) {
-        return with_pin(w, from, &w[from..to], p);
+    if t.from < t.to && is_pin(&w[t.from..t.to]) {
+        return with_pin(w, t.from, &w[t.from..t.to], p);
     }
     p
 }
@@ -292,6 +264,7 @@ pub fn find_pins(w: &[u8], from: usize) -> Pins
 {
     let mut p = Pins { n: 0, at: [0; 4] };
     let mut at = from;
+    // Stays: the new form is no plainer, the step is a token's length, not one.
     while at < w.len() {
         let t = next_token(w, at);
         p = add_pin(w, t, p);
@@ -306,21 +279,18 @@ pub fn find_pins(w: &[u8], from: usize) -> Pins
 // ---- the value of an expression, in 16 rows at once
 
 // A value, turned once for each sign b that stands there: "any number of `!` before a factor and of `'` after it".
-fn negated_by_signs(w: &[u8], from: usize, b: u8, start: bool) -> Signed
+fn negated_by_signs(w: &[u8], from: usize, b: u8, start: bool) -> (bool, usize)
     requires { from ≤ length w.now }
-    ensures { (from ≤ result.at) × (result.at ≤ length w.now) × (signed_at w.now result
+    ensures { (from ≤ result.1) × (result.1 ≤ length w.now) × (signed_at w.now result
         ≡ negated_by_signs b start (rest_at w.now from)) }
 {
     let mut value = start;
     let mut at = from;
-    loop {
-        let next = behind(w, at, b);
-        if next == at {
-            return Signed { value, at };
-        }
+    while let Some(next) = behind(w, at, b) {
         value = !value;
         at = next;
     }
+    (value, at)
 }
 
 // A name's values: "bit j of r is pin j".
@@ -339,42 +309,38 @@ fn name_value(w: &[u8], p: Pins, t: &[u8]) -> u16
 }
 
 // The bracket that must close behind a value, which `!` before it may turn, and the `'` behind it.
-fn close(w: &[u8], at: usize, odd: bool, v: u16) -> Parsed
+fn close(w: &[u8], at: usize, odd: bool, v: u16) -> Option<(u16, usize)>
     requires { at ≤ length w.now }
     ensures { Within at (length w.now) result × ((row : ℕ) → row < 16 → taken_at w.now row result ≡ close_bracket (flip odd (bit v row))
         (rest_at w.now at)) }
 {
-    let next = behind(w, at, b')');
-    if next == at {
-        return Parsed::Broken;
-    }
-    let q = negated_by_signs(w, next, b'\'', odd);
-    Parsed::At(base_truth::in_phase(q.value, v), q.at)
+    let next = behind(w, at, b')')?;
+    let (odd_signs, end) = negated_by_signs(w, next, b'\'', odd);
+    Some((base_truth::in_phase(odd_signs, v), end))
 }
 
 // A name, and the `'` behind it.
-fn name(w: &[u8], at: usize, p: Pins, odd: bool) -> Parsed
+fn name(w: &[u8], at: usize, p: Pins, odd: bool) -> Option<(u16, usize)>
     requires { (at ≤ length w.now) × (p.n ≤ 4) }
     ensures { Within at (length w.now) result × ((row : ℕ) → row < 16 → taken_at w.now row result ≡ named (name_value
         (names_at w.now p) row) odd (rest_at w.now at)) }
 {
     let t = next_token(w, at);
-    let from = t.from;
-    let to = t.to;
-    if is_word(&w[from..to]) {
-        let v = name_value(w, p, &w[from..to]);
-        let q = negated_by_signs(w, to, b'\'', odd);
-        Parsed::At(base_truth::in_phase(q.value, v), q.at)
-    } else {
-        Parsed::Broken
+    let word = &w[t.from..t.to];
+    if !is_word(word) {
+        return None;
     }
+    let v = name_value(w, p, word);
+    let (odd_signs, end) = negated_by_signs(w, t.to, b'\'', odd);
+    Some((base_truth::in_phase(odd_signs, v), end))
 }
 
 // "a sum is made of products, a product of factors, and a bracketed factor of a sum again": three functions in a cycle. `depth`, the brackets
 // that may still open, falls from `factor` to `sum`, so the stack is at most three calls for each of them, whatever the text; the bytes that
 // remain fall from step to step of each loop.
+// Stays: the new form is no plainer: one function for `sum` and `product` would take the sign, the join and the callee, which calls it again in the cycle.
 #[cycle(factor_product_sum)]
-fn sum(w: &[u8], from: usize, p: Pins, depth: usize) -> Parsed
+fn sum(w: &[u8], from: usize, p: Pins, depth: usize) -> Option<(u16, usize)>
     requires { (from ≤ length w.now) × (p.n ≤ 4) }
     ensures within { Within from (length w.now) result }
     ensures same { (row : ℕ) → row < 16 → (k : ℕ) → length w.now < k → taken_at w.now row result ≡ sum_of
@@ -383,21 +349,18 @@ fn sum(w: &[u8], from: usize, p: Pins, depth: usize) -> Parsed
     let mut v = 0u16;
     let mut at = from;
     loop {
-        let Parsed::At(u, n) = product(w, at, p, depth) else {
-            return Parsed::Broken;
-        };
+        let (u, n) = product(w, at, p, depth)?;
         v = v | u;
-        let next = behind(w, n, b'+');
-        if next == n {
-            return Parsed::At(v, n);
-        }
+        let Some(next) = behind(w, n, b'+') else {
+            return Some((v, n));
+        };
         at = next;
     }
 }
 
 // The factors that `*` joins.
 #[cycle(factor_product_sum)]
-fn product(w: &[u8], from: usize, p: Pins, depth: usize) -> Parsed
+fn product(w: &[u8], from: usize, p: Pins, depth: usize) -> Option<(u16, usize)>
     requires { (from ≤ length w.now) × (p.n ≤ 4) }
     ensures within { Within from (length w.now) result }
     ensures same { (row : ℕ) → row < 16 → (k : ℕ) → length w.now < k → taken_at w.now row result ≡ product_of
@@ -406,40 +369,32 @@ fn product(w: &[u8], from: usize, p: Pins, depth: usize) -> Parsed
     let mut v = 65535u16;
     let mut at = from;
     loop {
-        let Parsed::At(u, n) = factor(w, at, p, depth) else {
-            return Parsed::Broken;
-        };
+        let (u, n) = factor(w, at, p, depth)?;
         v = v & u;
-        let next = behind(w, n, b'*');
-        if next == n {
-            return Parsed::At(v, n);
-        }
+        let Some(next) = behind(w, n, b'*') else {
+            return Some((v, n));
+        };
         at = next;
     }
 }
 
 // `!` before it and `'` after it turn a name or a bracketed sum.
 #[cycle(factor_product_sum)]
-fn factor(w: &[u8], from: usize, p: Pins, depth: usize) -> Parsed
+fn factor(w: &[u8], from: usize, p: Pins, depth: usize) -> Option<(u16, usize)>
     requires { (from ≤ length w.now) × (p.n ≤ 4) }
     ensures within { Within from (length w.now) result }
     ensures same { (row : ℕ) → row < 16 → (k : ℕ) → length w.now < k → taken_at w.now row result ≡ factor_of
         (name_value (names_at w.now p) row) (within (name_value (names_at w.now p) row) k depth) (rest_at w.now from) }
 {
-    let t = negated_by_signs(w, from, b'!', false);
-    let at = t.at;
-    let odd = t.value;
-    let inside = behind(w, at, b'(');
-    if inside == at {
+    let (odd, at) = negated_by_signs(w, from, b'!', false);
+    let Some(inside) = behind(w, at, b'(') else {
         return name(w, at, p, odd);
-    }
+    };
     if depth == 0 {
-        return Parsed::Broken;
+        return None;
     }
-    match sum(w, inside, p, depth - 1) {
-        Parsed::At(v, n) => close(w, n, odd, v),
-        Parsed::Broken => Parsed::Broken,
-    }
+    let (v, n) = sum(w, inside, p, depth - 1)?;
+    close(w, n, odd, v)
 }
 
 // ---- the table
@@ -464,7 +419,7 @@ pub fn table(w: &[u8], from: usize, p: Pins) -> u16
     ensures { result ≡ row_bits (λ row. value_of (name_value (names_at w.now p) row) (rest_at w.now from)) 0 (2 ^ p.n) }
 {
     match sum(w, from, p, 16) {
-        Parsed::At(v, _) => v & rows(p.n),
-        Parsed::Broken => 0,
+        Some((v, _)) => v & rows(p.n),
+        None => 0,
     }
 }

@@ -1,24 +1,15 @@
 -- Laws of figures, by where their digits end.
 use Rattle.base.specs.{ℕ, zero, suc, ◌+◌, ◌-◌, ◌*◌, ◌≤◌, ◌<◌, min, zero-add, add-one, arith, ◌≡◌, refl, sym, ap, subst, ◌∙◌, Bool, true}
-use Rattle.base.specs.{false, not, List, [], ◌∷◌, ◌++◌, eqb, leb, ltb, length, take, drop, get_or, replicate, drop_of_length-le, length-drop, eqb-true, eqb-false, ◌&&◌}
+use Rattle.base.specs.{false, not, Option, None, Some, List, [], ◌∷◌, ◌++◌, eqb, leb, ltb, length, take, drop, get_or, replicate, drop_of_length-le, length-drop, eqb-true, eqb-false, ◌&&◌}
 use Rattle.base.specs.{drop-cons, drop-drop, get_or-drop, take-suc, eq-eqb, ne_eqb, le-leb, lt-leb, leb-true, ltb-true, ltb-false}
+use Rattle.std.proofs.Common.{Result, Ok, Err, OkIff}
+use Rattle.std.specs.Result.{result_ok}
+use Rattle.std.proofs.lemmas.List.{get_or_past}
 use Rattle.model.specs.{all, only, as_digits, between, is_digit, is_digits, is_empty, is_figure, is_fraction, wholes, decimals, in_thousandths}
 use Rattle.model.specs.{thousandths, span}
 use Rattle.base_text.proofs.{and_left, and_right}
-use Rattle.base_text.specs.declared.Value.TheVariants.{Is, Broken as NoValue}
 use Rattle.base_text.specs.{span_end}
 use Rattle.base_text.proofs.{class_all, class_take, class_passes, class_short}
-use Rattle.genlib_groups.specs.{value_in}
-
-pub default_in : (w : List ℕ) (i : ℕ) → i < length w → get_or w i 0 ≡ get_or w i 48
-default_in [] i h = absurd (omega arith)
-default_in (b ∷ w) zero h = refl
-default_in (b ∷ w) (suc i) h = default_in w i (omega arith)
-
-pub default_out : (w : List ℕ) (i : ℕ) → length w ≤ i → get_or w i 48 ≡ 48
-default_out [] i h = refl
-default_out (b ∷ w) zero h = absurd (omega arith)
-default_out (b ∷ w) (suc i) h = default_out w i (omega arith)
 
 pub digits-past : (w : List ℕ) (from : ℕ) → length w ≤ from → is_digits (drop from w) ≡ false
 unfolding is_digits is_empty
@@ -27,10 +18,10 @@ digits-past w from h = rw (drop_of_length-le w h)
 -- digits up to the end
 pub digits_from_lem : (w : List ℕ) (from : ℕ) → from < length w → is_digits (drop from w) ≡ eqb (span_end is_digit w from) (length w)
 unfolding is_digits is_empty span_end
-digits_from_lem w from h = some ∙ class_all is_digit (drop from w) ∙ go (eqb (length (span is_digit (drop from w))) (length (drop from w))) refl
+digits_from_lem w from h = some_digits ∙ class_all is_digit (drop from w) ∙ go (eqb (length (span is_digit (drop from w))) (length (drop from w))) refl
   where
-    some : (not (is_empty (drop from w)) && all is_digit (drop from w)) ≡ all is_digit (drop from w)
-    some = rw (drop-cons w from 0 h)
+    some_digits : (not (is_empty (drop from w)) && all is_digit (drop from w)) ≡ all is_digit (drop from w)
+    some_digits = rw (drop-cons w from 0 h)
 
     n : length (drop from w) ≡ length w - from
     n = length-drop from w
@@ -122,11 +113,11 @@ digits_byte ds e k = go (ltb k (length ds)) refl
   where
     go : (q : Bool) → ltb k (length ds) ≡ q → (48 ≤ get_or ds k 48) × (get_or ds k 48 ≤ 57)
     go true p = digit_bounds (get_or ds k 48) (all-at is_digit ds k 48 (and_right (not (is_empty ds)) (all is_digit ds) e) (ltb-true k (length ds) p))
-    go false p = let z = default_out ds k (ltb-false k (length ds) p) in (omega arith, omega arith)
+    go false p = let z = get_or_past ds k 48 (ltb-false k (length ds) p) in (omega arith, omega arith)
 
 fraction_byte : (r : List ℕ) → is_fraction r ≡ true → (k : ℕ) → (48 ≤ get_or (drop 1 r) k 48) × (get_or (drop 1 r) k 48 ≤ 57)
 unfolding is_fraction
-fraction_byte [] e k = let z = default_out [] k (omega arith) in (omega arith, omega arith)
+fraction_byte [] e k = let z = get_or_past {X = ℕ} [] k 48 (omega arith) in (omega arith, omega arith)
 fraction_byte (b ∷ bs) e k = digits_byte bs (and_right (eqb b 46) (is_digits bs) e) k
 
 module _ (w : List ℕ) (end : ℕ) (e : end ≡ span_end is_digit w 0) where
@@ -168,12 +159,12 @@ module _ (w : List ℕ) (end : ℕ) (e : end ≡ span_end is_digit w 0) where
       let g : get_or (drop 1 (drop end w)) k 48 ≡ get_or w j 48 = ap (λ (x : List ℕ). get_or x k 48) (drop-drop 1 end w) ∙ get_or-drop (end + 1) w k 48 ∙ ap (λ (m : ℕ). get_or w m 48) (sym i) in
       subst (λ (x : ℕ). (48 ≤ x) × (x ≤ 57)) g (fraction_byte (drop end w) r k)
 
-  pub figure-broken : is_figure w ≡ false → NoValue ≡ value_in (thousandths w)
+  pub figure-broken : is_figure w ≡ false → None ≡ thousandths w
   unfolding thousandths only
   figure-broken f = rw f
 
   module _ (f : is_figure w ≡ true) where
-    pub figure-long : end + 4 < length w → NoValue ≡ value_in (thousandths w)
+    pub figure-long : end + 4 < length w → None ≡ thousandths w
     unfolding thousandths only
     figure-long h = rw (f, lt-leb (length (decimals w)) 3 (omega (arith, ap length decimals_are, length-drop (end + 1) w)))
 
@@ -181,12 +172,17 @@ module _ (w : List ℕ) (end : ℕ) (e : end ≡ span_end is_digit w 0) where
       short : leb (length (decimals w)) 3 ≡ true
       short = le-leb (length (decimals w)) 3 (omega (arith, ap length decimals_are, length-drop (end + 1) w))
 
-      pub figure-fits : n ≤ 65535 → Is n ≡ value_in (thousandths w)
+      figure-fits : n ≤ 65535 → Some n ≡ thousandths w
       unfolding thousandths only
       figure-fits k =
           let z : in_thousandths w ≡ n = omega arith in
-          rw (f, short, le-leb (in_thousandths w) 65535 (omega arith)) (ap Is (sym z))
+          rw (f, short, le-leb (in_thousandths w) 65535 (omega arith)) (ap {B = Option ℕ} Some (sym z))
 
-      pub figure_large : 65535 < n → NoValue ≡ value_in (thousandths w)
+      figure_large : 65535 < n → None ≡ thousandths w
       unfolding thousandths only
       figure_large k = rw (f, short, lt-leb (in_thousandths w) 65535 (omega arith))
+
+      -- the number as a 16-bit one
+      pub figure-ok : {E : Type 0} (r : Result ℕ E) → OkIff r (n < 65536) n → result_ok r ≡ thousandths w
+      figure-ok (Ok x) k = ap Some k.1 ∙ figure-fits (omega (arith, k.0))
+      figure-ok (Err x) k = figure_large (omega (arith, k))

@@ -1,12 +1,12 @@
 -- Laws of groups: the lines from a place up to the next GATE line.
 use Rattle.base.specs.{ℕ, suc, ◌+◌, ◌-◌, ◌≤◌, ◌<◌, add-one, arith, ◌≡◌, refl, sym, ap, ◌∙◌, Bool, true, false, cond, ◌&&◌, ◌||◌, and_assoc}
-use Rattle.base.specs.{Option, none, some, List, [], ◌∷◌, ◌++◌, map, ltb, length, lt-ltb, le-ltb}
+use Rattle.base.specs.{Option, None, Some, List, [], ◌∷◌, ◌++◌, map, length}
+use Rattle.std.proofs.Common.{is_some}
 use Rattle.model.specs.{and_then, all, any, same, from, Line, is_word, is_empty, is_pin, with_name, add_pins, pins_of, starts_gate, grouped, groups}
 use Rattle.model.specs.{line_tokens, pin_line, has_line, is_there, delay_of}
-use Rattle.base_text.specs.declared.Value.TheVariants.{Is, Broken as NoValue}
 use Rattle.base_text.specs.{line_at}
 use Rattle.base_text.proofs.{lines_none, and-true, same-eq}
-use Rattle.genlib_groups.specs.{value_in, lines_of, lines_behind, pick_t, line_found, pin_has, delay_for}
+use Rattle.genlib_groups.specs.{lines_of, lines_behind, line_found, pin_has, delay_for}
 
 module _ (s : List ℕ) (at : ℕ) where
   module _ (l : Line) (ls : List Line) (e : lines_of s at ≡ l ∷ ls) where
@@ -33,13 +33,10 @@ module _ (s : List ℕ) (at : ℕ) where
 
 -- ---- PIN lines that count
 
-pub has-found : (lines : List (List (List ℕ))) (t : List ℕ) (s : List ℕ) (r : ℕ) → pin_line t lines ≡ line_found s r → has_line lines t ≡ ltb r (length s)
+pub has-found : (lines : List (List (List ℕ))) (t : List ℕ) (s : List ℕ) (r : Option ℕ) → pin_line t lines ≡ line_found s r → has_line lines t ≡ is_some r
 unfolding has_line is_there
-has-found lines t s r e = ap is_there e ∙ go (ltb r (length s))
-  where
-    go : (q : Bool) → is_there (pick_t q (some (line_tokens (line_at s r))) none) ≡ q
-    go true = refl
-    go false = refl
+has-found lines t s None e = ap is_there e
+has-found lines t s (Some at) e = ap is_there e
 
 -- ---- what holds of all names of a list holds of all tokens of which it was made
 
@@ -99,19 +96,10 @@ pub has-none : (lines : List (List (List ℕ))) → pin_has lines [] ≡ true
 unfolding pin_has is_pin is_word is_empty
 has-none lines = refl
 
-pub delay_found : (lines : List (List (List ℕ))) (t : List ℕ) (s : List ℕ) (r : ℕ) → pin_line t lines ≡ line_found s r → r < length s → delay_for lines t ≡ delay_of (line_tokens (line_at s r))
+pub delay_found : (lines : List (List (List ℕ))) (t : List ℕ) (s : List ℕ) (r : ℕ) → pin_line t lines ≡ line_found s (Some r) → delay_for lines t ≡ delay_of (line_tokens (line_at s r))
 unfolding delay_for and_then
-delay_found lines t s r e h = rw (e, lt-ltb r (length s) h)
+delay_found lines t s r e = rw e
 
-pub delay_missing : (lines : List (List (List ℕ))) (t : List ℕ) (s : List ℕ) (r : ℕ) → pin_line t lines ≡ line_found s r → length s ≤ r → delay_for lines t ≡ none
+pub delay_missing : (lines : List (List (List ℕ))) (t : List ℕ) → pin_line t lines ≡ None → delay_for lines t ≡ None
 unfolding delay_for and_then
-delay_missing lines t s r e h = rw (e, le-ltb r (length s) h)
-
--- what a value says
-pub value-some : (o : Option ℕ) (n : ℕ) → Is n ≡ value_in o → o ≡ some n
-value-some none n e = let z : ◌≡◌ {A = ℕ} 0 1 = cc in absurd (omega arith)
-value-some (some m) n e = let z : m ≡ n = cc in ap {B = Option ℕ} some z
-
-pub value_none : (o : Option ℕ) → NoValue ≡ value_in o → o ≡ none
-value_none none e = refl
-value_none (some m) e = let z : ◌≡◌ {A = ℕ} 0 1 = cc in absurd (omega arith)
+delay_missing lines t e = rw e

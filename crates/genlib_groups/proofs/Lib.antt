@@ -3,4 +3,3 @@ pub mod GenlibFigures
 pub mod GenlibLineLaws
 pub mod GroupReading
 pub use GenlibLineLaws.{bounded}
-pub use GroupReading.{value_none, value-some}

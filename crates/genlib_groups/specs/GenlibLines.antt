@@ -1,16 +1,9 @@
 -- What the readers of lines and groups find at places of the text.
-use Rattle.std.specs.Prelude.{◌&&◌, ◌∷◌}
-use Rattle.base.specs.{ℕ, Bool, true, false, cond, Option, none, some, List, [], map, ltb, length, drop}
+use Rattle.std.specs.Prelude.{◌&&◌, ◌<◌, ◌∷◌}
+use Rattle.base.specs.{ℕ, Bool, true, cond, Option, None, Some, List, [], map, length, drop}
 use Rattle.model.specs.{all, and_then, Line, text, lines_from, is_pin, is_gate_line, is_pin_line, line_is, line_tokens, pin_line, has_line, delay_of}
 use Rattle.model.specs.{grouped, groups, Group}
-use Rattle.base_text.specs.declared.Value.{Value}
-use Rattle.base_text.specs.declared.Value.TheVariants.{Is, Broken as NoValue}
 use Rattle.base_text.specs.{line_at}
-
--- a figure that was read, or none
-abbrev pub value_in : Option ℕ → Value
-value_in none = NoValue
-value_in (some n) = Is n
 
 -- the lines from a place on
 abbrev pub lines_of : List ℕ → ℕ → List Line
@@ -25,13 +18,15 @@ unfoldable pub lines_behind : List ℕ → ℕ → List (List (List ℕ))
 unfolding grouped line_tokens
 lines_behind s from = map line_tokens (grouped (lines_of s from)).0
 
-abbrev pub pick_t : Bool → Option (List (List ℕ)) → Option (List (List ℕ)) → Option (List (List ℕ))
-pick_t true a b = a
-pick_t false a b = b
+-- a place that was found is in the text
+abbrev pub Inside : List ℕ → Option ℕ → Type 0
+Inside s (Some at) = at < length s
+Inside s None = Unit {0}
 
--- the line that was found at a place, if that is in the text
-abbrev pub line_found : List ℕ → ℕ → Option (List (List ℕ))
-line_found s at = pick_t (ltb at (length s)) (some (line_tokens (line_at s at))) none
+-- the line that was found at a place
+abbrev pub line_found : List ℕ → Option ℕ → Option (List (List ℕ))
+line_found s (Some at) = Some (line_tokens (line_at s at))
+line_found s None = None
 
 -- a token that is a pin has its line
 unfoldable pub pin_has : List (List (List ℕ)) → List ℕ → Bool

@@ -4,15 +4,15 @@
 #![tactic(auto)]
 
 ghost use Rattle.std.specs.Prelude.{◌≡◌, ◌∷◌, ◌+◌, ◌-◌, ◌*◌, ◌≤◌, ◌<◌};
-ghost use Rattle.base.specs.{true, [], min, max, length, get_or, take, drop};
+ghost use Rattle.base.specs.{true, [], min, length, get_or, drop};
 ghost use Rattle.model.specs.{all, same, as_digits, is_word_byte, is_digit, tokens, is_sign, is_figure, thousandths, span};
 ghost use Rattle.model.specs.{is_gate_line, pin_head, is_pin_line, first_name, line_is, pin_line, delay_of, grouped, groups};
 ghost use Rattle.model.specs.Genlib.{fits};
 ghost use Rattle.genlib_expression.specs.{rest_at};
-ghost use Rattle.genlib_groups.specs.{lines_of, gate_word, lines_behind, line_found, pin_has, value_in, delay_for, group_is, group_at};
+ghost use Rattle.genlib_groups.specs.{lines_of, gate_word, lines_behind, line_found, Inside, pin_has, delay_for, group_is, group_at};
 ghost use Rattle.genlib_groups.specs.{behind_group};
 
-use base_text::{Class, Value};
+use base_text::Class;
 
 // ---- tokens by number
 
@@ -22,6 +22,7 @@ fn count(w: &[u8]) -> usize
 {
     let mut n = 0;
     let mut at = 0;
+    // Stays: the new form is no plainer, the step is a token's length, not one.
     while at < w.len() {
         let t = genlib_expression::next_token(w, at);
         if t.from < t.to {
@@ -37,9 +38,8 @@ fn is_sign(w: &[u8], k: usize, b: u8) -> bool
     requires { 0 < b }
     ensures { result ≡ is_sign b (get_or (tokens w.now) k []) }
 {
-    let n = genlib_expression::nth(w, k);
-    let from = n.from;
-    from < n.to && w[from] == b
+    let t = genlib_expression::nth(w, k);
+    t.from < t.to && w[t.from] == b
 }
 
 // ---- figures
@@ -61,20 +61,17 @@ fn add_digit(n: u32, b: u8) -> u32
     requires { (n ≤ 65536) × (48 ≤ b) × (b ≤ 57) }
     ensures { result ≡ min 65536 (n * 10 + (b - 48)) }
 {
-    let m = n * 10 + (b as u32 - 48);
-    if m < 65536 { m } else { 65536 }
+    (n * 10 + u32::from(b - b'0')).min(65536)
 }
 
 // The digits before the point.
-fn whole(w: &[u8], end: usize) -> u32
-    requires { (end ≤ length w.now) × (all is_digit (take end w.now) ≡ true) }
-    ensures { result ≡ min 65536 (as_digits 0 (take end w.now)) }
+fn whole(digits: &[u8]) -> u32
+    requires { all is_digit digits.now ≡ true }
+    ensures { result ≡ min 65536 (as_digits 0 digits.now) }
 {
-    let mut n = 0u32;
-    let mut i = 0;
-    while i < end {
-        n = add_digit(n, w[i]);
-        i += 1;
+    let mut n = 0;
+    for b in digits {
+        n = add_digit(n, *b);
     }
     n
 }
@@ -83,30 +80,26 @@ fn whole(w: &[u8], end: usize) -> u32
 fn decimal(w: &[u8], at: usize) -> u8
     ensures { result ≡ get_or w.now at 48 }
 {
-    if at < w.len() { w[at] } else { b'0' }
+    w.get(at).copied().unwrap_or(b'0')
 }
 
 // A figure "in thousandths", unless it "has over three decimals or exceeds 65.535": its digits and three decimals are read as one number.
-fn figure(w: &[u8]) -> Value
-    ensures { result ≡ value_in (thousandths w.now) }
+fn figure(w: &[u8]) -> Option<u16>
+    ensures { result ≡ thousandths w.now }
 {
     let end = base_text::span_end(w, 0, Class::Digit);
     if !is_figure(w) || w.len() > end + 4 {
-        return Value::Broken;
+        return None;
     }
-    let a = add_digit(whole(w, end), decimal(w, end + 1));
+    let a = add_digit(whole(&w[..end]), decimal(w, end + 1));
     let b = add_digit(a, decimal(w, end + 2));
     let c = add_digit(b, decimal(w, end + 3));
-    if c <= 65535 {
-        Value::Is(c as u16)
-    } else {
-        Value::Broken
-    }
+    u16::try_from(c).ok()
 }
 
 // The same for token k.
-pub fn figure_at(w: &[u8], k: usize) -> Value
-    ensures { result ≡ value_in (thousandths (get_or (tokens w.now) k [])) }
+pub fn figure_at(w: &[u8], k: usize) -> Option<u16>
+    ensures { result ≡ thousandths (get_or (tokens w.now) k []) }
 {
     figure(genlib_expression::nth_bytes(w, k))
 }
@@ -117,14 +110,13 @@ fn all_figures(w: &[u8], from: usize) -> bool
     ensures { result ≡ all is_figure (rest_at w.now from) }
 {
     let mut at = from;
+    // Stays: the new form is no plainer, the step is a token's length, not one.
     while at < w.len() {
         let t = genlib_expression::next_token(w, at);
-        let a = t.from;
-        let b = t.to;
-        if a < b && !is_figure(&w[a..b]) {
+        if t.from < t.to && !is_figure(&w[t.from..t.to]) {
             return false;
         }
-        at = b;
+        at = t.to;
     }
     true
 }
@@ -181,10 +173,10 @@ fn next_gate(s: &[u8], from: usize) -> usize
     ensures { (from ≤ result) × (result ≤ length s.now) × ((grouped (lines_of s.now from)).1 ≡ groups (lines_of s.now result)) }
 {
     let mut at = from;
+    // Stays: the new form is no plainer, the step is a line's length, not one.
     while at < s.len() {
         let l = base_text::line(s, at);
-        let stop = l.stop;
-        if names_gate(&s[at..stop]) {
+        if names_gate(&s[at..l.stop]) {
             return at;
         }
         at = l.next;
@@ -198,13 +190,13 @@ fn all_pin_lines(s: &[u8], from: usize) -> bool
     ensures { result ≡ all (line_is is_pin_line) (grouped (lines_of s.now from)).0 }
 {
     let mut at = from;
+    // Stays: the new form is no plainer, the step is a line's length, not one.
     while at < s.len() {
         let l = base_text::line(s, at);
-        let stop = l.stop;
-        if names_gate(&s[at..stop]) {
+        if names_gate(&s[at..l.stop]) {
             return true;
         }
-        if stop == l.next || !is_pin_line(&s[at..stop]) {
+        if l.stop == l.next || !is_pin_line(&s[at..l.stop]) {
             return false;
         }
         at = l.next;
@@ -221,24 +213,25 @@ fn fits_line(w: &[u8], name: &[u8]) -> bool
     is_sign(w, 1, b'*') || base_text::same_bytes(name, genlib_expression::nth_bytes(w, 1))
 }
 
-// "the first that fits counts": its place, or the text's end.
-fn find_line(s: &[u8], from: usize, name: &[u8]) -> usize
+// "the first that fits counts": its place, if there is one.
+fn find_line(s: &[u8], from: usize, name: &[u8]) -> Option<usize>
     requires { from ≤ length s.now }
-    ensures { pin_line name.now (lines_behind s.now from) ≡ line_found s.now result }
+    ensures within { Inside s.now result }
+    ensures found { pin_line name.now (lines_behind s.now from) ≡ line_found s.now result }
 {
     let mut at = from;
+    // Stays: the new form is no plainer, the step is a line's length, not one.
     while at < s.len() {
         let l = base_text::line(s, at);
-        let stop = l.stop;
-        if names_gate(&s[at..stop]) {
-            return s.len();
+        if names_gate(&s[at..l.stop]) {
+            return None;
         }
-        if fits_line(&s[at..stop], name) {
-            return at;
+        if fits_line(&s[at..l.stop], name) {
+            return Some(at);
         }
         at = l.next;
     }
-    at
+    None
 }
 
 // A token that is a pin has its PIN line: else it is 22, "a pin has no PIN line".
@@ -246,23 +239,23 @@ fn has_line(s: &[u8], from: usize, t: &[u8]) -> bool
     requires { from ≤ length s.now }
     ensures { result ≡ pin_has (lines_behind s.now from) t.now }
 {
-    !genlib_expression::is_pin(t) || find_line(s, from, t) < s.len()
+    !genlib_expression::is_pin(t) || find_line(s, from, t).is_some()
 }
 
 // The same for all tokens of an expression, one after the other.
+// Stays: the new form is no plainer: one function for this and `all_figures` would take a closure, and a ghost predicate that it answers and that [] passes.
 fn tokens_have_lines(s: &[u8], from: usize, w: &[u8], start: usize) -> bool
     requires { (from ≤ length s.now) × (start ≤ length w.now) }
     ensures { result ≡ all (pin_has (lines_behind s.now from)) (rest_at w.now start) }
 {
     let mut at = start;
+    // Stays: the new form is no plainer, the step is a token's length, not one.
     while at < w.len() {
         let t = genlib_expression::next_token(w, at);
-        let a = t.from;
-        let b = t.to;
-        if !has_line(s, from, &w[a..b]) {
+        if !has_line(s, from, &w[t.from..t.to]) {
             return false;
         }
-        at = b;
+        at = t.to;
     }
     true
 }
@@ -281,54 +274,36 @@ fn all_have_lines(s: &[u8], from: usize, w: &[u8], start: usize) -> bool
     ensures { result ≡ all (pin_has (lines_behind s.now from)) (rest_at w.now start) }
 {
     let p = genlib_expression::find_pins(w, start);
-    let n = p.n;
-    if n > 4 {
+    if p.n > 4 {
         return tokens_have_lines(s, from, w, start);
     }
-    let mut i = 0;
-    while i < n {
-        let at = p.at[i];
-        if !has_line(s, from, word_at(w, at)) {
+    for i in 0..p.n {
+        if !has_line(s, from, word_at(w, p.at[i])) {
             return false;
         }
-        i += 1;
     }
     true
 }
 
 // ---- delays
 
-fn larger(a: u16, b: u16) -> u16
-    ensures { result ≡ max a b }
-{
-    if a < b { b } else { a }
-}
-
 // "A pin's delay is the larger of its rise and fall block delays"
-fn delay_of(w: &[u8]) -> Value
-    ensures { result ≡ value_in (delay_of (tokens w.now)) }
+fn delay_of(w: &[u8]) -> Option<u16>
+    ensures { result ≡ delay_of (tokens w.now) }
 {
-    match figure_at(w, 5) {
-        Value::Is(rise) => match figure_at(w, 7) {
-            Value::Is(fall) => Value::Is(larger(rise, fall)),
-            Value::Broken => Value::Broken,
-        },
-        Value::Broken => Value::Broken,
-    }
+    let rise = figure_at(w, 5)?;
+    let fall = figure_at(w, 7)?;
+    Some(rise.max(fall))
 }
 
 // The delay of the pin that stands first at a place of the GATE line.
-pub fn delay_named(s: &[u8], from: usize, w: &[u8], at: usize) -> Value
+pub fn delay_named(s: &[u8], from: usize, w: &[u8], at: usize) -> Option<u16>
     requires { from ≤ length s.now }
-    ensures { result ≡ value_in (delay_for (lines_behind s.now from) (span is_word_byte (drop at w.now))) }
+    ensures { result ≡ delay_for (lines_behind s.now from) (span is_word_byte (drop at w.now)) }
 {
-    let line = find_line(s, from, word_at(w, at));
-    if line >= s.len() {
-        return Value::Broken;
-    }
-    let l = base_text::line(s, line);
-    let stop = l.stop;
-    delay_of(&s[line..stop])
+    let start = find_line(s, from, word_at(w, at))?;
+    let l = base_text::line(s, start);
+    delay_of(&s[start..l.stop])
 }
 
 // ---- a group

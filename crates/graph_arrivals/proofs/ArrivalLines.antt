@@ -3,18 +3,17 @@
 --     step-read, step-passed      what the model makes of the lines from a place on, by what `validated_at` says of the line there
 --     validated-over, validated-again, validated-fresh     the tests of a line that has its form
 --     validated-good      what is known where it finds an index and an arrival
-use Rattle.base.specs.{ℕ, ◌≤◌, ◌<◌, arith, ◌≡◌, refl, sym, ap, ◌∙◌, Bool, true, false, not, cond, ◌&&◌, Option, none, some, List, [], ◌∷◌}
+use Rattle.std.specs.Prelude.{Result, Ok, Err}
+use Rattle.base.specs.{ℕ, ◌≤◌, ◌<◌, arith, ◌≡◌, refl, sym, ap, ◌∙◌, Bool, true, false, not, cond, ◌&&◌, Option, None, Some, List, [], ◌∷◌}
 use Rattle.base.specs.{eqb, ltb, length, drop, get_or, eq-eqb, ne_eqb, lt-ltb, le-ltb, ltb-true}
 use Rattle.model.specs.{elem, and_then, Line, ended, lines_from, number, numbers, Read, holds, fault, next, unless, from?, InputArrival, input_arrival_numbers}
-use Rattle.model.specs.{read_input_arrivals}
+use Rattle.model.specs.{read_input_arrivals, refused_with}
+use Rattle.model.specs.declared.Refusal.{Refusal}
 use Rattle.base_text.specs.declared.Cursor.{Cursor}
 use Rattle.base_text.specs.{line_at, past_line, after_at, numbers_at}
 use Rattle.base_text.proofs.{past, past_end, found, found_end, number_is, number-end-is, lines_at_lem, line-words, numbers-at, numbers-ended}
 use Rattle.base_text.proofs.{and_left}
-use Rattle.graph_arrivals.specs.declared.Entry.TheVariants.{Is as AnEntry, Broken}
-use Rattle.graph_arrivals.specs.declared.Validated.{Validated}
-use Rattle.graph_arrivals.specs.declared.Validated.TheVariants.{Is as Good, Refused as Bad}
-use Rattle.graph_arrivals.specs.{entry_at, pick_validated, validated_at, passed}
+use Rattle.graph_arrivals.specs.{Entry, entry_at, validated_at, passed}
 
 -- the lines from a place on
 abbrev pub lines_of : List ℕ → ℕ → List Line
@@ -23,8 +22,8 @@ lines_of s at = lines_from at [] (drop at s)
 -- ---- the line at a place
 
 data View (s : List ℕ) (at : ℕ) : Type 0 where
-  broken : entry_at s at ≡ Broken → input_arrival_numbers (line_at s at) ≡ none → View s at
-  whole : (i t : ℕ) (c : Cursor) → entry_at s at ≡ AnEntry i t c → input_arrival_numbers (line_at s at) ≡ some (i ∷ t ∷ []) → ended (line_at s at) ≡ true
+  broken : entry_at s at ≡ None → input_arrival_numbers (line_at s at) ≡ None → View s at
+  whole : (i t : ℕ) (c : Cursor) → entry_at s at ≡ Some (i, t, c) → input_arrival_numbers (line_at s at) ≡ Some (i ∷ t ∷ []) → ended (line_at s at) ≡ true
       → past_line s at ≡ c.at → View s at
 
 two-numbers : (s : List ℕ) (at : ℕ) → input_arrival_numbers (line_at s at) ≡ numbers_at 1 s at
@@ -40,11 +39,11 @@ unfolding entry_at numbers_at and_then
 view s at = go (found number s at 32) refl (found_end s (past s at)) refl
   where
     go : (a : Option ℕ) → found number s at 32 ≡ a → (b : Option ℕ) → found_end s (past s at) ≡ b → View s at
-    go none e b f = broken (rw (number_is s at 32, e)) (two-numbers s at ∙ rw (number_is s at 32, e))
-    go (some i) e none f =
+    go None e b f = broken (rw (number_is s at 32, e)) (two-numbers s at ∙ rw (number_is s at 32, e))
+    go (Some i) e None f =
         broken (rw (number_is s at 32, e, number-end-is s (past s at), f)) (two-numbers s at ∙ rw (number_is s at 32, e, number-end-is s (past s at), f))
-    go (some i) e (some t) f =
-        let n : numbers_at 1 s at ≡ some (i ∷ t ∷ []) = rw (number_is s at 32, e, number-end-is s (past s at), f) in
+    go (Some i) e (Some t) f =
+        let n : numbers_at 1 s at ≡ Some (i ∷ t ∷ []) = rw (number_is s at 32, e, number-end-is s (past s at), f) in
         let ends = numbers-ended 1 s at (i ∷ t ∷ []) n in
         whole i t (record { at = past_end s (past s at) }) (rw (number_is s at 32, e, number-end-is s (past s at), f)) (two-numbers s at ∙ n) ends.0
         (sym ends.1 ∙ after_two s at)
@@ -70,22 +69,22 @@ module _ (s : List ℕ) (at : ℕ) (h : at < length s) (inputs : ℕ) (few : inp
       go false e = refl
 
   -- what a step makes of the lines
-  unfoldable pub step_read : Validated → Read (List InputArrival)
-  step_read (Bad k) = fault k at
-  step_read (Good i t c) = next (read_input_arrivals inputs (i ∷ before) (lines_of s c.at)) (λ es. holds (record { index = i; arrival = t } ∷ es))
+  unfoldable pub step_read : Result Entry Refusal → Read (List InputArrival)
+  step_read (Err r) = fault r.number r.place
+  step_read (Ok (i, t, c)) = next (read_input_arrivals inputs (i ∷ before) (lines_of s c.at)) (λ es. holds (record { index = i; arrival = t } ∷ es))
 
-  unfoldable pub step_passed : Validated → List InputArrival
-  step_passed (Bad k) = []
-  step_passed (Good i t c) = record { index = i; arrival = t } ∷ passed inputs (i ∷ before) (lines_of s c.at)
+  unfoldable pub step_passed : Result Entry Refusal → List InputArrival
+  step_passed (Err r) = []
+  step_passed (Ok (i, t, c)) = record { index = i; arrival = t } ∷ passed inputs (i ∷ before) (lines_of s c.at)
 
   picked_read : (b : Bool) (i t : ℕ) (c : Cursor)
-      → unless b 26 at (next (read_input_arrivals inputs (i ∷ before) (lines_of s c.at)) (λ es. holds (record { index = i; arrival = t } ∷ es))) ≡ step_read (pick_validated b (Good i t c) (Bad 26))
+      → unless b 26 at (next (read_input_arrivals inputs (i ∷ before) (lines_of s c.at)) (λ es. holds (record { index = i; arrival = t } ∷ es))) ≡ step_read (cond b (Ok (i, t, c)) (refused_with 26 at))
   unfolding unless step_read
   picked_read true i t c = refl
   picked_read false i t c = refl
 
   picked_passed : (b : Bool) (i t : ℕ) (c : Cursor)
-      → cond b (record { index = i; arrival = t } ∷ passed inputs (i ∷ before) (lines_of s c.at)) [] ≡ step_passed (pick_validated b (Good i t c) (Bad 26))
+      → cond b (record { index = i; arrival = t } ∷ passed inputs (i ∷ before) (lines_of s c.at)) [] ≡ step_passed (cond b (Ok (i, t, c)) (refused_with 26 at))
   unfolding step_passed
   picked_passed true i t c = refl
   picked_passed false i t c = refl
@@ -115,31 +114,31 @@ module _ (s : List ℕ) (at : ℕ) (h : at < length s) (inputs : ℕ) (few : inp
 
 -- ---- the tests, as the code makes them
 
-module _ (s : List ℕ) (at inputs : ℕ) (seen : List ℕ) (i t : ℕ) (c : Cursor) (e : entry_at s at ≡ AnEntry i t c) (j : ℕ) (is : j ≡ i) where
-  by_test : (b : Bool) → (ltb i inputs && eqb (get_or seen i 0) 0) ≡ b → validated_at s at inputs seen ≡ pick_validated b (Good i t c) (Bad 26)
+module _ (s : List ℕ) (at inputs : ℕ) (seen : List ℕ) (i t : ℕ) (c : Cursor) (e : entry_at s at ≡ Some (i, t, c)) (j : ℕ) (is : j ≡ i) where
+  by_test : (b : Bool) → (ltb i inputs && eqb (get_or seen i 0) 0) ≡ b → validated_at s at inputs seen ≡ cond b (Ok (i, t, c)) (refused_with 26 at)
   unfolding validated_at
   by_test b q = rw (e, q)
 
-  pub validated-over : inputs ≤ j → Bad 26 ≡ validated_at s at inputs seen
+  pub validated-over : inputs ≤ j → refused_with 26 at ≡ validated_at s at inputs seen
   validated-over h = sym (by_test false (rw (le-ltb i inputs (omega arith))))
 
-  pub validated-again : j < inputs → (get_or seen j 0 ≡ 0 → ⊥) → Bad 26 ≡ validated_at s at inputs seen
+  pub validated-again : j < inputs → (get_or seen j 0 ≡ 0 → ⊥) → refused_with 26 at ≡ validated_at s at inputs seen
   validated-again h n = sym (by_test false (rw (lt-ltb i inputs (omega arith), ne_eqb (get_or seen i 0) 0 (λ q. n (ap (λ (k : ℕ). get_or seen k 0) is ∙ q)))))
 
-  pub validated-fresh : j < inputs → get_or seen j 0 ≡ 0 → Good i t c ≡ validated_at s at inputs seen
+  pub validated-fresh : j < inputs → get_or seen j 0 ≡ 0 → Ok (i, t, c) ≡ validated_at s at inputs seen
   validated-fresh h z = sym (by_test true (rw (lt-ltb i inputs (omega arith), eq-eqb (get_or seen i 0) 0 (ap (λ (k : ℕ). get_or seen k 0) (sym is) ∙ z))))
 
 -- ---- where an index and an arrival are found
 
-bad_good : {k i t : ℕ} {c : Cursor} → Bad k ≡ Good i t c → ⊥
-bad_good {k} {i} {t} {c} h = let z : ◌≡◌ {A = ℕ} 0 1 = cc in omega arith
+bad_good : {r : Refusal} {x : Entry} → Err r ≡ Ok x → ⊥
+bad_good {r} {x} h = let z : ◌≡◌ {A = ℕ} 0 1 = cc in omega arith
 
-pub validated-good : (s : List ℕ) (at inputs : ℕ) (seen : List ℕ) (i t : ℕ) (c : Cursor) → validated_at s at inputs seen ≡ Good i t c → (i < inputs) × (at < c.at)
+pub validated-good : (s : List ℕ) (at inputs : ℕ) (seen : List ℕ) (i t : ℕ) (c : Cursor) → validated_at s at inputs seen ≡ Ok (i, t, c) → (i < inputs) × (at < c.at)
 unfolding validated_at
 validated-good s at inputs seen i t c q = go (view s at)
   where
-    inner : (b : Bool) (j u : ℕ) (d : Cursor) → pick_validated b (Good j u d) (Bad 26) ≡ Good i t c → (b ≡ true) × (j ≡ i) × (d ≡ c)
-    inner true j u d e = (refl, cc, cc)
+    inner : (b : Bool) (j u : ℕ) (d : Cursor) → cond {A = Result Entry Refusal} b (Ok (j, u, d)) (refused_with 26 at) ≡ Ok (i, t, c) → (b ≡ true) × (j ≡ i) × (d ≡ c)
+    inner true j u d e = let p : ◌≡◌ {A = Entry} (j, u, d) (i, t, c) = cc in (refl, ap (λ (x : Entry). x.0) p, ap (λ (x : Entry). x.2) p)
     inner false j u d e = absurd (bad_good e)
 
     go : View s at → (i < inputs) × (at < c.at)

@@ -1,14 +1,14 @@
 -- The lines one after the other: the reader's invariant at its start, a step on, and where it stops.
+use Rattle.std.specs.Prelude.{Ok, Err}
 use Rattle.base.specs.{ℕ, ◌+◌, ◌≤◌, ◌<◌, arith, ◌≡◌, refl, sym, ap, ◌∙◌, subst, Bool, true, false, not, ◌||◌, List, [], ◌∷◌, eqb, length}
 use Rattle.base.specs.{get_or, set, length-set, replicate, length-replicate, get_or-replicate, get_or-set_same, get_or-set_other, eqb-true}
 use Rattle.base.specs.{eqb-false}
 use Rattle.model.specs.{elem, any, Read, holds, fault, next, verdict_of, InputArrival, read_input_arrivals}
-use Rattle.model.specs.declared.Verdict.TheVariants.{Accepted, Refused}
+use Rattle.model.specs.declared.Refusal.{Refusal}
 use Rattle.base_words.specs.{slot_at, slot_addr, input_arrival_addr}
 use Rattle.base_words.proofs.{length-put, get_put-below}
 use Rattle.base_text.specs.declared.Cursor.{Cursor}
 use Rattle.base_text.proofs.{lines_none}
-use Rattle.graph_arrivals.specs.declared.Validated.TheVariants.{Is as Good, Refused as Bad}
 use Rattle.graph_arrivals.specs.{validated_at, Listable, put_input_arrival, put_all, passed}
 use Rattle.graph_arrivals.proofs.ArrivalLines.{lines_of, Marked, step_read, step_passed, step-read, step-passed, validated-good}
 
@@ -77,20 +77,20 @@ module _ (s : List ℕ) (from m inputs : ℕ) (w₀ seen : List ℕ) (at : ℕ) 
   few : inputs ≤ 4096
   few = omega (arith, f.ready.few, f.ready.capacity.small)
 
-  pub so_far_last : length s ≤ at → (Accepted ≡ verdict_of (read_input_arrivals inputs [] (lines_of s from))) × (w ≡ put_all w₀ m (passed inputs [] (lines_of s from)))
+  pub so_far_last : length s ≤ at → ((Ok tt) ≡ verdict_of (read_input_arrivals inputs [] (lines_of s from))) × (w ≡ put_all w₀ m (passed inputs [] (lines_of s from)))
   unfolding read_input_arrivals passed verdict_of put_all
   so_far_last h = (sym (f.verdict ∙ rw (lines_none s at h)), sym (f.words ∙ rw (lines_none s at h)))
 
   module _ (h : at < length s) where
-    pub so_far_stop : (k : ℕ) → validated_at s at inputs seen ≡ Bad k
-        → (Refused k at ≡ verdict_of (read_input_arrivals inputs [] (lines_of s from))) × (w ≡ put_all w₀ m (passed inputs [] (lines_of s from)))
+    pub so_far_stop : (r : Refusal) → validated_at s at inputs seen ≡ Err r
+        → (Err r ≡ verdict_of (read_input_arrivals inputs [] (lines_of s from))) × (w ≡ put_all w₀ m (passed inputs [] (lines_of s from)))
     unfolding verdict_of step_read step_passed put_all
-    so_far_stop k e = (
+    so_far_stop r e = (
       sym (f.verdict ∙ ap verdict_of (step-read s at h inputs few seen f.before f.marked ∙ ap (step_read s at h inputs few seen f.before f.marked) e)),
       sym (f.words ∙ ap (put_all w m) (step-passed s at h inputs few seen f.before f.marked ∙ ap (step_passed s at h inputs few seen f.before f.marked) e)),
     )
 
-    pub so_far_more : (i t : ℕ) (c : Cursor) → validated_at s at inputs seen ≡ Good i t c → (v next : List ℕ) → v ≡ put_input_arrival w m i t → next ≡ set seen i 1
+    pub so_far_more : (i t : ℕ) (c : Cursor) → validated_at s at inputs seen ≡ Ok (i, t, c) → (v next : List ℕ) → v ≡ put_input_arrival w m i t → next ≡ set seen i 1
         → SoFar s from m inputs w₀ next c.at v
     unfolding step_read step_passed put_all
     so_far_more i t c e v next p q =

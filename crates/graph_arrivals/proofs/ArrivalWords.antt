@@ -1,5 +1,5 @@
 -- What the reader leaves in the words where it refuses nothing: each input's arrival as the crate model has it, and all other words as they were.
-use Rattle.base.specs.{ℕ, ◌+◌, ◌≤◌, ◌<◌, add-zero, arith, ◌≡◌, refl, sym, ap, ◌∙◌, Bool, true, false, not, cond, ◌&&◌, Option, none, some}
+use Rattle.base.specs.{ℕ, ◌+◌, ◌≤◌, ◌<◌, add-zero, arith, ◌≡◌, refl, sym, ap, ◌∙◌, Bool, true, false, not, cond, ◌&&◌, Option, None, Some}
 use Rattle.base.specs.{List, [], ◌∷◌, map, Memᴰ-head, Memᴰ-tail, Memᴰ-cast, eqb, ltb, length, get_or, eqb-true, eqb-false, ltb-true}
 use Rattle.base.specs.{ltb-false}
 use Rattle.model.specs.{elem, same, Line, ended, text, lines_from, Read, holds, fault, next, unless, from?, InputArrival, input_arrival_numbers, read_input_arrivals}
@@ -31,8 +31,8 @@ module _ (inputs : ℕ) where
           → next (from? o 25 l.offset) (λ ns. unless (ltb (get_or ns 0 0) inputs && not (elem (get_or ns 0 0) before)) 26 l.offset
           (next (read_input_arrivals inputs (get_or ns 0 0 ∷ before) ls) (λ ds. holds (record { index = get_or ns 0 0; arrival = get_or ns 1 0 } ∷ ds)))) ≡ holds es
           → on_numbers o (λ ns. cond (ltb (get_or ns 0 0) inputs && not (elem (get_or ns 0 0) before)) (record { index = get_or ns 0 0; arrival = get_or ns 1 0 } ∷ passed inputs (get_or ns 0 0 ∷ before) ls) []) ≡ es
-      go none more q = absurd (let z : ◌≡◌ {A = ℕ} 0 1 = cc in omega arith)
-      go (some ns) more q =
+      go None more q = absurd (let z : ◌≡◌ {A = ℕ} 0 1 = cc in omega arith)
+      go (Some ns) more q =
           test (ltb (get_or ns 0 0) inputs && not (elem (get_or ns 0 0) before)) (record { index = get_or ns 0 0; arrival = get_or ns 1 0 }) (passed inputs (get_or ns 0 0 ∷ before) ls)
           (read_input_arrivals inputs (get_or ns 0 0 ∷ before) ls) (more (get_or ns 0 0)) q
 

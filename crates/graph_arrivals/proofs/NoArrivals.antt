@@ -1,7 +1,7 @@
 -- The first line of an arrivals' text, and what lies behind it.
+use Rattle.std.specs.Prelude.{Ok}
 use Rattle.base.specs.{ℕ, ◌<◌, arith, ◌≡◌, refl, sym, ap, ◌∙◌, true, false, cond, ◌&&◌, List, [], ◌∷◌, length, drop}
-use Rattle.model.specs.{same, ended, lines_from, unless, verdict_of, read_input_arrivals, read_input_arrival_lines, read_arrivals}
-use Rattle.model.specs.declared.Verdict.TheVariants.{Accepted, Refused}
+use Rattle.model.specs.{same, ended, lines_from, unless, verdict_of, read_input_arrivals, read_input_arrival_lines, read_arrivals, refused_with}
 use Rattle.base_text.specs.declared.Span.{Span}
 use Rattle.base_text.specs.{line_at, past_line, span_at, first_is}
 use Rattle.base_text.proofs.{and_left, lines_at_lem, first-is, span-next}
@@ -9,7 +9,7 @@ use Rattle.graph_arrivals.specs.{head_line, put_all, passed, listed_lines, liste
 use Rattle.graph_arrivals.proofs.ArrivalLines.{lines_of}
 
 -- an empty text
-pub none-listed : (inputs m : ℕ) (s w : List ℕ) → length s ≡ 0 → (Accepted ≡ verdict_of (read_arrivals inputs s)) × (w ≡ put_all w m (listed inputs s))
+pub none-listed : (inputs m : ℕ) (s w : List ℕ) → length s ≡ 0 → ((Ok tt) ≡ verdict_of (read_arrivals inputs s)) × (w ≡ put_all w m (listed inputs s))
 unfolding read_arrivals read_input_arrival_lines lines_from verdict_of listed listed_lines put_all
 none-listed inputs m [] w e = (refl, refl)
 none-listed inputs m (b ∷ s) w e = absurd (omega arith)
@@ -25,7 +25,7 @@ module _ (inputs : ℕ) (s : List ℕ) (some : 0 < length s) where
 
   -- the first line, as it is handed back
   module _ (l : Span) (is : l ≡ span_at s 0) where
-    pub head-not : first_is s l head_line ≡ false → (m : ℕ) (w : List ℕ) → (Refused 25 0 ≡ verdict_of (read_arrivals inputs s)) × (w ≡ put_all w m (listed inputs s))
+    pub head-not : first_is s l head_line ≡ false → (m : ℕ) (w : List ℕ) → (refused_with 25 0 ≡ verdict_of (read_arrivals inputs s)) × (w ≡ put_all w m (listed inputs s))
     unfolding unless verdict_of put_all
     head-not e m w =
         let x = sym (first-is s head_line) ∙ sym (ap (λ (x : Span). first_is s x head_line) is) ∙ e in

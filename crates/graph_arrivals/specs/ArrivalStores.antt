@@ -1,6 +1,6 @@
 -- The lines of an arrivals' text up to the first refusal, and the words with their arrivals.
 use Rattle.std.specs.Prelude.{◌+◌, ◌≤◌, ◌<◌, ◌&&◌, ◌∷◌}
-use Rattle.base.specs.{ℕ, cond, not, Option, none, some, List, [], ltb, get_or}
+use Rattle.base.specs.{ℕ, cond, not, Option, None, Some, List, [], ltb, get_or}
 use Rattle.model.specs.{elem, same, Line, ended, text, lines_from, InputArrival, input_arrival_numbers}
 use Rattle.base_words.specs.{put_at, HasCapacity, slot_at, input_arrival_addr}
 
@@ -26,8 +26,8 @@ put_all w m (e ∷ es) = put_all (put_input_arrival w m e.index e.arrival) m es
 
 -- what is done with numbers, if there are any
 abbrev pub on_numbers : Option (List ℕ) → (List ℕ → List InputArrival) → List InputArrival
-on_numbers none f = []
-on_numbers (some ns) f = f ns
+on_numbers None f = []
+on_numbers (Some ns) f = f ns
 
 -- the lines up to the first that 25 or 26 refuses; `inputs` is I, `before` are the indexes listed so far
 unfoldable pub passed : ℕ → List ℕ → List Line → List InputArrival

@@ -1,46 +1,43 @@
 -- A number less a difference, and an AND of two of them, as the crate model reads them:
 --     less-..          by what difference was found
 --     gate_view        the AND at a place is refused by both, or read by both, its operands below its left literal
-use Rattle.base.specs.{ℕ, suc, ◌+◌, ◌-◌, ◌≤◌, ◌<◌, arith, ◌≡◌, refl, sym, ap, ◌∙◌, Bool, true, false, not, ◌&&◌, List, ◌∷◌, eqb, leb}
+use Rattle.std.specs.Prelude.{Ok}
+use Rattle.base.specs.{Option, None, Some, ℕ, suc, ◌+◌, ◌-◌, ◌≤◌, ◌<◌, arith, ◌≡◌, refl, sym, ap, ◌∙◌, Bool, true, false, not, ◌&&◌, List, ◌∷◌, eqb, leb}
 use Rattle.base.specs.{eq-eqb, le-leb, lt-leb}
-use Rattle.model.specs.{holds, fault, next, unless, an_and, Passed, less_by, read_ands}
+use Rattle.model.specs.{holds, fault, next, unless, an_and, Passed, less_by, read_ands, refused_with}
 use Rattle.theory_text.proofs.{less_out}
 use Rattle.base_text.specs.declared.Cursor.{Cursor}
-use Rattle.base_text.specs.declared.Number.{Number}
-use Rattle.base_text.specs.declared.Number.TheVariants.{Value as Found, Broken as NoNumber}
 use Rattle.base_text.specs.{difference_at}
 use Rattle.base_text.proofs.{and-false, differs_found, differs_broken}
 use Rattle.graph_loading.specs.declared.Literals.{Literals}
 use Rattle.graph_loading.specs.{literals}
 use Rattle.graph_loading.proofs.{item_of}
-use Rattle.graph_binary.specs.declared.Less.TheVariants.{Is as Leaves, Refused as NoLess}
-use Rattle.graph_binary.specs.declared.Gate.TheVariants.{Is as AGate, Refused as NoGate}
 use Rattle.graph_binary.specs.{less_of, gate_at}
 
 -- ---- a number less a difference
 
 module _ (is_first : Bool) (s : List ℕ) (at n : ℕ) where
-  broken-is : difference_at s at ≡ NoNumber → less_by is_first s at n ≡ fault 20 at
+  broken-is : difference_at s at ≡ None → less_by is_first s at n ≡ fault 20 at
   unfolding less_by next
   broken-is e = rw (differs_broken s at e)
 
-  pub less_broken : difference_at s at ≡ NoNumber → NoLess 20 ≡ less_of (less_by is_first s at n)
+  pub less_broken : difference_at s at ≡ None → refused_with 20 at ≡ less_of (less_by is_first s at n)
   less_broken e = sym (ap less_of (broken-is e))
 
-  module _ (d : ℕ) (c : Cursor) (found : difference_at s at ≡ Found d c) where
+  module _ (d : ℕ) (c : Cursor) (found : difference_at s at ≡ Some (d, c)) where
     found-is : less_by is_first s at n ≡ unless (not (is_first && eqb d 0) && leb d n) 21 at (holds (record { number = n - d; behind = c.at }))
     unfolding less_by next
     found-is = rw (differs_found s at d c found)
 
-    pub less_zero : is_first ≡ true → d ≡ 0 → NoLess 21 ≡ less_of (less_by is_first s at n)
+    pub less_zero : is_first ≡ true → d ≡ 0 → refused_with 21 at ≡ less_of (less_by is_first s at n)
     unfolding unless
     less_zero e z = sym (ap less_of found-is ∙ rw (e, eq-eqb d 0 z))
 
-    pub less_over : n < d → NoLess 21 ≡ less_of (less_by is_first s at n)
+    pub less_over : n < d → refused_with 21 at ≡ less_of (less_by is_first s at n)
     unfolding unless
     less_over b = sym (ap less_of found-is ∙ rw (lt-leb d n b, and-false))
 
-    pub less_is : (is_first && eqb d 0) ≡ false → d ≤ n → Leaves (n - d) c.at ≡ less_of (less_by is_first s at n)
+    pub less_is : (is_first && eqb d 0) ≡ false → d ≤ n → Ok (n - d, c.at) ≡ less_of (less_by is_first s at n)
     unfolding unless
     less_is e b = sym (ap less_of found-is ∙ rw (e, le-leb d n b))
 
@@ -57,15 +54,15 @@ less_view is_first s at n = go (difference_at s at) refl
     tested true p e = left p e
     tested false p e = refused 21 e
 
-    go : (x : Number) → difference_at s at ≡ x → LessView is_first s at n
-    go NoNumber e = refused 20 (broken-is is_first s at n e)
-    go (Found d c) e = tested (not (is_first && eqb d 0) && leb d n) (record { number = n - d; behind = c.at }) (found-is is_first s at n d c e)
+    go : (x : Option (ℕ × Cursor)) → difference_at s at ≡ x → LessView is_first s at n
+    go None e = refused 20 (broken-is is_first s at n e)
+    go (Some (d, c)) e = tested (not (is_first && eqb d 0) && leb d n) (record { number = n - d; behind = c.at }) (found-is is_first s at n d c e)
 
 -- ---- an AND
 
 pub data GateView (s : List ℕ) (at first : ℕ) : Type 0 where
-  stops : (a b : ℕ) → gate_at s at first ≡ NoGate a b → ((n : ℕ) → read_ands s at first (suc n) ≡ fault a b) → GateView s at first
-  goes : (l : Literals) → gate_at s at first ≡ AGate l → l.first ≡ first → l.left < first → l.right ≤ l.left
+  stops : (a b : ℕ) → gate_at s at first ≡ refused_with a b → ((n : ℕ) → read_ands s at first (suc n) ≡ fault a b) → GateView s at first
+  goes : (l : Literals) → gate_at s at first ≡ Ok l → l.first ≡ first → l.left < first → l.right ≤ l.left
       → ((n : ℕ) → read_ands s at first (suc n) ≡ next (read_ands s l.next (first + 2) n) (λ is. holds (item_of an_and at l ∷ is))) → GateView s at first
 
 module _ (s : List ℕ) (at first : ℕ) where
@@ -96,7 +93,7 @@ module _ (s : List ℕ) (at first : ℕ) where
       go (refused a e) = first-refused a e
       go (left p e) = on p e (less_view false s p.behind p.number)
 
-gate_stop : {a b : ℕ} {l : Literals} → NoGate a b ≡ AGate l → ⊥
+gate_stop : {a b : ℕ} {l : Literals} → refused_with a b ≡ Ok l → ⊥
 gate_stop {a} {b} {l} e = let z : ◌≡◌ {A = ℕ} 0 1 = cc in omega arith
 
 -- an AND's operands are below it
@@ -105,7 +102,7 @@ pub record Below (first : ℕ) (l : Literals) : Type 0 where
   pub left : l.left < first
   pub right : l.right < first
 
-pub gate-below : (s : List ℕ) (at first : ℕ) (l : Literals) → gate_at s at first ≡ AGate l → Below first l
+pub gate-below : (s : List ℕ) (at first : ℕ) (l : Literals) → gate_at s at first ≡ Ok l → Below first l
 gate-below s at first l e = go (gate_view s at first)
   where
     go : GateView s at first → Below first l

@@ -3,20 +3,19 @@
 --     body             the three passes answer `read_binary`, and where that holds items the words hold their graph
 --     load-verdict     14 refuses none of them, so the answer is `read_graph`'s
 --     binary_law       and where that holds a graph the words hold it
+use Rattle.std.specs.Prelude.{Ok, Err}
+use Rattle.model.specs.{Verdict, refused_with}
 use Rattle.base.specs.{◌≡◌, refl, sym, ap, ◌∙◌, subst, true, List, [], ◌∷◌, ◌++◌, ℕ, suc, ◌+◌, ◌-◌, ◌*◌, ◌≤◌, arith, length}
 use Rattle.model.specs.{elem, any, need, Read, holds, fault, next, verdict_of, verdict_refusal, refusal_of, Item, read_ands, behind_lines}
 use Rattle.model.specs.{input_items, read_binary, read_items, defined_by, check_uses, graph_of, read_header, read_graph}
 use Rattle.model.specs.Graph.{Graph}
 use Rattle.model.specs.declared.Header.{Header}
-use Rattle.model.specs.declared.Verdict.{Verdict}
-use Rattle.model.specs.declared.Verdict.TheVariants.{Accepted, Refused}
+use Rattle.model.specs.declared.Refusal.{Refusal}
 use Rattle.model.proofs.{verdict-rules}
 use Rattle.theory_text.proofs.{binary-parts, binary-used, header-fits}
 use Rattle.base_words.proofs.{capacity_for}
 use Rattle.graph_order.specs.{Fit, LoadedGraph}
-use Rattle.graph_loading.specs.declared.LineResult.{LineResult}
-use Rattle.graph_loading.specs.declared.LineResult.TheVariants.{To, Refused as Stop}
-use Rattle.graph_loading.specs.{expected_count, on_line_result, opened}
+use Rattle.graph_loading.specs.{LineResult, expected_count, on_result, opened}
 use Rattle.graph_loading.proofs.{nothing, state_first, lines_of, fault-holds, verdict-next, next-holds, joined, Stored, stored-behind}
 use Rattle.graph_loading.proofs.{graph_is, graph-represented}
 use Rattle.graph_binary.specs.{input_step, input_left, output_step, output_left, gate_step, gate_left, pass_step, pass_words, as_verdict}
@@ -35,19 +34,19 @@ header-fit s h w e l =
 -- what they answer
 abbrev passes_verdict : List ℕ → List ℕ → Header → Verdict
 passes_verdict w s h =
-    on_line_result (outputs_step w s h) (λ at. as_verdict (pass_step (gate_step s h) (gate_left s h) h.ands (h.inputs + h.outputs) at (with_outputs w s h))) Refused
+    on_result (outputs_step w s h) (λ at. as_verdict (pass_step (gate_step s h) (gate_left s h) h.ands (h.inputs + h.outputs) at (with_outputs w s h))) Err
 
 record Body (s : List ℕ) (h : Header) (w : List ℕ) : Type 0 where
   verdict : passes_verdict w s h ≡ verdict_of (read_binary s h)
   stored : (is : List Item) → read_binary s h ≡ holds is → Stored h w (expected_count h) 0 (binary_words w s h) [] (nothing h.size) is
 
-to_of : (t : LineResult) → as_verdict t ≡ Accepted → (at : ℕ) × (t ≡ To at)
-to_of (To at) e = (at, refl)
-to_of (Stop a b) e = let z : ◌≡◌ {A = ℕ} 0 1 = cc in absurd (omega arith)
+to_of : (t : LineResult) → as_verdict t ≡ Ok tt → (at : ℕ) × (t ≡ Ok at)
+to_of (Ok at) e = (at, refl)
+to_of (Err r) e = let z : ◌≡◌ {A = ℕ} 0 1 = cc in absurd (omega arith)
 
-stop_of : (t : LineResult) (a b : ℕ) → as_verdict t ≡ Refused a b → t ≡ Stop a b
-stop_of (To at) a b e = let z : ◌≡◌ {A = ℕ} 0 1 = cc in absurd (omega arith)
-stop_of (Stop c d) a b e = let x : c ≡ a = cc in let y : d ≡ b = cc in λ i. Stop (x i) (y i)
+stop_of : (t : LineResult) (r : Refusal) → as_verdict t ≡ Err r → t ≡ Err r
+stop_of (Ok at) r e = let z : ◌≡◌ {A = ℕ} 0 1 = cc in absurd (omega arith)
+stop_of (Err q) r e = let x : q ≡ r = cc in ap Err x
 
 module _ (s : List ℕ) (h : Header) (w : List ℕ) (fit : Fit h w) where
   first : Sound h w 0 (opened w h.size) [] (nothing h.size)
@@ -85,7 +84,7 @@ module _ (s : List ℕ) (h : Header) (w : List ℕ) (fit : Fit h w) where
   unfolding with_outputs
   outputs_taken os e = outputs.taken os e
 
-  outputs-behind : (at : ℕ) → outputs_step w s h ≡ To at → at ≡ behind_lines h.next h.outputs (lines_of s h.next)
+  outputs-behind : (at : ℕ) → outputs_step w s h ≡ Ok at → at ≡ behind_lines h.next h.outputs (lines_of s h.next)
   unfolding outputs_step
   outputs-behind at e = output-behind s h h.outputs h.inputs h.next (with_inputs w h) at e
 
@@ -109,10 +108,10 @@ module _ (s : List ℕ) (h : Header) (w : List ℕ) (fit : Fit h w) where
   unfolding verdict_of next
   body_stop a b e =
       let r : read_binary s h ≡ fault a b = read_is ∙ rw e in
-      let t : outputs_step w s h ≡ Stop a b = stop_of (outputs_step w s h) a b (outputs-verdict ∙ ap verdict_of e) in
+      let t : outputs_step w s h ≡ refused_with a b = stop_of (outputs_step w s h) _ (outputs-verdict ∙ ap verdict_of e) in
       record { verdict = rw (t, r); stored = λ is q. absurd (fault-holds (sym r ∙ q)) }
 
-  module _ (os : List Item) (is_outs : outputs_from s h h.outputs h.inputs h.next ≡ holds os) (at : ℕ) (advance : outputs_step w s h ≡ To at) where
+  module _ (os : List Item) (is_outs : outputs_from s h h.outputs h.inputs h.next ≡ holds os) (at : ℕ) (advance : outputs_step w s h ≡ Ok at) where
     gates-read : Read (List Item)
     gates-read = gates_from s h h.ands (h.inputs + h.outputs) at
 
@@ -205,19 +204,19 @@ module _ (s : List ℕ) (h : Header) (is_binary : h.binary ≡ true) where
       refusal : (q : Verdict) → q ≡ verdict_of (read_graph s h) → verdict_refusal q ≡ refusal_of (read_graph s h)
       refusal q e = ap verdict_refusal e ∙ verdict-rules (read_graph s h)
 
-      pub load-done : (at : ℕ) → r ≡ To at → (q : Verdict) (v : List ℕ)
+      pub load-done : (at : ℕ) → r ≡ Ok at → (q : Verdict) (v : List ℕ)
           → q ≡ as_verdict (pass_step (gate_step s h) (gate_left s h) h.ands (h.inputs + h.outputs) at z)
           → v ≡ pass_words (gate_step s h) (gate_left s h) h.ands (h.inputs + h.outputs) at z
           → (q ≡ verdict_of (read_graph s h)) × ((v ≡ binary_words w s h) × (verdict_refusal q ≡ refusal_of (read_graph s h)))
       unfolding binary_words
       load-done at e q v a b =
-          let t : outputs_step w s h ≡ To at = with_step ∙ e in
+          let t : outputs_step w s h ≡ Ok at = with_step ∙ e in
           let o : q ≡ verdict_of (read_graph s h) = a ∙ rw with_outputs_lem (sym (rw t)) ∙ load-verdict head in
           (o, (b ∙ rw with_outputs_lem (sym (rw t)), refusal q o))
 
-      pub load_stop : (a b : ℕ) → r ≡ Stop a b → (Refused a b ≡ verdict_of (read_graph s h)) × ((z ≡ binary_words w s h) × (verdict_refusal (Refused a b) ≡ refusal_of (read_graph s h)))
+      pub load_stop : (q : Refusal) → r ≡ Err q → (Err q ≡ verdict_of (read_graph s h)) × ((z ≡ binary_words w s h) × (verdict_refusal {A = Unit {0}} (Err q) ≡ refusal_of (read_graph s h)))
       unfolding binary_words
-      load_stop a b e =
-          let t : outputs_step w s h ≡ Stop a b = with_step ∙ e in
-          let o : Refused a b ≡ verdict_of (read_graph s h) = sym (rw t) ∙ load-verdict head in
-          (o, (with_outputs_lem ∙ sym (rw t), refusal (Refused a b) o))
+      load_stop q e =
+          let t : outputs_step w s h ≡ Err q = with_step ∙ e in
+          let o : Err q ≡ verdict_of (read_graph s h) = sym (rw t) ∙ load-verdict head in
+          (o, (with_outputs_lem ∙ sym (rw t), refusal (Err q) o))

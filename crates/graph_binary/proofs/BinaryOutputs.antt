@@ -2,20 +2,18 @@
 --     output_view      the line at a place is missing, broken, or a number with byte 10 behind it
 --     output-step      the line at a place is refused by both, or read by both
 --     output-behind    and the pass ends where the model's lines do
-use Rattle.base.specs.{◌≡◌, refl, sym, ap, ◌∙◌, Bool, true, false, ◌&&◌, none, some, List, [], ◌∷◌, ℕ, zero, suc, ◌+◌, ◌≤◌, ◌<◌, arith, ltb}
+use Rattle.std.specs.Prelude.{Ok, Err}
+use Rattle.base.specs.{Option, ◌≡◌, refl, sym, ap, ◌∙◌, Bool, true, false, ◌&&◌, None, Some, List, [], ◌∷◌, ℕ, zero, suc, ◌+◌, ◌≤◌, ◌<◌, arith, ltb}
 use Rattle.base.specs.{length, replicate, ltb-true, ltb-false}
 use Rattle.model.specs.{ended, Read, holds, fault, next, unless, closed, an_output, defines, Item, item_literals, read_expected, behind_lines}
 use Rattle.model.specs.Graph.{Graph}
 use Rattle.model.specs.declared.Header.{Header}
+use Rattle.model.specs.declared.Refusal.{Refusal}
 use Rattle.base_text.specs.declared.Cursor.{Cursor}
-use Rattle.base_text.specs.declared.Number.{Number}
-use Rattle.base_text.specs.declared.Number.TheVariants.{Value as Found, Broken as NoNumber}
 use Rattle.base_text.specs.{number_then, line_at, past_line}
 use Rattle.base_text.proofs.{lines_at_lem, lines_none, ten-ended}
 use Rattle.graph_order.specs.{Fit}
-use Rattle.graph_loading.specs.declared.LineResult.{LineResult}
-use Rattle.graph_loading.specs.declared.LineResult.TheVariants.{To, Refused as Stop}
-use Rattle.graph_loading.specs.{literals, literals_fit, may_define}
+use Rattle.graph_loading.specs.{LineResult, literals, literals_fit, may_define}
 use Rattle.graph_loading.proofs.{expected-output, item_of, lines_of, output-number, expected-missing, expected-none, expected-whole}
 use Rattle.graph_binary.specs.{output_step, output_left, pass_step}
 use Rattle.graph_binary.proofs.BinaryPasses.{step-missing, step-broken, step-over, step-output, pass_on, pass_stop, pass_end}
@@ -25,17 +23,17 @@ use Rattle.graph_binary.proofs.BinaryReading.{Sound, sound-output, Step, stops, 
 
 data OutputView (s : List ℕ) (at : ℕ) : Type 0 where
   missing : length s ≤ at → OutputView s at
-  broken : at < length s → number_then s at 10 ≡ NoNumber → item_literals (closed true) an_output (line_at s at) ≡ none → OutputView s at
-  whole : at < length s → (a : ℕ) (c : Cursor) → number_then s at 10 ≡ Found a c → item_literals (closed true) an_output (line_at s at) ≡ some (a ∷ [])
+  broken : at < length s → number_then s at 10 ≡ None → item_literals (closed true) an_output (line_at s at) ≡ None → OutputView s at
+  whole : at < length s → (a : ℕ) (c : Cursor) → number_then s at 10 ≡ Some (a, c) → item_literals (closed true) an_output (line_at s at) ≡ Some (a ∷ [])
       → ended (line_at s at) ≡ true → past_line s at ≡ c.at → OutputView s at
 
 module _ (s : List ℕ) (at : ℕ) where
   output_view : OutputView s at
   output_view = go (ltb at (length s)) refl
     where
-      on : at < length s → (x : Number) → number_then s at 10 ≡ x → OutputView s at
-      on b NoNumber e = broken b e (output-number s at ∙ rw e)
-      on b (Found a c) e =
+      on : at < length s → (x : Option (ℕ × Cursor)) → number_then s at 10 ≡ x → OutputView s at
+      on b None e = broken b e (output-number s at ∙ rw e)
+      on b (Some (a, c)) e =
           let ends = ten-ended s at a c e in
           whole b a c e (output-number s at ∙ rw e) ends.0 ends.1
 
@@ -58,13 +56,13 @@ module _ (s : List ℕ) (h : Header) (n k at : ℕ) where
       ap (read_expected (closed true) (length s) h.size [] (an_output ∷ replicate n an_output)) (lines_none s at e)
       ∙ expected-missing (closed true) (length s) h.size [] an_output (replicate n an_output)
 
-  later-broken : at < length s → item_literals (closed true) an_output (line_at s at) ≡ none → outputs_from s h (suc n) k at ≡ fault 11 at
+  later-broken : at < length s → item_literals (closed true) an_output (line_at s at) ≡ None → outputs_from s h (suc n) k at ≡ fault 11 at
   unfolding line_at
   later-broken b e =
       ap (read_expected (closed true) (length s) h.size [] (an_output ∷ replicate n an_output)) (lines_at_lem s at b)
       ∙ expected-none (closed true) (line_at s at) (length s) h.size [] an_output (replicate n an_output) _ e
 
-  later-whole : at < length s → (a end : ℕ) → item_literals (closed true) an_output (line_at s at) ≡ some (a ∷ []) → ended (line_at s at) ≡ true → past_line s at ≡ end
+  later-whole : at < length s → (a end : ℕ) → item_literals (closed true) an_output (line_at s at) ≡ Some (a ∷ []) → ended (line_at s at) ≡ true → past_line s at ≡ end
       → outputs_from s h (suc n) k at
       ≡ unless (literals_fit h.size (literals a 0 0 end) && true) 12 at (next (outputs_from s h n (k + 1) end) (λ is. holds (item_of an_output at (literals a 0 0 end) ∷ is)))
   unfolding line_at may_define defines unless
@@ -100,11 +98,11 @@ module _ (s : List ℕ) (h : Header) (w₀ : List ℕ) (fit : Fit h w₀) where
 
 -- ---- where the lines end
 
-stop_to : {a b e : ℕ} → Stop a b ≡ To e → ⊥
-stop_to {a} {b} {e} q = let z : ◌≡◌ {A = ℕ} 0 1 = cc in omega arith
+stop_to : {r : Refusal} {e : ℕ} → Err r ≡ Ok e → ⊥
+stop_to {r} {e} q = let z : ◌≡◌ {A = ℕ} 0 1 = cc in omega arith
 
 module _ (s : List ℕ) (h : Header) where
-  behind-one : (n k at : ℕ) (w : List ℕ) (end : ℕ) → output_step s h k at w ≡ To end → behind_lines at (suc n) (lines_of s at) ≡ behind_lines end n (lines_of s end)
+  behind-one : (n k at : ℕ) (w : List ℕ) (end : ℕ) → output_step s h k at w ≡ Ok end → behind_lines at (suc n) (lines_of s at) ≡ behind_lines end n (lines_of s end)
   unfolding behind_lines past_line
   behind-one n k at w end e = go (output_view s at)
     where
@@ -119,13 +117,13 @@ module _ (s : List ℕ) (h : Header) where
               let i : c.at ≡ end = cc (step-output s h k at w b a c x q).0 in
               ap (behind_lines at (suc n)) (lines-whole s at end b f (p ∙ i)) ∙ ap (λ (x : ℕ). behind_lines x n (lines_of s end)) (p ∙ i)
 
-  pub output-behind : (n k at : ℕ) (w : List ℕ) (end : ℕ) → pass_step (output_step s h) (output_left s h) n k at w ≡ To end → end ≡ behind_lines at n (lines_of s at)
+  pub output-behind : (n k at : ℕ) (w : List ℕ) (end : ℕ) → pass_step (output_step s h) (output_left s h) n k at w ≡ Ok end → end ≡ behind_lines at n (lines_of s at)
   unfolding behind_lines
   output-behind zero k at w end e = let i : at ≡ end = cc (pass_end (output_step s h) (output_left s h) k at w 0 refl).0 in sym i
   output-behind (suc n) k at w end e = go (output_step s h k at w) refl (λ m. output-behind n (k + 1) m (output_left s h k at w) end)
     where
       go : (t : LineResult) → output_step s h k at w ≡ t
-          → ((m : ℕ) → pass_step (output_step s h) (output_left s h) n (k + 1) m (output_left s h k at w) ≡ To end → end ≡ behind_lines m n (lines_of s m))
+          → ((m : ℕ) → pass_step (output_step s h) (output_left s h) n (k + 1) m (output_left s h k at w) ≡ Ok end → end ≡ behind_lines m n (lines_of s m))
           → end ≡ behind_lines at (suc n) (lines_of s at)
-      go (Stop a b) q later = absurd (stop_to (sym (pass_stop (output_step s h) (output_left s h) n k at w (suc n) a b refl q).0 ∙ e))
-      go (To m) q later = later m (sym (pass_on (output_step s h) (output_left s h) n k at w (suc n) m refl q).0 ∙ e) ∙ sym (behind-one n k at w m q)
+      go (Err r) q later = absurd (stop_to (sym (pass_stop (output_step s h) (output_left s h) n k at w (suc n) r refl q).0 ∙ e))
+      go (Ok m) q later = later m (sym (pass_on (output_step s h) (output_left s h) n k at w (suc n) m refl q).0 ∙ e) ∙ sym (behind-one n k at w m q)

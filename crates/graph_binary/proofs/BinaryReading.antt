@@ -3,19 +3,18 @@
 --     Step             the line at a place is refused by both, or read by both
 --     pass_law         so a pass is: it answers what is read, and the words hold the graph with what was read
 --     input-step, output-step, gate-step     the three passes
+use Rattle.std.specs.Prelude.{Ok}
 use Rattle.base.specs.{◌≡◌, refl, sym, ap, ◌∙◌, subst, true, false, not, ◌||◌, List, [], ◌∷◌, map, ℕ, zero, suc, ◌+◌, ◌-◌, ◌*◌, ◌/◌, ◌≤◌}
 use Rattle.base.specs.{◌<◌, min, add-one, arith, eqb, ne_eqb, lt-ltb, le-ltb, le-leb}
 use Rattle.model.specs.{from, elem, any, Read, holds, fault, next, verdict_of, var_of, Kind, an_input, an_output, an_and, Item, read_ands}
-use Rattle.model.specs.{defined_by}
+use Rattle.model.specs.{defined_by, refused_with}
 use Rattle.model.specs.Graph.{Graph}
 use Rattle.model.specs.declared.Header.{Header}
 use Rattle.base_words.specs.{undefined_kind, kind_at}
 use Rattle.base_text.proofs.{and-false}
 use Rattle.graph_order.specs.{Fit}
 use Rattle.graph_loading.specs.declared.Literals.{Literals}
-use Rattle.graph_loading.specs.declared.LineResult.{LineResult}
-use Rattle.graph_loading.specs.declared.LineResult.TheVariants.{To, Refused as Stop}
-use Rattle.graph_loading.specs.{expected_code, expected_count, literals_fit, is_already_defined, stored_line}
+use Rattle.graph_loading.specs.{LineResult, expected_code, expected_count, literals_fit, is_already_defined, stored_line}
 use Rattle.graph_loading.proofs.{fit-right, expected_kind_value, expected-input, expected-output, expected-and, item_of, grown, more, State, state_more, fault-holds}
 use Rattle.graph_loading.proofs.{verdict-next, next-holds, joined, defined_more, Stored, stored-none, stored_more}
 use Rattle.graph_binary.specs.{pass_step, pass_words, as_verdict, input_literals, input_step, input_left, gate_step, gate_left}
@@ -74,8 +73,8 @@ module _ (h : Header) (w₀ : List ℕ) (fit : Fit h w₀) (k : ℕ) (w before :
 
 pub data Step (h : Header) (w₀ : List ℕ) (advance : ℕ → ℕ → List ℕ → LineResult) (left : ℕ → ℕ → List ℕ → List ℕ) (later : ℕ → ℕ → ℕ → Read (List Item))
     (n k at : ℕ) (w before : List ℕ) (g : Graph) : Type 0 where
-  stops : (a b : ℕ) → advance k at w ≡ Stop a b → later (suc n) k at ≡ fault a b → Step h w₀ advance left later n k at w before g
-  goes : (l : Literals) → advance k at w ≡ To l.next → left k at w ≡ stored_line w h k l
+  stops : (a b : ℕ) → advance k at w ≡ refused_with a b → later (suc n) k at ≡ fault a b → Step h w₀ advance left later n k at w before g
+  goes : (l : Literals) → advance k at w ≡ Ok l.next → left k at w ≡ stored_line w h k l
       → later (suc n) k at ≡ next (later n (k + 1) l.next) (λ is. holds (item_of (expected_kind_value h k) at l ∷ is))
       → Sound h w₀ (k + 1) (stored_line w h k l) (more (expected_kind_value h k) before l) (grown (expected_kind_value h k) g l) → Step h w₀ advance left later n k at w before g
 
@@ -122,7 +121,7 @@ module _ (h : Header) (w₀ : List ℕ) (advance : ℕ → ℕ → List ℕ → 
       → Outcome h w₀ advance left later (suc n) k at w before g
   unfolding verdict_of
   pass_more n k at w before g (stops a b t m) more_of = record {
-    verdict = ap as_verdict (pass_stop advance left n k at w (suc n) a b refl t).0 ∙ ap verdict_of (sym m);
+    verdict = ap as_verdict (pass_stop advance left n k at w (suc n) _ refl t).0 ∙ ap verdict_of (sym m);
     taken = λ is q. absurd (fault-holds (sym m ∙ q));
   }
   pass_more n k at w before g (goes l t u m s) more_of =
@@ -191,7 +190,7 @@ module _ (s : List ℕ) (h : Header) (w₀ : List ℕ) (fit : Fit h w₀) where
   gate-step n k at w before g z low e = go (gate_view s at (2 * (k - h.outputs + 1)))
     where
       go : GateView s at (2 * (k - h.outputs + 1)) → Step h w₀ (gate_step s h) (gate_left s h) (gates_from s h) n k at w before g
-      go (gate-stops a b f m) = stops a b (step-refused s h k at w a b f).0 (m n)
+      go (gate-stops a b f m) = stops a b (step-refused s h k at w _ f).0 (m n)
       go (gate-goes l f first left right m) =
           let t = step-gate s h k at w l f in let v : l.first / 2 ≡ next_var h k = omega arith in
           let i : 2 * (k - h.outputs + 1) + 2 ≡ 2 * (k + 1 - h.outputs + 1) = omega arith in

@@ -1,17 +1,14 @@
 -- What the passes over inputs, output lines and ANDs answer and leave in the words: a step for each expected line, one after the other.
-use Rattle.std.specs.Prelude.{◌+◌, ◌-◌, ◌*◌}
-use Rattle.base.specs.{ℕ, zero, suc, List, ltb, length}
+use Rattle.std.specs.Prelude.{◌+◌, ◌-◌, ◌*◌, Result, Ok, Err}
+use Rattle.base.specs.{ℕ, zero, suc, List, cond, ltb, length}
+use Rattle.model.specs.{Verdict, refused_with}
 use Rattle.model.specs.declared.Header.{Header}
-use Rattle.model.specs.declared.Verdict.{Verdict}
-use Rattle.model.specs.declared.Verdict.TheVariants.{Accepted, Refused}
+use Rattle.model.specs.declared.Refusal.{Refusal}
 use Rattle.base_text.specs.{on_number, number_then}
 use Rattle.graph_order.specs.{pick_words}
 use Rattle.graph_loading.specs.declared.Literals.{Literals}
-use Rattle.graph_loading.specs.declared.LineResult.{LineResult}
-use Rattle.graph_loading.specs.declared.LineResult.TheVariants.{To, Refused as Stop}
-use Rattle.graph_loading.specs.{literals, literals_fit, pick_step, on_line_result, stored_line, opened}
-use Rattle.graph_binary.specs.declared.Gate.{Gate}
-use Rattle.graph_binary.specs.GateDifferences.{gate_at, on_gate}
+use Rattle.graph_loading.specs.{LineResult, literals, literals_fit, on_result, stored_line, opened}
+use Rattle.graph_binary.specs.GateDifferences.{gate_at}
 
 -- ---- an input, an output line, and an AND
 
@@ -20,15 +17,15 @@ abbrev pub input_literals : ℕ → ℕ → Literals
 input_literals at k = literals (2 * (k + 1)) 0 0 at
 
 abbrev pub input_step : ℕ → ℕ → List ℕ → LineResult
-input_step k at w = To at
+input_step k at w = Ok at
 
 unfoldable pub input_left : Header → ℕ → ℕ → List ℕ → List ℕ
 input_left h k at w = stored_line w h k (input_literals at k)
 
 unfoldable pub output_step : List ℕ → Header → ℕ → ℕ → List ℕ → LineResult
 output_step s h k at w =
-    pick_step (ltb at (length s)) (on_number (number_then s at 10) (λ a c.
-    pick_step (literals_fit h.size (literals a 0 0 c.at)) (To c.at) (Stop 12 at)) (Stop 11 at)) (Stop 11 (length s))
+    cond (ltb at (length s)) (on_number (number_then s at 10) (λ a c.
+    cond (literals_fit h.size (literals a 0 0 c.at)) (Ok c.at) (refused_with 12 at)) (refused_with 11 at)) (refused_with 11 (length s))
 
 unfoldable pub output_left : List ℕ → Header → ℕ → ℕ → List ℕ → List ℕ
 output_left s h k at w =
@@ -36,28 +33,28 @@ output_left s h k at w =
     pick_words (literals_fit h.size (literals a 0 0 c.at)) (stored_line w h k (literals a 0 0 c.at)) w) w) w
 
 -- expected line k is the AND of variable k - O + 1
-abbrev pub gate_of : List ℕ → Header → ℕ → ℕ → Gate
+abbrev pub gate_of : List ℕ → Header → ℕ → ℕ → Result Literals Refusal
 gate_of s h k at = gate_at s at (2 * (k - h.outputs + 1))
 
 unfoldable pub gate_step : List ℕ → Header → ℕ → ℕ → List ℕ → LineResult
-gate_step s h k at w = on_gate (gate_of s h k at) (λ l. To l.next) Stop
+gate_step s h k at w = on_result (gate_of s h k at) (λ l. Ok l.next) Err
 
 unfoldable pub gate_left : List ℕ → Header → ℕ → ℕ → List ℕ → List ℕ
-gate_left s h k at w = on_gate (gate_of s h k at) (λ l. stored_line w h k l) (λ _ _. w)
+gate_left s h k at w = on_result (gate_of s h k at) (λ l. stored_line w h k l) (λ _. w)
 
 -- ---- a pass: n expected lines from line k on, the first of them at a place
 
 unfoldable pub pass_step : (ℕ → ℕ → List ℕ → LineResult) → (ℕ → ℕ → List ℕ → List ℕ) → ℕ → ℕ → ℕ → List ℕ → LineResult
-pass_step advance left zero k at w = To at
-pass_step advance left (suc n) k at w = on_line_result (advance k at w) (λ end. pass_step advance left n (k + 1) end (left k at w)) Stop
+pass_step advance left zero k at w = Ok at
+pass_step advance left (suc n) k at w = on_result (advance k at w) (λ end. pass_step advance left n (k + 1) end (left k at w)) Err
 
 unfoldable pub pass_words : (ℕ → ℕ → List ℕ → LineResult) → (ℕ → ℕ → List ℕ → List ℕ) → ℕ → ℕ → ℕ → List ℕ → List ℕ
 pass_words advance left zero k at w = w
-pass_words advance left (suc n) k at w = on_line_result (advance k at w) (λ end. pass_words advance left n (k + 1) end (left k at w)) (λ _ _. left k at w)
+pass_words advance left (suc n) k at w = on_result (advance k at w) (λ end. pass_words advance left n (k + 1) end (left k at w)) (λ _. left k at w)
 
 abbrev pub as_verdict : LineResult → Verdict
-as_verdict (To at) = Accepted
-as_verdict (Stop n k) = Refused n k
+as_verdict (Ok at) = Ok tt
+as_verdict (Err r) = Err r
 
 -- ---- the whole
 
@@ -79,6 +76,6 @@ with_outputs w s h = pass_words (output_step s h) (output_left s h) h.outputs h.
 unfoldable pub binary_words : List ℕ → List ℕ → Header → List ℕ
 unfolding outputs_step with_outputs
 binary_words w s h =
-    on_line_result (outputs_step w s h)
+    on_result (outputs_step w s h)
     (λ at. pass_words (gate_step s h) (gate_left s h) h.ands (h.inputs + h.outputs) at (with_outputs w s h))
-    (λ _ _. with_outputs w s h)
+    (λ _. with_outputs w s h)

@@ -3,14 +3,14 @@
 --     Stored           the words after some items more; stored-none, stored_more, stored-behind
 --     stored-defined, stored_loaded     what they hold after all items
 --     graph-represented       and so after a text that holds a graph
-use Rattle.base.specs.{◌≡◌, refl, sym, ap, ◌∙◌, subst, Bool, true, false, not, cond, ◌&&◌, ◌||◌, none, some, List, [], ◌∷◌, ◌++◌, map}
+use Rattle.std.specs.Prelude.{Ok}
+use Rattle.base.specs.{◌≡◌, refl, sym, ap, ◌∙◌, subst, Bool, true, false, not, cond, ◌&&◌, ◌||◌, None, Some, List, [], ◌∷◌, ◌++◌, map}
 use Rattle.base.specs.{append-nil, append_assoc, map-append, ℕ, suc, ◌+◌, ◌/◌, ◌≤◌, arith, eqb, get_or, append_snoc, eq-eqb, ne_eqb}
 use Rattle.model.specs.{elem, any, all, keep, Line, Read, holds, fault, next, unless, from?, verdict_of, And, node, var_of, Kind, an_input}
 use Rattle.model.specs.{an_output, an_and, defines, Item, item_literals, read_expected, read_items, uses, defined_by, check_uses, same_kind, is_kind}
 use Rattle.model.specs.{graph_of, read_graph}
 use Rattle.model.specs.Graph.{Graph}
 use Rattle.model.specs.declared.Header.{Header}
-use Rattle.model.specs.declared.Verdict.TheVariants.{Accepted}
 use Rattle.theory_graph.proofs.{by_eqb, keep_append}
 use Rattle.base_words.specs.{undefined_kind, constant_kind, kind_at}
 use Rattle.graph_order.specs.{kind_of, LoadedGraph}
@@ -35,7 +35,7 @@ unfolding next
 next-holds (holds a) f b e = (a, refl, cc)
 next-holds (fault n k) f b e = absurd (fault-holds e)
 
-pub accepted-holds : {A : Type 0} (r : Read A) → verdict_of r ≡ Accepted → (a : A) × (r ≡ holds a)
+pub accepted-holds : {A : Type 0} (r : Read A) → verdict_of r ≡ Ok tt → (a : A) × (r ≡ holds a)
 unfolding verdict_of
 accepted-holds (holds a) e = (a, refl)
 accepted-holds (fault n k) e = let z : ◌≡◌ {A = ℕ} 0 1 = cc in absurd (omega arith)
@@ -57,12 +57,12 @@ unfolding read_expected
 expected-missing is_closed end m before k ks = refl
 
 pub expected-none : (is_closed : Line → Bool) (x : Line) (end m : ℕ) (before : List ℕ) (k : Kind) (ks : List Kind) (ls : List Line)
-    → item_literals is_closed k x ≡ none → read_expected is_closed end m before (k ∷ ks) (x ∷ ls) ≡ fault 11 x.offset
+    → item_literals is_closed k x ≡ None → read_expected is_closed end m before (k ∷ ks) (x ∷ ls) ≡ fault 11 x.offset
 unfolding read_expected next from?
 expected-none is_closed x end m before k ks ls e = rw e
 
 pub expected-whole : (is_closed : Line → Bool) (x : Line) (end m : ℕ) (before : List ℕ) (k : Kind) (ks : List Kind) (ls : List Line) (l : Literals)
-    → item_literals is_closed k x ≡ some (item_list k l) → Short k l
+    → item_literals is_closed k x ≡ Some (item_list k l) → Short k l
     → read_expected is_closed end m before (k ∷ ks) (x ∷ ls)
     ≡ unless (literals_fit m l && may_define (code k) l.first) 12 x.offset
     (unless (not (defines k && elem (var_of l.first) before)) 13 x.offset

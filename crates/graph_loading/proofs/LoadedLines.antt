@@ -1,5 +1,5 @@
 -- The lines of either form of a graph's text, from a place on.
-use Rattle.base.specs.{◌≡◌, ap, ◌∙◌, true, false, ◌&&◌, Option, none, some, List, [], ◌∷◌, ℕ, suc, eqb, length, drop}
+use Rattle.base.specs.{◌≡◌, ap, ◌∙◌, true, false, ◌&&◌, Option, None, Some, List, [], ◌∷◌, ℕ, suc, eqb, length, drop}
 use Rattle.model.specs.{and_then, only, Line, ended, lines_from, fields, numbers, closed, Kind, an_output, how_many, item_literals}
 use Rattle.base_text.specs.{on_number, number_then, line_at, numbers_at}
 use Rattle.base_text.proofs.{line-words, numbers-at, ten-number}
@@ -17,6 +17,6 @@ item-numbers k s at n e =
     ∙ numbers-at n s at
 
 -- the literal of an output line of the binary form is the number with byte 10 behind it
-pub output-number : (s : List ℕ) (at : ℕ) → item_literals (closed true) an_output (line_at s at) ≡ on_number (number_then s at 10) (λ n c. some (n ∷ [])) none
+pub output-number : (s : List ℕ) (at : ℕ) → item_literals (closed true) an_output (line_at s at) ≡ on_number (number_then s at 10) (λ n c. Some (n ∷ [])) None
 unfolding item_literals how_many
 output-number s at = ten-number s at

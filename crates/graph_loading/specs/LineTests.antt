@@ -1,12 +1,11 @@
 -- The expected lines' kinds, the tests of a line's literals, and the step that a line takes.
-use Rattle.std.specs.Prelude.{◌+◌, ◌*◌, ◌/◌, ◌%◌, ◌≤◌, ◌&&◌, ◌||◌}
-use Rattle.base.specs.{ℕ, Bool, true, false, not, List, eqb, ltb, leb}
+use Rattle.std.specs.Prelude.{◌+◌, ◌*◌, ◌/◌, ◌%◌, ◌≤◌, ◌&&◌, ◌||◌, Result, Ok, Err}
+use Rattle.base.specs.{ℕ, Bool, not, List, eqb, ltb, leb}
 use Rattle.model.specs.declared.Header.{Header}
+use Rattle.model.specs.declared.Refusal.{Refusal}
 use Rattle.base_words.specs.{undefined_kind, input_kind, and_kind, kind_at}
 use Rattle.graph_order.specs.{pick_n}
 use Rattle.graph_loading.specs.declared.Literals.{Literals}
-use Rattle.graph_loading.specs.declared.LineResult.{LineResult}
-use Rattle.graph_loading.specs.declared.LineResult.TheVariants.{To, Refused as Stop}
 
 -- the kind of node that expected line k defines: an output line defines none
 abbrev pub expected_code : Header → ℕ → ℕ
@@ -35,10 +34,11 @@ may_define kind first = eqb kind undefined_kind || (eqb (first % 2) 0 && not (eq
 unfoldable pub is_already_defined : List ℕ → ℕ → ℕ → ℕ → Bool
 is_already_defined w m kind first = not (eqb kind undefined_kind) && not (eqb (kind_at w m (first / 2)) undefined_kind)
 
-abbrev pub pick_step : Bool → LineResult → LineResult → LineResult
-pick_step true a b = a
-pick_step false a b = b
+-- the place of the next line, or a refusal
+abbrev pub LineResult : Type 0
+LineResult = Result ℕ Refusal
 
-abbrev pub on_line_result : {A : Type 0} → LineResult → (ℕ → A) → (ℕ → ℕ → A) → A
-on_line_result (To at) f e = f at
-on_line_result (Stop n k) f e = e n k
+-- what is done with what was found, or with a refusal
+abbrev pub on_result : {T A : Type 0} → Result T Refusal → (T → A) → (Refusal → A) → A
+on_result (Ok t) f e = f t
+on_result (Err r) f e = e r

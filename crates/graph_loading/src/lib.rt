@@ -18,16 +18,10 @@ pub struct Literals {
     pub next: usize,
 }
 
-// The place of the next line, or a refusal's number and place.
-#[derive(Clone, Copy)]
-pub enum LineResult {
-    To(usize),
-    Refused(usize, usize),
-}
-
 // ---- the tests of a line
 
 // The kind of node that expected line k defines: an output line defines none.
+// Stays: the new form is no plainer (a kind is the number that the words hold, `kind_at`: an enum would be turned into it at each store and test).
 pub fn expected_kind(h: Header, k: usize) -> usize
     requires { (h.inputs ≤ 4095) × (h.outputs ≤ 4096) }
     ensures { result ≡ expected_code h k }

@@ -4,14 +4,15 @@
 --     order-verdict    `order_graph` answers `order_verdict`
 --     ordering_law        and the words hold `topological_order`
 --     holds-nodes      the words hold the graph's nodes, as the layers above ask
-use Rattle.base.specs.{◌≡◌, refl, sym, ap, ◌∙◌, subst, Bool, true, false, not, none, some, List, [], ◌∷◌, ◌++◌, map, append-nil, Memᴰ}
+use Rattle.std.specs.Prelude.{Ok}
+use Rattle.model.specs.{refused_with}
+use Rattle.base.specs.{◌≡◌, refl, sym, ap, ◌∙◌, subst, Bool, true, false, not, None, Some, List, [], ◌∷◌, ◌++◌, map, append-nil, Memᴰ}
 use Rattle.base.specs.{Memᴰ-head, Memᴰ-tail, Memᴰ-append_right, ℕ, zero, suc, ◌+◌, ◌-◌, ◌*◌, ◌/◌, ◌≤◌, ◌<◌, arith, T, eqb, leb}
 use Rattle.base.specs.{length, get_or, length-append, append_snoc, eq-eqb, ne_eqb, leb-true, leb-false}
 use Rattle.model.specs.{elem, any, keep, lowest, refused_at, And, Node, constant, input, undefined, both, node, var_of, ready, and_on, order_from}
 use Rattle.model.specs.{topological_order, unordered, order_verdict}
 use Rattle.model.specs.Graph.{Graph}
 use Rattle.model.specs.declared.Header.{Header}
-use Rattle.model.specs.declared.Verdict.TheVariants.{Accepted, Refused}
 use Rattle.theory_graph.proofs.{by_eqb, elem_in, elem_out, map_in, map_out, keep_in, keep_out, is_true, Found, node-and}
 use Rattle.base_words.specs.{HasCapacity, constant_kind, and_kind, kind_at, left_at, right_at, position_at, node_of, node_at}
 use Rattle.graph_order.specs.{Fit, kind_of, left_of, right_of, InOrder, Within, Sure, LoadedGraph, put_ordered, Operands, is_waiting}
@@ -127,11 +128,11 @@ elem_both u v ordered order e = by_eqb u v
     (λ q. rw (eq-eqb u v q) (sym (elem_in u (order ++ (v ∷ [])) (Memᴰ-append_right order (Memᴰ-head q)))))
     (λ d. rw (ne_eqb u v d) (e ∙ sym (elem_snoc u v order d)))
 
-position_some : (n : ℕ) (ands : List And) (ordered : List ℕ) (v : ℕ) → lowest (map (λ (a : And). a.var) (keep (ready ordered) ands)) ≡ some v → order_from (suc n) ands ordered ≡ v ∷ order_from n ands (v ∷ ordered)
+position_some : (n : ℕ) (ands : List And) (ordered : List ℕ) (v : ℕ) → lowest (map (λ (a : And). a.var) (keep (ready ordered) ands)) ≡ Some v → order_from (suc n) ands ordered ≡ v ∷ order_from n ands (v ∷ ordered)
 unfolding order_from and_on
 position_some n ands ordered v e = rw e
 
-position_none : (n : ℕ) (ands : List And) (ordered : List ℕ) → lowest (map (λ (a : And). a.var) (keep (ready ordered) ands)) ≡ none → order_from (suc n) ands ordered ≡ []
+position_none : (n : ℕ) (ands : List And) (ordered : List ℕ) → lowest (map (λ (a : And). a.var) (keep (ready ordered) ands)) ≡ None → order_from (suc n) ands ordered ≡ []
 unfolding order_from and_on
 position_none n ands ordered e = rw e
 
@@ -172,15 +173,15 @@ module _ (w₀ : List ℕ) (m : ℕ) (g : Graph) (fits : HasCapacity w₀ m) (su
     unfolding next_and
     next-seek = ready-is-seek w m (waiting_from w m low)
 
-    next-some : next_and w m low ≤ m → lowest (map (λ (a : And). a.var) (keep (ready ordered) g.ands)) ≡ some (next_and w m low)
+    next-some : next_and w m low ≤ m → lowest (map (λ (a : And). a.var) (keep (ready ordered) g.ands)) ≡ Some (next_and w m low)
     unfolding readies
     next-some l =
         seek-lowest (is_ready w m) (map (λ (a : And). a.var) (keep (ready ordered) g.ands)) m (waiting_from w m low)
         (ready_out w₀ m g sure w order s.represented ordered s.same) (ready_in w₀ m g sure w order s.represented ordered s.same) ready-below mark_under
         (subst (λ (x : ℕ). x ≤ m) next-seek l)
-        ∙ ap some (sym next-seek)
+        ∙ ap Some (sym next-seek)
 
-    next-none : m < next_and w m low → lowest (map (λ (a : And). a.var) (keep (ready ordered) g.ands)) ≡ none
+    next-none : m < next_and w m low → lowest (map (λ (a : And). a.var) (keep (ready ordered) g.ands)) ≡ None
     unfolding readies
     next-none l =
         seek-nothing (is_ready w m) (map (λ (a : And). a.var) (keep (ready ordered) g.ands)) m (waiting_from w m low)
@@ -250,11 +251,11 @@ loaded_operands w₀ h w g order hold = record {
       omega (arith, hold.represented.rights v l, f.is_right, (hold.sure f.line f.is_line).right);
 }
 
-refused-some : (n k : ℕ) → refused_at n (some k) ≡ Refused n k
+refused-some : (n k : ℕ) → refused_at n (Some k) ≡ refused_with n k
 unfolding refused_at
 refused-some n k = refl
 
-refused_none : (n : ℕ) → refused_at n none ≡ Accepted
+refused_none : (n : ℕ) → refused_at n None ≡ Ok tt
 unfolding refused_at
 refused_none n = refl
 
@@ -296,22 +297,22 @@ module _ (w₀ : List ℕ) (h : Header) (fit : Fit h w₀) (w : List ℕ) (g : G
   unfolding found
   found-seek = waiting-is (ordered_words w h) h.size low
 
-  some-waits : found ≤ h.size → lowest (unordered g) ≡ some found
+  some-waits : found ≤ h.size → lowest (unordered g) ≡ Some found
   some-waits l =
       ap lowest (sym unordered-is)
       ∙ seek-lowest (is_waiting (ordered_words w h) h.size) (keep (λ (v : ℕ). not (elem v (topological_order g))) (map (λ (a : And). a.var) g.ands)) h.size low
       (unordered_out w₀ h.size g hold.sure (ordered_words w h) (topological_order g) done.represented) (unordered_in w₀ h.size g hold.sure (ordered_words w h) (topological_order g) done.represented) done.below done.under
       (subst (λ (x : ℕ). x ≤ h.size) found-seek l)
-      ∙ ap some (sym found-seek)
+      ∙ ap Some (sym found-seek)
 
-  none-waits : h.size < found → lowest (unordered g) ≡ none
+  none-waits : h.size < found → lowest (unordered g) ≡ None
   none-waits l =
       ap lowest (sym unordered-is)
       ∙ seek-nothing (is_waiting (ordered_words w h) h.size) (keep (λ (v : ℕ). not (elem v (topological_order g))) (map (λ (a : And). a.var) g.ands)) h.size low
       (unordered_out w₀ h.size g hold.sure (ordered_words w h) (topological_order g) done.represented) (unordered_in w₀ h.size g hold.sure (ordered_words w h) (topological_order g) done.represented) done.below done.under
       (subst (λ (x : ℕ). h.size < x) found-seek l)
 
-  answer-is : ordered_verdict w h ≡ pick_verdict (leb found h.size) (Refused 15 found) Accepted
+  answer-is : ordered_verdict w h ≡ pick_verdict (leb found h.size) (refused_with 15 found) (Ok tt)
   unfolding ordered_verdict found low
   answer-is = refl
 

@@ -7,10 +7,11 @@
 --     mark-..          no AND below the mark `low` waits
 --     next-first       what is found from the mark is what is found from the first variable
 --     answer-..        what is answered behind the loop
+use Rattle.std.specs.Prelude.{Ok}
+use Rattle.model.specs.{refused_with}
 use Rattle.base.specs.{◌≡◌, refl, sym, ap, ◌∙◌, subst, Bool, true, false, ◌&&◌, and-false, List, ℕ, zero, suc, ◌+◌, ◌-◌, ◌/◌, ◌≤◌, ◌<◌}
 use Rattle.base.specs.{arith, T, eqb, leb, and_yes, eqb-true, ne_eqb, leb-true, le-leb, lt-leb}
 use Rattle.model.specs.declared.Header.{Header}
-use Rattle.model.specs.declared.Verdict.TheVariants.{Accepted, Refused}
 use Rattle.theory_graph.proofs.{by_eqb, is_true}
 use Rattle.base_words.specs.{HasCapacity, and_kind, kind_addr, left_addr, right_addr, position_addr, kind_at, left_at, right_at, position_at}
 use Rattle.graph_order.specs.{Fit, pick_n, pick_words, put_ordered, Operands, is_waiting, is_ordered, is_ready, seek, waiting_from}
@@ -170,10 +171,10 @@ module _ (w : List ℕ) (h : Header) (fit : Fit h w) (v : ℕ) (x : List ℕ) (i
       ∙ below_skip (is_waiting (order_words h.size h.ands (h.inputs + 1) 1 w) h.size) h.size (order_low h.size h.ands (h.inputs + 1) 1 w)
       (order_mark h.size h.ands (h.inputs + 1) 1 w (fit-capacity h w fit) (omega (arith, fit.lines)) (below-first (is_waiting w h.size) h.size))
 
-  pub answer-all : h.size < v → Accepted ≡ ordered_verdict w h
+  pub answer-all : h.size < v → (Ok tt) ≡ ordered_verdict w h
   unfolding ordered_verdict
   answer-all l = rw (sym waiting, lt-leb v h.size l)
 
-  pub answer-some : v ≤ h.size → Refused 15 v ≡ ordered_verdict w h
+  pub answer-some : v ≤ h.size → refused_with 15 v ≡ ordered_verdict w h
   unfolding ordered_verdict
   answer-some l = rw (sym waiting, le-leb v h.size l)

@@ -1,14 +1,15 @@
 -- The first number that passes a test, and the lowest of a list:
+--     in_graph-.., some_in, none_in     a number that is a variable of the graph, or none
 --     seek-here, seek-past, seek-end     a step of the loop that seeks
 --     seek-from, seek_to, seek_found, seek-before, seek-under, seek_is     what is known of the number that is found
 --     below-first, below_on, below_skip     what does not pass may be skipped
 --     seek-lowest, seek-nothing     it is the lowest of a list that the test describes
-use Rattle.base.specs.{◌≡◌, refl, ap, ◌∙◌, Bool, true, false, cond, Option, none, some, List, ◌∷◌, Memᴰ, Memᴰ-head}
-use Rattle.base.specs.{Memᴰ-tail, ℕ, zero, suc, ◌+◌, ◌-◌, ◌≤◌, ◌<◌, arith, leb, leb-true, leb-false}
+use Rattle.base.specs.{◌≡◌, refl, ap, ◌∙◌, Bool, true, false, cond, Option, None, Some, List, ◌∷◌, Memᴰ, Memᴰ-head}
+use Rattle.base.specs.{Memᴰ-tail, ℕ, zero, suc, ◌+◌, ◌-◌, ◌≤◌, ◌<◌, arith, leb, leb-true, leb-false, le-leb, lt-leb}
 use Rattle.model.specs.{lowest, smaller}
 use Rattle.theory_graph.proofs.{by_eqb, lowest_in_lem}
 use Rattle.base_bitset.proofs.{by_leb}
-use Rattle.graph_order.specs.{pick_n, seek}
+use Rattle.graph_order.specs.{in_graph, pick_n, seek}
 
 -- a test, by its answer
 pub by_truth {ℓ} : {X : Type ℓ} (b : Bool) → (b ≡ true → X) → (b ≡ false → X) → X
@@ -17,6 +18,28 @@ by_truth false y n = n refl
 
 pub true-false : {b : Bool} → b ≡ true → b ≡ false → ⊥
 true-false {b} p q = let z : ◌≡◌ {A = ℕ} 0 1 = cc in omega arith
+
+-- ---- a variable of the graph, or none
+
+pub in_graph-some : (m r : ℕ) → r ≤ m → Some r ≡ in_graph m r
+in_graph-some m r l = rw (le-leb r m l)
+
+pub in_graph-none : (m r : ℕ) → m < r → None ≡ in_graph m r
+in_graph-none m r l = rw (lt-leb r m l)
+
+pub some_in : (m r v : ℕ) → in_graph m r ≡ Some v → (r ≡ v) × (r ≤ m)
+some_in m r v e = go (leb r m) refl e
+  where
+    go : (t : Bool) → leb r m ≡ t → cond t (Some r) None ≡ Some v → (r ≡ v) × (r ≤ m)
+    go true q x = (cc, leb-true r m q)
+    go false q x = let z : ◌≡◌ {A = ℕ} 0 1 = cc in absurd (omega arith)
+
+pub none_in : (m r : ℕ) → in_graph m r ≡ None → m < r
+none_in m r e = go (leb r m) refl e
+  where
+    go : (t : Bool) → leb r m ≡ t → cond t (Some r) None ≡ None → m < r
+    go true q x = let z : ◌≡◌ {A = ℕ} 0 1 = cc in absurd (omega arith)
+    go false q x = leb-false r m q
 
 -- ---- the first number that passes
 
@@ -106,57 +129,57 @@ module _ (p : ℕ → Bool) (m low : ℕ) (b : Below p m low) where
 
 -- ---- the lowest of a list
 
-smaller_le : (x y u : ℕ) (o : Option ℕ) → smaller x o ≡ some y → (u ≡ x) → y ≤ u
+smaller_le : (x y u : ℕ) (o : Option ℕ) → smaller x o ≡ Some y → (u ≡ x) → y ≤ u
 unfolding smaller
-smaller_le x y u none e q = let i : x ≡ y = cc in omega arith
-smaller_le x y u (some z) e q = go (leb x z) refl e
+smaller_le x y u None e q = let i : x ≡ y = cc in omega arith
+smaller_le x y u (Some z) e q = go (leb x z) refl e
   where
-    go : (t : Bool) → leb x z ≡ t → some (cond t x z) ≡ some y → y ≤ u
+    go : (t : Bool) → leb x z ≡ t → Some (cond t x z) ≡ Some y → y ≤ u
     go true f s = let i : x ≡ y = cc in omega arith
     go false f s = let i : z ≡ y = cc in omega (arith, leb-false x z f)
 
-smaller-rest : (x y z u : ℕ) → smaller x (some z) ≡ some y → z ≤ u → y ≤ u
+smaller-rest : (x y z u : ℕ) → smaller x (Some z) ≡ Some y → z ≤ u → y ≤ u
 unfolding smaller
 smaller-rest x y z u e l = go (leb x z) refl e
   where
-    go : (t : Bool) → leb x z ≡ t → some (cond t x z) ≡ some y → y ≤ u
+    go : (t : Bool) → leb x z ≡ t → Some (cond t x z) ≡ Some y → y ≤ u
     go true f s = let i : x ≡ y = cc in omega (arith, leb-true x z f)
     go false f s = let i : z ≡ y = cc in omega arith
 
-smaller-some : (x : ℕ) (o : Option ℕ) → smaller x o ≡ none → ⊥
+smaller-some : (x : ℕ) (o : Option ℕ) → smaller x o ≡ None → ⊥
 unfolding smaller
-smaller-some x none e = let z : ◌≡◌ {A = ℕ} 0 1 = cc in omega arith
-smaller-some x (some y) e = let z : ◌≡◌ {A = ℕ} 0 1 = cc in omega arith
+smaller-some x None e = let z : ◌≡◌ {A = ℕ} 0 1 = cc in omega arith
+smaller-some x (Some y) e = let z : ◌≡◌ {A = ℕ} 0 1 = cc in omega arith
 
-lowest-none : (xs : List ℕ) (u : ℕ) → Memᴰ u xs → lowest xs ≡ none → ⊥
+lowest-none : (xs : List ℕ) (u : ℕ) → Memᴰ u xs → lowest xs ≡ None → ⊥
 unfolding lowest
 lowest-none (x ∷ xs) u (Memᴰ-head q) e = smaller-some x (lowest xs) e
 lowest-none (x ∷ xs) u (Memᴰ-tail n) e = smaller-some x (lowest xs) e
 lowest-none mathlib.Core.List.[] u x'' e = elim x'' [ ]
 
-lowest_le : (xs : List ℕ) (y u : ℕ) → lowest xs ≡ some y → Memᴰ u xs → y ≤ u
+lowest_le : (xs : List ℕ) (y u : ℕ) → lowest xs ≡ Some y → Memᴰ u xs → y ≤ u
 unfolding lowest
 lowest_le (x ∷ xs) y u e (Memᴰ-head q) = smaller_le x y u (lowest xs) e q
 lowest_le (x ∷ xs) y u e (Memᴰ-tail n) = go (lowest xs) refl (lowest_le xs) e
   where
-    go : (o : Option ℕ) → lowest xs ≡ o → ((z v : ℕ) → lowest xs ≡ some z → Memᴰ v xs → z ≤ v) → smaller x o ≡ some y → y ≤ u
-    go none q more f = absurd (lowest-none xs u n q)
-    go (some z) q more f = smaller-rest x y z u f (more z u q n)
+    go : (o : Option ℕ) → lowest xs ≡ o → ((z v : ℕ) → lowest xs ≡ Some z → Memᴰ v xs → z ≤ v) → smaller x o ≡ Some y → y ≤ u
+    go None q more f = absurd (lowest-none xs u n q)
+    go (Some z) q more f = smaller-rest x y z u f (more z u q n)
 lowest_le mathlib.Core.List.[] y u e x'' = elim x'' [ ]
 
-lowest-is : (xs : List ℕ) (v : ℕ) → Memᴰ v xs → ((u : ℕ) → Memᴰ u xs → v ≤ u) → lowest xs ≡ some v
+lowest-is : (xs : List ℕ) (v : ℕ) → Memᴰ v xs → ((u : ℕ) → Memᴰ u xs → v ≤ u) → lowest xs ≡ Some v
 lowest-is xs v m least = go (lowest xs) refl
   where
-    go : (o : Option ℕ) → lowest xs ≡ o → lowest xs ≡ some v
-    go none e = absurd (lowest-none xs v m e)
-    go (some y) e = let i : y ≡ v = omega (arith, lowest_le xs y v e m, least y (lowest_in_lem xs y e)) in e ∙ ap some i
+    go : (o : Option ℕ) → lowest xs ≡ o → lowest xs ≡ Some v
+    go None e = absurd (lowest-none xs v m e)
+    go (Some y) e = let i : y ≡ v = omega (arith, lowest_le xs y v e m, least y (lowest_in_lem xs y e)) in e ∙ ap Some i
 
-lowest-empty : (xs : List ℕ) → ((u : ℕ) → Memᴰ u xs → ⊥) → lowest xs ≡ none
+lowest-empty : (xs : List ℕ) → ((u : ℕ) → Memᴰ u xs → ⊥) → lowest xs ≡ None
 lowest-empty xs h = go (lowest xs) refl
   where
-    go : (o : Option ℕ) → lowest xs ≡ o → lowest xs ≡ none
-    go none e = e
-    go (some y) e = absurd (h y (lowest_in_lem xs y e))
+    go : (o : Option ℕ) → lowest xs ≡ o → lowest xs ≡ None
+    go None e = e
+    go (Some y) e = absurd (h y (lowest_in_lem xs y e))
 
 -- ---- both
 
@@ -167,8 +190,8 @@ module _ (p : ℕ → Bool) (xs : List ℕ) (m low : ℕ) (inside : (u : ℕ) �
       by_leb (seek p (m + 1 - low) low) u (λ l. l)
       (λ l. absurd (true-false (inside u n).1 (seek-under p (m + 1 - low) low u (below u) l)))
 
-  pub seek-lowest : seek p (m + 1 - low) low ≤ m → lowest xs ≡ some (seek p (m + 1 - low) low)
+  pub seek-lowest : seek p (m + 1 - low) low ≤ m → lowest xs ≡ Some (seek p (m + 1 - low) low)
   seek-lowest l = lowest-is xs (seek p (m + 1 - low) low) (outside (seek p (m + 1 - low) low) l (seek_found p (m + 1 - low) low (omega arith))) first_le
 
-  pub seek-nothing : m < seek p (m + 1 - low) low → lowest xs ≡ none
+  pub seek-nothing : m < seek p (m + 1 - low) low → lowest xs ≡ None
   seek-nothing l = lowest-empty xs (λ u n. let a = first_le u n in let b = (inside u n).0 in omega arith)

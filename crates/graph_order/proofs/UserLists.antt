@@ -2,8 +2,8 @@
 --     lists-none, lists_link, lists_wider, lists-same     the lists, empty, with one use more, and over the same uses
 --     passed_none, passed-and, passed_other     one AND more is passed
 --     next-marked, none_below, ready-listed     the lowest mark, or none below where the ANDs are passed to
---     marked_start, woken, waking-end     the walk over the users of a variable that was ordered
-use Rattle.base.specs.{◌≡◌, refl, sym, ap, ◌∙◌, subst, true, false, List, ℕ, ◌+◌, ◌-◌, ◌*◌, ◌/◌, ◌%◌, ◌≤◌, ◌<◌, arith, ltb, get_or, set}
+--     marked_start, woken     the walk over the users of a variable that was ordered
+use Rattle.base.specs.{◌≡◌, refl, sym, ap, ◌∙◌, subst, true, false, Some, List, ℕ, ◌+◌, ◌-◌, ◌*◌, ◌/◌, ◌%◌, ◌≤◌, ◌<◌, arith, ltb, get_or, set}
 use Rattle.base.specs.{length-set, replicate, length-replicate, get_or-replicate, get_or-set_same, get_or-set_other, eq-eqb, ne_eqb, lt-ltb}
 use Rattle.base.specs.{le-ltb}
 use Rattle.theory_graph.proofs.{by_eqb}
@@ -12,9 +12,9 @@ use Rattle.base_bitset.specs.BitSet.{BitSet}
 use Rattle.base_bitset.specs.{has, added, removed, lowest_of}
 use Rattle.base_bitset.proofs.{by_leb, empty-set, empty-has, add-set, add_in, add_other, remove_set, remove_out, remove_other}
 use Rattle.base_bitset.proofs.{lowest_in_lem, lowest-least}
-use Rattle.graph_order.specs.{pick_n, pick_words, put_ordered, Operands, is_waiting, is_ready, ready_from, use_of, Listed, Lists, Both}
+use Rattle.graph_order.specs.{in_graph, pick_n, pick_words, put_ordered, Operands, is_waiting, is_ready, ready_from, use_of, Listed, Lists, Both}
 use Rattle.graph_order.specs.{Passed, Kept, Waking, UsersMarked, Ready, Next, passed_to, taken_from}
-use Rattle.graph_order.proofs.ReadySearch.{true-false, by_truth, seek_is, seek-from, seek_found, seek-before, Below, below_skip}
+use Rattle.graph_order.proofs.ReadySearch.{some_in, true-false, by_truth, seek_is, seek-from, seek_found, seek-before, Below, below_skip}
 use Rattle.graph_order.proofs.OrderedWords.{waits-kind, ready-waits, not-ready, left-ordered, right-ordered, ordered-waits, waits-apart}
 use Rattle.graph_order.proofs.OrderedWords.{ready-apart, ready-more}
 
@@ -70,7 +70,7 @@ lists-same op to n heads links same s = record {
 }
 
 -- a use k above all that are listed is put before those of its variable x
-module _ (op : ℕ → ℕ) (n : ℕ) (heads links : List ℕ) (s : Lists op n heads links) (k x : ℕ) (above : n ≤ k) (some : 0 < k) (small : k < 8192) (its : op k ≡ x) (known : x < 4096) where
+module _ (op : ℕ → ℕ) (n : ℕ) (heads links : List ℕ) (s : Lists op n heads links) (k x : ℕ) (above : n ≤ k) (positive : 0 < k) (small : k < 8192) (its : op k ≡ x) (known : x < 4096) where
   link_own : get_or (set links k (get_or heads x 0)) k 0 ≡ get_or heads x 0
   link_own = get_or-set_same links k (get_or heads x 0) 0 (omega (arith, s.long))
 
@@ -143,12 +143,12 @@ pub record Longer (op : ℕ → ℕ) (k : ℕ) (links hs ls : List ℕ) : Type 0
 
 longer : (op : ℕ → ℕ) (n : ℕ) (heads links : List ℕ) → Lists op n heads links → (k x : ℕ) → n ≤ k → 0 < k → k < 8192 → op k ≡ x → x < 4096
     → (hs ls : List ℕ) → hs ≡ set heads x k → ls ≡ set links k (get_or heads x 0) → Longer op k links hs ls
-longer op n heads links s k x above some small its known hs ls e f = rw (e, f) (record {
-  lists = lists_link op n heads links s k x above some small its known;
-  own = listed-own op n heads links s k x above some small its known;
-  old = listed_old op n heads links s k x above some small its known;
-  new = listed_new op n heads links s k x above some small its known;
-  kept = λ o h. link_apart op n heads links s k x above some small its known o (omega arith);
+longer op n heads links s k x above positive small its known hs ls e f = rw (e, f) (record {
+  lists = lists_link op n heads links s k x above positive small its known;
+  own = listed-own op n heads links s k x above positive small its known;
+  old = listed_old op n heads links s k x above positive small its known;
+  new = listed_new op n heads links s k x above positive small its known;
+  kept = λ o h. link_apart op n heads links s k x above positive small its known o (omega arith);
 })
 
 -- ---- one AND more is passed
@@ -267,6 +267,13 @@ module _ (m : ℕ) (w : List ℕ) (scan : ℕ) (heads links bits : List ℕ) (fi
             (λ x. r.all u h (was u x k) e);
       };
     }
+
+-- what is answered is that AND
+pub next_some : (m : ℕ) (w : List ℕ) (scan : ℕ) (heads links bits : List ℕ) (r v : ℕ) → Next m w scan heads links bits r → in_graph m r ≡ Some v
+    → Next m w scan heads links bits v × (v ≤ m)
+next_some m w scan heads links bits r v n e =
+    let t = some_in m r v e in
+    (subst (Next m w scan heads links bits) t.0 n, subst (λ (u : ℕ). u ≤ m) t.0 t.1)
 
 -- ---- the users of a variable that was ordered
 
@@ -391,10 +398,3 @@ module _ (m : ℕ) (w : List ℕ) (v : ℕ) (heads links : List ℕ) (fits : Has
             (λ q. absurd (true-false e (ap (is_ready w m) q ∙ t)))
             (λ d. k.all u h b e (past u d free));
       }))
-
-pub waking-end : (m : ℕ) (w links : List ℕ) (v : ℕ) (bits : List ℕ) → Waking m w links v 0 bits → Ready m w links bits
-waking-end m w links v bits k = record {
-  sound = k.sound;
-  only = k.only;
-  all = λ u h b e. k.all u h b e (λ p x y z. omega (arith, y.down));
-}

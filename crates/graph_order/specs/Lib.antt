@@ -4,7 +4,7 @@ pub mod LoadedWords
 pub mod OrderWords
 pub mod UserLinks
 pub use LoadedWords.{Fit, LoadedGraph, InOrder, Sure, Within, kind_of, left_of, right_of}
-pub use OrderWords.{Operands, pick_n, pick_verdict, pick_words}
+pub use OrderWords.{Operands, in_graph, pick_n, pick_verdict, pick_words, ready_in}
 unfoldable pub use OrderWords.{is_ordered, is_ready, is_waiting, next_and, order_low, order_words, ordered_verdict, ordered_words, put_ordered, ready_from}
 unfoldable pub use OrderWords.{seek, waiting_from}
 pub use UserLinks.{Both, Kept, Listed, Lists, Next, Passed, Ready, UsersMarked, Waking}

@@ -1,9 +1,8 @@
 -- What ordering the ANDs answers and leaves in the words: a slot for each, one after the other.
-use Rattle.std.specs.Prelude.{◌+◌, ◌-◌, ◌*◌, ◌/◌, ◌≤◌, ◌≡◌, ◌&&◌, ◌∷◌}
-use Rattle.base.specs.{ℕ, zero, suc, Bool, true, false, not, List, [], eqb, leb}
+use Rattle.model.specs.{Verdict, refused_with}
+use Rattle.std.specs.Prelude.{◌+◌, ◌-◌, ◌*◌, ◌/◌, ◌≤◌, ◌≡◌, ◌&&◌, ◌∷◌, Ok}
+use Rattle.base.specs.{cond, Option, None, Some, ℕ, zero, suc, Bool, true, false, not, List, [], eqb, leb}
 use Rattle.model.specs.declared.Header.{Header}
-use Rattle.model.specs.declared.Verdict.{Verdict}
-use Rattle.model.specs.declared.Verdict.TheVariants.{Accepted, Refused}
 use Rattle.base_words.specs.{put_at, and_kind, slot_addr, position_addr, kind_at, left_at, right_at, position_at}
 
 abbrev pub pick_n : Bool → ℕ → ℕ → ℕ
@@ -17,6 +16,10 @@ pick_words false a b = b
 abbrev pub pick_verdict : Bool → Verdict → Verdict → Verdict
 pick_verdict true a b = a
 pick_verdict false a b = b
+
+-- a variable of the graph: none is beyond M
+abbrev pub in_graph : ℕ → ℕ → Option ℕ
+in_graph m v = cond (leb v m) (Some v) None
 
 -- v in slot i of the topological order
 unfoldable pub put_ordered : List ℕ → ℕ → ℕ → ℕ → List ℕ
@@ -50,6 +53,10 @@ waiting_from w m low = seek (is_waiting w m) (m + 1 - low) low
 unfoldable pub ready_from : List ℕ → ℕ → ℕ → ℕ
 ready_from w m low = seek (is_ready w m) (m + 1 - low) low
 
+-- the same, where it is a variable of the graph
+abbrev pub ready_in : List ℕ → ℕ → ℕ → Option ℕ
+ready_in w m low = in_graph m (ready_from w m low)
+
 -- the AND that is ordered next, or M + 1
 unfoldable pub next_and : List ℕ → ℕ → ℕ → ℕ
 next_and w m low = ready_from w m (waiting_from w m low)
@@ -75,4 +82,4 @@ unfoldable pub ordered_verdict : List ℕ → Header → Verdict
 unfolding ordered_words order_low waiting_from
 ordered_verdict w h =
     let v = waiting_from (ordered_words w h) h.size (order_low h.size h.ands (h.inputs + 1) 1 w) in
-    pick_verdict (leb v h.size) (Refused 15 v) Accepted
+    pick_verdict (leb v h.size) (refused_with 15 v) (Ok tt)

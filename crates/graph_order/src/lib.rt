@@ -5,10 +5,10 @@ ghost use Rattle.std.specs.Prelude.{◌≡◌, ◌+◌, ◌*◌, ◌≤◌, ◌<
 ghost use Rattle.base.specs.{get_or, set};
 ghost use Rattle.base_words.specs.{HasCapacity};
 ghost use Rattle.base_bitset.specs.{added};
-ghost use Rattle.graph_order.specs.{Fit, pick_words, put_ordered, Operands, is_waiting, is_ordered, is_ready, waiting_from, ready_from};
-ghost use Rattle.graph_order.specs.{ordered_words, ordered_verdict, Passed, Kept, UsersMarked, Ready, Next, passed_to, taken_from};
+ghost use Rattle.graph_order.specs.{Fit, in_graph, pick_words, put_ordered, Operands, is_waiting, is_ordered, is_ready, waiting_from, ready_from};
+ghost use Rattle.graph_order.specs.{ordered_words, ordered_verdict, Passed, Kept, UsersMarked, Ready, Next, passed_to, ready_in, taken_from};
 
-use model::{Header, Verdict};
+use model::{Header, Refusal};
 
 // The first use of each variable: "M exceeds 4,095" is refused, and variable 0 is one more.
 type Heads = [u16; 4096];
@@ -52,19 +52,17 @@ fn ready(work: &[u16], m: usize, v: usize) -> bool
             && is_ordered(work, m, base_words::right(work, m, v)))
 }
 
-// The first AND from a variable on that is not ordered, or M + 1.
-fn first_waiting(work: &[u16], m: usize, from: usize) -> usize
+// The first AND from a variable on that is not ordered.
+fn first_waiting(work: &[u16], m: usize, from: usize) -> Option<usize>
     requires { HasCapacity work.now m × (from ≤ m + 1) }
-    ensures { result ≡ waiting_from work.now m from }
+    ensures { result ≡ in_graph m (waiting_from work.now m from) }
 {
-    let mut v = from;
-    while v <= m {
+    for v in from..m + 1 {
         if waits(work, m, v) {
-            return v;
+            return Some(v);
         }
-        v += 1;
     }
-    v
+    None
 }
 
 // A use put before the others of a variable.
@@ -89,25 +87,29 @@ fn list(work: &[u16], m: usize, v: usize, heads: &mut Heads, links: &mut Links)
     }
 }
 
-// The first AND from a variable on that can be ordered, or M + 1. What waits below it is listed.
-fn first_ready(work: &[u16], m: usize, from: usize, heads: &mut Heads, links: &mut Links) -> usize
+// The first AND from a variable on that can be ordered. What waits below it is listed.
+fn first_ready(
+    work: &[u16],
+    m: usize,
+    from: usize,
+    heads: &mut Heads,
+    links: &mut Links,
+) -> Option<usize>
     requires { HasCapacity work.now m × Operands work.now m × Passed m work.now from heads.old links.old }
-    ensures answer { result ≡ ready_from work.now m from }
-    ensures passed { Passed m work.now result heads.new links.new }
+    ensures answer { result ≡ ready_in work.now m from }
+    ensures passed { Passed m work.now (ready_from work.now m from) heads.new links.new }
     ensures kept { Kept (2 * from) links.old links.new }
 {
-    let mut u = from;
-    while u <= m {
+    for u in from..m + 1 {
         if ready(work, m, u) {
-            return u;
+            return Some(u);
         }
         list(work, m, u, heads, links);
-        u += 1;
     }
-    u
+    None
 }
 
-// The lowest AND that is ready, or M + 1: below `scan` those that are ready have marks.
+// The lowest AND that is ready: below `scan` those that are ready have marks.
 fn next_ready(
     work: &[u16],
     m: usize,
@@ -115,14 +117,15 @@ fn next_ready(
     heads: &mut Heads,
     links: &mut Links,
     bits: &BitSet,
-) -> usize
+) -> Option<usize>
     requires { HasCapacity work.now m × Operands work.now m × Passed m work.now scan heads.old links.old ×
         Ready m work.now links.old bits.now }
-    ensures { Next m work.now scan heads.new links.new bits.now result }
+    ensures answer { result ≡ ready_in work.now m 1 }
+    ensures next { Next m work.now scan heads.new links.new bits.now (ready_from work.now m 1) }
 {
     let low = base_bitset::lowest(bits);
     if low < scan {
-        return low;
+        return Some(low);
     }
     first_ready(work, m, scan, heads, links)
 }
@@ -150,13 +153,6 @@ fn mark_if_ready(work: &[u16], m: usize, v: usize, bits: &mut BitSet)
     }
 }
 
-// A word as a number.
-fn index_of(x: u16) -> usize
-    ensures { result ≡ x }
-{
-    x as usize
-}
-
 // Marks for the users of a variable that are ready now that it is ordered.
 fn mark_ready_users(
     work: &[u16],
@@ -169,10 +165,11 @@ fn mark_ready_users(
     requires { HasCapacity work.now m × Operands work.now m × (v ≤ m) × UsersMarked m work.now v heads.now links.now bits.old }
     ensures { Ready m work.now links.now bits.new }
 {
-    let mut o = index_of(heads[v]);
+    let mut o = usize::from(heads[v]);
+    // Stays: the new form is no plainer (the step is a link, not one).
     while o != 0 {
         mark_if_ready(work, m, o / 2, bits);
-        o = index_of(links[o]);
+        o = usize::from(links[o]);
     }
 }
 
@@ -184,22 +181,19 @@ fn order_ands(work: &mut [u16], h: Header, heads: &mut Heads, links: &mut Links,
     ensures { work.new ≡ ordered_words work.old h }
 {
     let end = base_words::ordered_count(h);
-    let mut slot = h.inputs + 1;
     let mut scan = 1;
-    while slot < end {
-        let v = next_ready(work, h.size, scan, heads, links, bits);
-        if v > h.size {
+    for slot in h.inputs + 1..end {
+        let Some(v) = next_ready(work, h.size, scan, heads, links, bits) else {
             return;
-        }
+        };
         scan = take(bits, v, scan);
         order_at(work, h.size, slot, v);
         mark_ready_users(work, h.size, v, heads, links, bits);
-        slot += 1;
     }
 }
 
 // "Some AND can't be placed; place, the lowest such variable."
-pub fn order_graph(work: &mut [u16], h: Header) -> Verdict
+pub fn order_graph(work: &mut [u16], h: Header) -> Result<(), Refusal>
     requires { Fit h work.old × Operands work.old h.size }
     ensures answer { result ≡ ordered_verdict work.old h }
     ensures left { work.new ≡ ordered_words work.old h }
@@ -208,9 +202,11 @@ pub fn order_graph(work: &mut [u16], h: Header) -> Verdict
     let mut links = [8192u16; 8192];
     let mut bits = base_bitset::none();
     order_ands(work, h, &mut heads, &mut links, &mut bits);
-    let v = first_waiting(work, h.size, 1);
-    if v > h.size {
-        return Verdict::Accepted;
+    match first_waiting(work, h.size, 1) {
+        Some(v) => Err(Refusal {
+            number: 15,
+            place: v,
+        }),
+        None => Ok(()),
     }
-    Verdict::Refused(15, v)
 }

@@ -1,21 +1,18 @@
 -- The expected lines, as the crate model says them:
 --     expected-at           what expected line k is
 --     view             the line at a place has its form, and then these are its literals, or it has not
-use Rattle.base.specs.{ℕ, zero, suc, ◌+◌, ◌-◌, ◌≤◌, ◌<◌, add-one, arith, ◌≡◌, refl, sym, ap, ◌∙◌, Bool, true, false, Option, none, some}
+use Rattle.base.specs.{ℕ, zero, suc, ◌+◌, ◌-◌, ◌≤◌, ◌<◌, add-one, arith, ◌≡◌, refl, sym, ap, ◌∙◌, Bool, true, false, Option, None, Some}
 use Rattle.base.specs.{List, [], ◌∷◌, ◌++◌, eqb, ltb, length, drop, get_or, replicate, length-append, length-replicate, get_or-replicate}
 use Rattle.base.specs.{get_or-append, drop_of_length-le, drop-cons, get_or-append-add, ltb-true, ltb-false}
 use Rattle.model.specs.{and_then, ended, Kind, an_input, an_output, an_and, closed, how_many, expected, item_literals}
 use Rattle.model.specs.declared.Header.{Header}
 use Rattle.base_words.specs.{undefined_kind, input_kind, and_kind}
 use Rattle.base_text.specs.declared.Cursor.{Cursor}
-use Rattle.base_text.specs.declared.Number.{Number}
-use Rattle.base_text.specs.declared.Number.TheVariants.{Value as Found, Broken as NoNumber}
 use Rattle.base_text.specs.{on_number, number_of, number_then, number_end, line_at, past_line, after_at, numbers_at}
 use Rattle.base_text.proofs.{past_end, found_end, number-end-is, numbers-ended}
 use Rattle.graph_loading.specs.declared.Literals.{Literals}
 use Rattle.graph_loading.specs.{expected_count, literals}
 use Rattle.graph_loading.proofs.{item-numbers, code, pick_kind, expected_kind_value, item_list, Short}
-use Rattle.graph_reader.specs.declared.LineRead.TheVariants.{Read as ALine, Broken as NoLine}
 use Rattle.graph_reader.specs.{one_line, and_line, line_read}
 use Rattle.graph_reader.proofs.HeaderReading.{three-is}
 
@@ -70,12 +67,12 @@ module _ (h : Header) where
 -- ---- the line at a place
 
 pub data LineView (s : List ℕ) (at : ℕ) (k : Kind) : Type 0 where
-  broken : line_read s at (code k) ≡ NoLine → item_literals (closed false) k (line_at s at) ≡ none → LineView s at k
-  whole : (l : Literals) → line_read s at (code k) ≡ ALine l → item_literals (closed false) k (line_at s at) ≡ some (item_list k l) → Short k l
+  broken : line_read s at (code k) ≡ None → item_literals (closed false) k (line_at s at) ≡ None → LineView s at k
+  whole : (l : Literals) → line_read s at (code k) ≡ Some l → item_literals (closed false) k (line_at s at) ≡ Some (item_list k l) → Short k l
       → ended (line_at s at) ≡ true → l.next ≡ past_line s at → LineView s at k
 
 one-is : (s : List ℕ) (at : ℕ) (o : Option ℕ) → found_end s at ≡ o
-    → (one_line s at ≡ on_number (number_of o (past_end s at)) (λ a c. ALine (literals a 0 0 c.at)) NoLine) × (numbers_at 0 s at ≡ on_number (number_of o (past_end s at)) (λ n c. some (n ∷ [])) none)
+    → (one_line s at ≡ on_number (number_of o (past_end s at)) (λ a c. Some (literals a 0 0 c.at)) None) × (numbers_at 0 s at ≡ on_number (number_of o (past_end s at)) (λ n c. Some (n ∷ [])) None)
 unfolding one_line numbers_at
 one-is s at o e = (rw (number-end-is s at, e), rw (number-end-is s at, e))
 
@@ -87,29 +84,29 @@ view_one : (k : Kind) (s : List ℕ) (at : ℕ) → how_many k ≡ 1 → line_re
 view_one k s at e r short = go (found_end s at) refl
   where
     go : (o : Option ℕ) → found_end s at ≡ o → LineView s at k
-    go none f = let t = one-is s at none f in broken (r ∙ t.0) (item-numbers k s at 0 e ∙ t.1)
-    go (some n) f =
-        let t = one-is s at (some n) f in let l : Literals = literals n 0 0 (past_end s at) in
+    go None f = let t = one-is s at None f in broken (r ∙ t.0) (item-numbers k s at 0 e ∙ t.1)
+    go (Some n) f =
+        let t = one-is s at (Some n) f in let l : Literals = literals n 0 0 (past_end s at) in
         let ends = numbers-ended 0 s at (n ∷ []) t.1 in
-        whole l (r ∙ t.0) (item-numbers k s at 0 e ∙ t.1 ∙ ap some (sym (short l refl refl).0)) (short l refl refl).1 ends.0 (sym (after_one s at) ∙ ends.1)
+        whole l (r ∙ t.0) (item-numbers k s at 0 e ∙ t.1 ∙ ap Some (sym (short l refl refl).0)) (short l refl refl).1 ends.0 (sym (after_one s at) ∙ ends.1)
 
-numbers-long : (k : ℕ) (s : List ℕ) (at : ℕ) (ns : List ℕ) → numbers_at k s at ≡ some ns → length ns ≡ suc k
+numbers-long : (k : ℕ) (s : List ℕ) (at : ℕ) (ns : List ℕ) → numbers_at k s at ≡ Some ns → length ns ≡ suc k
 unfolding numbers_at and_then
 numbers-long zero s at ns e = go (number_end s at) e
   where
-    go : (x : Number) → on_number x (λ n c. some (n ∷ [])) none ≡ some ns → length ns ≡ 1
-    go NoNumber q = let z : ◌≡◌ {A = ℕ} 0 1 = cc in absurd (omega arith)
-    go (Found n c) q = let i : ns ≡ n ∷ [] = cc in ap length i
+    go : (x : Option (ℕ × Cursor)) → on_number x (λ n c. Some (n ∷ [])) None ≡ Some ns → length ns ≡ 1
+    go None q = let z : ◌≡◌ {A = ℕ} 0 1 = cc in absurd (omega arith)
+    go (Some (n, c)) q = let i : ns ≡ n ∷ [] = cc in ap length i
 numbers-long (suc k) s at ns e = go (number_then s at 32) (λ c. numbers-long k s c.at) e
   where
-    one : (n : ℕ) (o : Option (List ℕ)) → ((ms : List ℕ) → o ≡ some ms → length ms ≡ suc k) → and_then o (λ ms. some (n ∷ ms)) ≡ some ns → length ns ≡ suc (suc k)
-    one n none more q = let z : ◌≡◌ {A = ℕ} 0 1 = cc in absurd (omega arith)
-    one n (some ms) more q = let i : ns ≡ n ∷ ms = cc in ap length i ∙ ap suc (more ms refl)
+    one : (n : ℕ) (o : Option (List ℕ)) → ((ms : List ℕ) → o ≡ Some ms → length ms ≡ suc k) → and_then o (λ ms. Some (n ∷ ms)) ≡ Some ns → length ns ≡ suc (suc k)
+    one n None more q = let z : ◌≡◌ {A = ℕ} 0 1 = cc in absurd (omega arith)
+    one n (Some ms) more q = let i : ns ≡ n ∷ ms = cc in ap length i ∙ ap suc (more ms refl)
 
-    go : (x : Number) → ((c : Cursor) (ms : List ℕ) → numbers_at k s c.at ≡ some ms → length ms ≡ suc k)
-        → on_number x (λ n c. and_then (numbers_at k s c.at) (λ ms. some (n ∷ ms))) none ≡ some ns → length ns ≡ suc (suc k)
-    go NoNumber more q = let z : ◌≡◌ {A = ℕ} 0 1 = cc in absurd (omega arith)
-    go (Found n c) more q = one n (numbers_at k s c.at) (more c) q
+    go : (x : Option (ℕ × Cursor)) → ((c : Cursor) (ms : List ℕ) → numbers_at k s c.at ≡ Some ms → length ms ≡ suc k)
+        → on_number x (λ n c. and_then (numbers_at k s c.at) (λ ms. Some (n ∷ ms))) None ≡ Some ns → length ns ≡ suc (suc k)
+    go None more q = let z : ◌≡◌ {A = ℕ} 0 1 = cc in absurd (omega arith)
+    go (Some (n, c)) more q = one n (numbers_at k s c.at) (more c) q
 
 three_list : (ns : List ℕ) → length ns ≡ 3 → ns ≡ get_or ns 0 0 ∷ get_or ns 1 0 ∷ get_or ns 2 0 ∷ []
 three_list [] e = absurd (omega arith)
@@ -118,7 +115,7 @@ three_list (a ∷ b ∷ []) e = absurd (omega arith)
 three_list (a ∷ b ∷ c ∷ []) e = refl
 three_list (a ∷ b ∷ c ∷ d ∷ ns) e = absurd (omega arith)
 
-three-long : (s : List ℕ) (at : ℕ) (ns : List ℕ) → numbers_at 2 s at ≡ some ns → ns ≡ get_or ns 0 0 ∷ get_or ns 1 0 ∷ get_or ns 2 0 ∷ []
+three-long : (s : List ℕ) (at : ℕ) (ns : List ℕ) → numbers_at 2 s at ≡ Some ns → ns ≡ get_or ns 0 0 ∷ get_or ns 1 0 ∷ get_or ns 2 0 ∷ []
 three-long s at ns e = three_list ns (numbers-long 2 s at ns e)
 
 view_three : (s : List ℕ) (at : ℕ) → LineView s at an_and
@@ -126,10 +123,10 @@ unfolding and_line line_read how_many
 view_three s at = go (numbers_at 2 s at) refl
   where
     go : (o : Option (List ℕ)) → numbers_at 2 s at ≡ o → LineView s at an_and
-    go none e = broken (rw (three-is s at, e)) (item-numbers an_and s at 2 refl ∙ e)
-    go (some ns) e =
+    go None e = broken (rw (three-is s at, e)) (item-numbers an_and s at 2 refl ∙ e)
+    go (Some ns) e =
         let l : Literals = literals (get_or ns 0 0) (get_or ns 1 0) (get_or ns 2 0) (after_at 2 s at) in let ends = numbers-ended 2 s at ns e in
-        whole l (rw (three-is s at, e)) (item-numbers an_and s at 2 refl ∙ e ∙ ap some (three-long s at ns e)) tt ends.0 ends.1
+        whole l (rw (three-is s at, e)) (item-numbers an_and s at 2 refl ∙ e ∙ ap Some (three-long s at ns e)) tt ends.0 ends.1
 
 read_one : (s : List ℕ) (at kind : ℕ) → eqb kind and_kind ≡ false → line_read s at kind ≡ one_line s at
 unfolding line_read

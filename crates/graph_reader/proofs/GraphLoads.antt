@@ -4,27 +4,26 @@
 --     ascii_law        both: `load_ascii` answers `read_graph`, and where that holds a graph the words hold it
 --     load_law         and so for `load`, in either form
 --     order_asks       what `graph_order::order_graph` asks is what an accepted `load` leaves
-use Rattle.base.specs.{◌≡◌, refl, sym, ap, ◌∙◌, subst, Bool, true, false, not, List, [], ◌∷◌, Memᴰ, Memᴰ-head, Memᴰ-tail, ℕ}
+use Rattle.std.specs.Prelude.{Ok, Err}
+use Rattle.model.specs.{Verdict, refused_with}
+use Rattle.base.specs.{◌≡◌, refl, sym, ap, ◌∙◌, subst, Bool, true, false, cond, not, Some, List, [], ◌∷◌, Memᴰ, Memᴰ-head, Memᴰ-tail, ℕ}
 use Rattle.base.specs.{zero, suc, ◌+◌, ◌*◌, ◌/◌, ◌≤◌, arith, eqb, length, drop}
 use Rattle.model.specs.{elem, any, all, Read, holds, fault, next, unless, verdict_of, var_of, Kind, an_input, an_output, an_and, closed, defines}
 use Rattle.model.specs.{expected, Item, read_expected, read_items, uses, defined_by, check_uses, graph_of, read_graph}
 use Rattle.model.specs.Graph.{Graph}
 use Rattle.model.specs.declared.Header.{Header}
-use Rattle.model.specs.declared.Verdict.{Verdict}
-use Rattle.model.specs.declared.Verdict.TheVariants.{Accepted, Refused}
+use Rattle.model.specs.declared.Refusal.{Refusal}
 use Rattle.base_words.specs.{undefined_kind, kind_at}
 use Rattle.base_text.proofs.{and-true}
 use Rattle.graph_order.specs.{Fit, LoadedGraph, Operands}
 use Rattle.graph_order.proofs.{fit_length, loaded_operands}
 use Rattle.graph_loading.specs.declared.Literals.{Literals}
-use Rattle.graph_loading.specs.declared.LineResult.TheVariants.{To, Refused as Stop}
-use Rattle.graph_loading.specs.{expected_code, expected_count, literals_fit, on_line_result, pick_step, stored_line, opened}
+use Rattle.graph_loading.specs.{expected_code, expected_count, literals_fit, on_result, stored_line, opened}
 use Rattle.graph_loading.proofs.{code, expected_kind_value, expected-code, Short, item_of, fit-defined, nothing, grown, more, State, state_first, lines_of}
 use Rattle.graph_loading.proofs.{fault-holds, verdict-next, next-holds, accepted-holds, Stored, stored-none, stored_more, stored-defined}
 use Rattle.graph_loading.proofs.{stored_loaded, graph_is, graph-represented}
 use Rattle.graph_binary.specs.{binary_words}
 use Rattle.graph_binary.proofs.{binary_law}
-use Rattle.graph_reader.specs.declared.LineRead.TheVariants.{Read as ALine}
 use Rattle.graph_reader.specs.{line_read, is_defined, uses_defined, words_defined, step_at, step_words, lines_verdict, lines_words, check_at}
 use Rattle.graph_reader.specs.{check_verdict, ascii_words, loaded_words}
 use Rattle.graph_reader.proofs.ExpectedGraphLines.{expected-end}
@@ -36,7 +35,7 @@ use Rattle.graph_reader.proofs.LineLoading.{Step, stops, goes, step}
 -- n expected lines from line k on, at a place: each is read, and these are their items
 pub data Again (s : List ℕ) (h : Header) : ℕ → ℕ → ℕ → List Item → Type 0 where
   done : {k at : ℕ} → Again s h 0 k at []
-  one : {n k at : ℕ} {is : List Item} (l : Literals) → line_read s at (expected_code h k) ≡ ALine l → Short (expected_kind_value h k) l → literals_fit h.size l ≡ true
+  one : {n k at : ℕ} {is : List Item} (l : Literals) → line_read s at (expected_code h k) ≡ Some l → Short (expected_kind_value h k) l → literals_fit h.size l ≡ true
       → Again s h n (k + 1) l.next is → Again s h (suc n) k at (item_of (expected_kind_value h k) at l ∷ is)
 
 -- ---- 11 to 13
@@ -66,7 +65,7 @@ module _ (s : List ℕ) (h : Header) (w₀ : List ℕ) (fit : Fit h w₀) where
       }
 
   -- one line, and those behind it
-  stopped : (n k at : ℕ) (w : List ℕ) (before : List ℕ) (g : Graph) (a b : ℕ) → step_at s at w h k ≡ Stop a b
+  stopped : (n k at : ℕ) (w : List ℕ) (before : List ℕ) (g : Graph) (a b : ℕ) → step_at s at w h k ≡ refused_with a b
       → read_expected (closed false) (length s) h.size before (drop k (expected h)) (lines_of s at) ≡ fault a b → Outcome s h w₀ (suc n) k at w before g
   unfolding lines_verdict verdict_of
   stopped n k at w before g a b t m = record {
@@ -74,13 +73,13 @@ module _ (s : List ℕ) (h : Header) (w₀ : List ℕ) (fit : Fit h w₀) where
     taken = λ is q. absurd (fault-holds (sym m ∙ q));
   }
 
-  gone : (n k at : ℕ) (w : List ℕ) (end : ℕ) (x : List ℕ) → step_at s at w h k ≡ To end → step_words s at w h k ≡ x
+  gone : (n k at : ℕ) (w : List ℕ) (end : ℕ) (x : List ℕ) → step_at s at w h k ≡ Ok end → step_words s at w h k ≡ x
       → (lines_verdict s h (suc n) k at w ≡ lines_verdict s h n (k + 1) end x) × (lines_words s h (suc n) k at w ≡ lines_words s h n (k + 1) end x)
   unfolding lines_verdict lines_words
   gone n k at w end x t u = (rw (t, u), rw (t, u))
 
   taken_more : (n k at : ℕ) (x : List ℕ) (before : List ℕ) (g : Graph) (l : Literals) (js : List Item)
-      → line_read s at (expected_code h k) ≡ ALine l → Short (expected_kind_value h k) l → literals_fit h.size l ≡ true
+      → line_read s at (expected_code h k) ≡ Some l → Short (expected_kind_value h k) l → literals_fit h.size l ≡ true
       → Taken s h w₀ n (k + 1) l.next x (more (expected_kind_value h k) before l) (grown (expected_kind_value h k) g l) js → Taken s h w₀ (suc n) k at x before g (item_of (expected_kind_value h k) at l ∷ js)
   taken_more n k at x before g l js r short f t = record { again = one l r short f t.again; stored = stored_more h w₀ n k at x before g l js t.stored }
 
@@ -132,14 +131,14 @@ module _ (s : List ℕ) (h : Header) (w : List ℕ) (defined : List ℕ) (knows 
   uses-is an_output at l e f = and-true (elem (var_of l.first) (0 ∷ defined)) ∙ defined-is l.first (fit-defined h.size l f).first
   uses-is an_and at l e f = rw (and-true, defined-is l.left (fit-defined h.size l f).left, defined-is l.right (fit-defined h.size l f).right)
 
-  check-one : (n k at : ℕ) (is : List Item) (l : Literals) → line_read s at (expected_code h k) ≡ ALine l → literals_fit h.size l ≡ true
+  check-one : (n k at : ℕ) (is : List Item) (l : Literals) → line_read s at (expected_code h k) ≡ Some l → literals_fit h.size l ≡ true
       → all (λ (x : ℕ). elem (var_of x) (0 ∷ defined)) (uses (item_of (expected_kind_value h k) at l)) ≡ uses_defined w h.size (expected_code h k) l
       → check_verdict s h n (k + 1) l.next w ≡ verdict_of (check_uses defined is)
       → check_verdict s h (suc n) k at w ≡ verdict_of (check_uses defined (item_of (expected_kind_value h k) at l ∷ is))
   unfolding check_verdict check_at check_uses verdict_of
   check-one n k at is l r f u later = rw (r, f, u) (go (uses_defined w h.size (expected_code h k) l))
     where
-      go : (t : Bool) → on_line_result (pick_step t (To l.next) (Stop 14 at)) (λ end. check_verdict s h n (k + 1) end w) Refused
+      go : (t : Bool) → on_result (cond t (Ok l.next) (refused_with 14 at)) (λ end. check_verdict s h n (k + 1) end w) Err
           ≡ verdict_of (unless t 14 at (next (check_uses defined is) (λ js. holds (item_of (expected_kind_value h k) at l ∷ js))))
       go true = later ∙ sym (verdict-next (check_uses defined is) (λ js. item_of (expected_kind_value h k) at l ∷ js)) ∙ ap verdict_of (sym (passes (next (check_uses defined is) (λ js. holds (item_of (expected_kind_value h k) at l ∷ js))) at))
       go false = ap verdict_of (sym (fails (next (check_uses defined is) (λ js. holds (item_of (expected_kind_value h k) at l ∷ js))) at))
@@ -155,7 +154,7 @@ module _ (s : List ℕ) (h : Header) (w : List ℕ) (defined : List ℕ) (knows 
 
 -- where what each line uses is defined, none is refused
 check_passes : (s : List ℕ) (h : Header) (w : List ℕ) (n k at : ℕ) (is : List Item) → Again s h n k at is
-    → ((j : Kind) (p : ℕ) (l : Literals) → Short j l → Memᴰ (item_of j p l) is → uses_defined w h.size (code j) l ≡ true) → check_verdict s h n k at w ≡ Accepted
+    → ((j : Kind) (p : ℕ) (l : Literals) → Short j l → Memᴰ (item_of j p l) is → uses_defined w h.size (code j) l ≡ true) → check_verdict s h n k at w ≡ Ok tt
 unfolding check_verdict check_at
 check_passes s h w n k at is done all_defined = refl
 check_passes s h w n k at is (one {n = n₁} {k = k₁} {at = at₁} {is = js} l r short f a) all_defined =
@@ -189,33 +188,33 @@ module _ (s : List ℕ) (h : Header) (w : List ℕ) (fit : Fit h w) (ascii : h.b
       ∙ sym (verdict-next (check_uses (defined_by is) is) (graph_of h.size))
       ∙ ap verdict_of (sym (graph_is s h ∙ rw e))
 
-  load_checked : lines_verdict s h (expected_count h) 0 h.next (opened w h.size) ≡ Accepted → check_verdict s h (expected_count h) 0 h.next words ≡ verdict_of (read_graph s h)
+  load_checked : lines_verdict s h (expected_count h) 0 h.next (opened w h.size) ≡ Ok tt → check_verdict s h (expected_count h) 0 h.next words ≡ verdict_of (read_graph s h)
   unfolding verdict_of
   load_checked e = go (read_items s h) refl (sym lines-verdict ∙ e)
     where
-      go : (r : Read (List Item)) → read_items s h ≡ r → verdict_of r ≡ Accepted → check_verdict s h (expected_count h) 0 h.next words ≡ verdict_of (read_graph s h)
+      go : (r : Read (List Item)) → read_items s h ≡ r → verdict_of r ≡ Ok tt → check_verdict s h (expected_count h) 0 h.next words ≡ verdict_of (read_graph s h)
       go (holds is) q x = checked is q
       go (fault a b) q x = let z : ◌≡◌ {A = ℕ} 0 1 = cc in absurd (omega arith)
 
   -- and none of 11 to 13 comes: the words hold what the lines say, and where all that they use is defined, 14 does not come either
-  lines-represented : lines_verdict s h (expected_count h) 0 h.next (opened w h.size) ≡ Accepted → (is : List Item) × Taken s h w (expected_count h) 0 h.next words [] (nothing h.size) is
+  lines-represented : lines_verdict s h (expected_count h) 0 h.next (opened w h.size) ≡ Ok tt → (is : List Item) × Taken s h w (expected_count h) 0 h.next words [] (nothing h.size) is
   lines-represented e = let r = accepted-holds (read_items s h) (sym lines-verdict ∙ e) in (r.0, taken r.0 r.1)
 
-  load_operands : lines_verdict s h (expected_count h) 0 h.next (opened w h.size) ≡ Accepted → Operands words h.size
+  load_operands : lines_verdict s h (expected_count h) 0 h.next (opened w h.size) ≡ Ok tt → Operands words h.size
   load_operands e =
       let t = lines-represented e in
       loaded_operands w h words (graph_of h.size t.0) (0 ∷ (graph_of h.size t.0).inputs) (stored_loaded h w words t.0 t.1.stored)
 
-  load-defined : lines_verdict s h (expected_count h) 0 h.next (opened w h.size) ≡ Accepted → words_defined words h ≡ true → Accepted ≡ check_verdict s h (expected_count h) 0 h.next words
+  load-defined : lines_verdict s h (expected_count h) 0 h.next (opened w h.size) ≡ Ok tt → words_defined words h ≡ true → (Ok tt) ≡ check_verdict s h (expected_count h) 0 h.next words
   load-defined e k =
       let t = lines-represented e in
       sym (check_passes s h words (expected_count h) 0 h.next t.0 t.1.again (line_defined h w words t.0 (stored_loaded h w words t.0 t.1.stored) k))
 
-  load-refused : (a b : ℕ) → lines_verdict s h (expected_count h) 0 h.next (opened w h.size) ≡ Refused a b → Refused a b ≡ verdict_of (read_graph s h)
+  load-refused : (p : Refusal) → lines_verdict s h (expected_count h) 0 h.next (opened w h.size) ≡ Err p → Err p ≡ verdict_of (read_graph s h)
   unfolding verdict_of next
-  load-refused a b e = go (read_items s h) refl (sym lines-verdict ∙ e)
+  load-refused p e = go (read_items s h) refl (sym lines-verdict ∙ e)
     where
-      go : (r : Read (List Item)) → read_items s h ≡ r → verdict_of r ≡ Refused a b → Refused a b ≡ verdict_of (read_graph s h)
+      go : (r : Read (List Item)) → read_items s h ≡ r → verdict_of r ≡ Err p → Err p ≡ verdict_of (read_graph s h)
       go (holds is) q x = let z : ◌≡◌ {A = ℕ} 0 1 = cc in absurd (omega arith)
       go (fault c d) q x = let f : read_graph s h ≡ fault c d = graph_is s h ∙ rw q in sym x ∙ ap verdict_of (sym f)
 
@@ -235,19 +234,19 @@ module _ (s : List ℕ) (h : Header) (w : List ℕ) (fit : Fit h w) (ascii : h.b
     unfolding ascii_words
     loaded = same-words
 
-    pub ascii-done : r ≡ Accepted → (q : Verdict) → q ≡ check_verdict s h (expected_count h) 0 h.next y → (q ≡ verdict_of (read_graph s h)) × (y ≡ ascii_words w s h)
+    pub ascii-done : r ≡ Ok tt → (q : Verdict) → q ≡ check_verdict s h (expected_count h) 0 h.next y → (q ≡ verdict_of (read_graph s h)) × (y ≡ ascii_words w s h)
     ascii-done a q e = (e ∙ ap (check_verdict s h (expected_count h) 0 h.next) same-words ∙ load_checked (same-verdict ∙ a), loaded)
 
     -- what `all_defined` asks, and its answer where all is defined
-    pub ascii_operands : r ≡ Accepted → Operands y h.size
+    pub ascii_operands : r ≡ Ok tt → Operands y h.size
     ascii_operands a = subst (λ (x : List ℕ). Operands x h.size) (sym same-words) (load_operands (same-verdict ∙ a))
 
-    pub ascii-defined : r ≡ Accepted → words_defined y h ≡ true → (Accepted ≡ verdict_of (read_graph s h)) × (y ≡ ascii_words w s h)
+    pub ascii-defined : r ≡ Ok tt → words_defined y h ≡ true → ((Ok tt) ≡ verdict_of (read_graph s h)) × (y ≡ ascii_words w s h)
     ascii-defined a k =
-        ascii-done a Accepted (load-defined (same-verdict ∙ a) (ap (λ (x : List ℕ). words_defined x h) (sym same-words) ∙ k) ∙ ap (check_verdict s h (expected_count h) 0 h.next) (sym same-words))
+        ascii-done a (Ok tt) (load-defined (same-verdict ∙ a) (ap (λ (x : List ℕ). words_defined x h) (sym same-words) ∙ k) ∙ ap (check_verdict s h (expected_count h) 0 h.next) (sym same-words))
 
-    pub ascii_stop : (a b : ℕ) → r ≡ Refused a b → (Refused a b ≡ verdict_of (read_graph s h)) × (y ≡ ascii_words w s h)
-    ascii_stop a b e = (load-refused a b (same-verdict ∙ e), loaded)
+    pub ascii_stop : (p : Refusal) → r ≡ Err p → (Err p ≡ verdict_of (read_graph s h)) × (y ≡ ascii_words w s h)
+    ascii_stop p e = (load-refused p (same-verdict ∙ e), loaded)
 
 -- ---- either form
 
@@ -269,7 +268,7 @@ module _ (w : List ℕ) (s : List ℕ) (h : Header) where
       go false q = subst (λ (x : List ℕ). LoadedGraph w h x g (0 ∷ g.inputs)) (sym (words-ascii q)) (ascii_law s h w fit q g e)
 
   -- what `place` asks is what an accepted `load` leaves in the words x
-  pub order_asks : (x : List ℕ) → Fit h w → verdict_of (read_graph s h) ≡ Accepted → x ≡ loaded_words w s h → Fit h x × Operands x h.size
+  pub order_asks : (x : List ℕ) → Fit h w → verdict_of (read_graph s h) ≡ Ok tt → x ≡ loaded_words w s h → Fit h x × Operands x h.size
   order_asks x fit e i =
       let r = accepted-holds (read_graph s h) e in let hold = load_law fit r.0 r.1 in
       (fit_length h w x fit (ap length i ∙ hold.represented.long), subst (λ (y : List ℕ). Operands y h.size) (sym i) (loaded_operands w h (loaded_words w s h) r.0 (0 ∷ r.0.inputs) hold))

@@ -4,14 +4,14 @@
 --     header-means     the header of the text's first line is what `form_at` finds
 --     header-..        and so 7, 8, 9 and 19 apply just where `header` refuses
 --     limits-..        the tests of 9, one by one
-use Rattle.base.specs.{ℕ, ◌+◌, ◌-◌, ◌≤◌, ◌<◌, arith, ◌≡◌, refl, sym, ap, ◌∙◌, Bool, true, false, cond, ◌&&◌, ◌||◌, Option, none, some, List}
+use Rattle.std.specs.Prelude.{Ok, Result}
+use Rattle.model.specs.declared.Refusal.{Refusal}
+use Rattle.base.specs.{ℕ, ◌+◌, ◌-◌, ◌≤◌, ◌<◌, arith, ◌≡◌, refl, sym, ap, ◌∙◌, Bool, true, false, cond, ◌&&◌, ◌||◌, Option, None, Some, List}
 use Rattle.base.specs.{[], ◌∷◌, eqb, ltb, leb, length, drop, get_or, le-leb, lt-leb, leb-true, leb-false, eqb-true, lt-ltb}
 use Rattle.model.specs.{and_then, only, same, Line, ended, next_of, text, lines_from, fields, number, numbers, Read, holds, fault, next}
 use Rattle.model.specs.{unless, from?, refusal_of, closed, header_of_numbers, header_of, in_limits, in_sequence, read_header, header_answer}
-use Rattle.model.specs.{header_refusal, header_values, header_numbers}
+use Rattle.model.specs.{verdict_refusal, header_values, header_numbers}
 use Rattle.model.specs.declared.Header.{Header}
-use Rattle.model.specs.declared.HeaderAnswer.{HeaderAnswer}
-use Rattle.model.specs.declared.HeaderAnswer.TheVariants.{Read as WasRead}
 use Rattle.model.proofs.{header-refusal}
 use Rattle.base_text.proofs.{and_left, and_right, and-false, and-true, past, past_end, found, found_end, number_is, number-end-is, lines_at_lem}
 use Rattle.base_text.proofs.{past-at, span-long, line-words, numbers-at}
@@ -19,14 +19,8 @@ use Rattle.base_text.specs.declared.Cursor.{Cursor}
 use Rattle.base_text.specs.declared.Span.{Span}
 use Rattle.base_text.specs.{word_at, end_at, is_byte, on_number, on_step, number_of, step_of, byte_at, number_then, number_end, line_at, past_line}
 use Rattle.base_text.specs.{span_at, words_at, seps_at, after_at, numbers_at}
-use Rattle.graph_reader.specs.declared.Tagged.{Tagged}
-use Rattle.graph_reader.specs.declared.Tagged.TheVariants.{Word, Broken as NoTag}
-use Rattle.graph_reader.specs.declared.Three.{Three}
-use Rattle.graph_reader.specs.declared.Three.TheVariants.{Numbers, Broken as NoThree}
-use Rattle.graph_reader.specs.declared.HeaderForm.{HeaderForm}
-use Rattle.graph_reader.specs.declared.HeaderForm.TheVariants.{Is, Broken as NoForm}
-use Rattle.graph_reader.specs.{three_at, on_three, on_tag, pick_tag, aag, aig, tag_behind, tag_at, header_record, numbers_form, header_ends}
-use Rattle.graph_reader.specs.{pick_form, form_at}
+use Rattle.graph_reader.specs.{three_at, on_three, on_tag, aag, aig, tag_behind, tag_at, header_record, numbers_form, header_ends}
+use Rattle.graph_reader.specs.{form_at}
 
 -- ---- the limits
 
@@ -57,68 +51,64 @@ module _ (h : Header) where
 -- ---- numbers behind each other
 
 -- what is made of three numbers and the place behind them
-abbrev pub three_of : Option (List ℕ) → ℕ → Three
-three_of none q = NoThree
-three_of (some ns) q = Numbers (get_or ns 0 0) (get_or ns 1 0) (get_or ns 2 0) (record { at = q })
+abbrev pub three_of : Option (List ℕ) → ℕ → Option (ℕ × ℕ × ℕ × Cursor)
+three_of None q = None
+three_of (Some ns) q = Some (get_or ns 0 0, get_or ns 1 0, get_or ns 2 0, record { at = q })
 
 pub three-is : (s : List ℕ) (at : ℕ) → three_at s at ≡ three_of (numbers_at 2 s at) (after_at 2 s at)
 unfolding three_at numbers_at after_at and_then
 three-is s at = rw (number_is s at 32) (go (found number s at 32))
   where
     last : (a b r : ℕ) (o : Option ℕ)
-        → on_number (number_of o r) (λ d c2. Numbers a b d c2) NoThree
-        ≡ three_of (and_then (and_then (on_number (number_of o r) (λ n c. some (n ∷ [])) none) (λ ns. some (b ∷ ns))) (λ ns. some (a ∷ ns))) r
-    last a b r none = refl
-    last a b r (some d) = refl
+        → on_number (number_of o r) (λ d c2. Some (a, b, d, c2)) None
+        ≡ three_of (and_then (and_then (on_number (number_of o r) (λ n c. Some (n ∷ [])) None) (λ ns. Some (b ∷ ns))) (λ ns. Some (a ∷ ns))) r
+    last a b r None = refl
+    last a b r (Some d) = refl
 
     second : (a r : ℕ) (o : Option ℕ)
-        → on_number (number_of o r) (λ b c1. on_number (number_end s c1.at) (λ d c2. Numbers a b d c2) NoThree) NoThree
-        ≡ three_of (and_then (on_number (number_of o r) (λ n c. and_then (on_number (number_end s c.at) (λ m d. some (m ∷ [])) none) (λ ns. some (n ∷ ns))) none) (λ ns. some (a ∷ ns))) (past_end s r)
-    second a r none = refl
-    second a r (some b) = rw (number-end-is s r) (last a b (past_end s r) (found_end s r))
+        → on_number (number_of o r) (λ b c1. on_number (number_end s c1.at) (λ d c2. Some (a, b, d, c2)) None) None
+        ≡ three_of (and_then (on_number (number_of o r) (λ n c. and_then (on_number (number_end s c.at) (λ m d. Some (m ∷ [])) None) (λ ns. Some (n ∷ ns))) None) (λ ns. Some (a ∷ ns))) (past_end s r)
+    second a r None = refl
+    second a r (Some b) = rw (number-end-is s r) (last a b (past_end s r) (found_end s r))
 
     go : (o : Option ℕ)
-        → on_number (number_of o (past s at)) (λ a c0. on_number (number_then s c0.at 32) (λ b c1. on_number (number_end s c1.at) (λ d c2. Numbers a b d c2) NoThree) NoThree) NoThree
-        ≡ three_of (on_number (number_of o (past s at)) (λ n c. and_then (on_number (number_then s c.at 32) (λ n₁ c₁. and_then (on_number (number_end s c₁.at) (λ m d. some (m ∷ [])) none) (λ ns. some (n₁ ∷ ns))) none) (λ ns. some (n ∷ ns))) none) (past_end s (past s (past s at)))
-    go none = refl
-    go (some a) = rw (number_is s (past s at) 32) (second a (past s (past s at)) (found number s (past s at) 32))
+        → on_number (number_of o (past s at)) (λ a c0. on_number (number_then s c0.at 32) (λ b c1. on_number (number_end s c1.at) (λ d c2. Some (a, b, d, c2)) None) None) None
+        ≡ three_of (on_number (number_of o (past s at)) (λ n c. and_then (on_number (number_then s c.at 32) (λ n₁ c₁. and_then (on_number (number_end s c₁.at) (λ m d. Some (m ∷ [])) None) (λ ns. Some (n₁ ∷ ns))) None) (λ ns. Some (n ∷ ns))) None) (past_end s (past s (past s at)))
+    go None = refl
+    go (Some a) = rw (number_is s (past s at) 32) (second a (past s (past s at)) (found number s (past s at) 32))
 
 -- what is made of five, in a form
-abbrev form_of : Bool → Option (List ℕ) → ℕ → HeaderForm
-form_of b none q = NoForm
-form_of b (some ns) q = Is (header_of_numbers b q ns)
+abbrev form_of : Bool → Option (List ℕ) → ℕ → Option Header
+form_of b None q = None
+form_of b (Some ns) q = Some (header_of_numbers b q ns)
 
 five-is : (s : List ℕ) (at : ℕ) (b : Bool) → numbers_form s at b ≡ form_of b (numbers_at 4 s at) (after_at 4 s at)
 unfolding numbers_form numbers_at after_at and_then header_of_numbers
 five-is s at b = rw (number_is s at 32) (go (found number s at 32))
   where
-    last : (m i r : ℕ) (o : Option (List ℕ)) → on_three (three_of o r) (λ l k a c2. Is (header_record m i l k a c2.at b)) NoForm ≡ form_of b (and_then (and_then o (λ ns. some (i ∷ ns))) (λ ns. some (m ∷ ns))) r
-    last m i r none = refl
-    last m i r (some ns) = refl
+    last : (m i r : ℕ) (o : Option (List ℕ)) → on_three (three_of o r) (λ l k a c2. Some (header_record m i l k a c2.at b)) None ≡ form_of b (and_then (and_then o (λ ns. Some (i ∷ ns))) (λ ns. Some (m ∷ ns))) r
+    last m i r None = refl
+    last m i r (Some ns) = refl
 
     second : (m r : ℕ) (o : Option ℕ)
-        → on_number (number_of o r) (λ i c1. on_three (three_at s c1.at) (λ l k a c2. Is (header_record m i l k a c2.at b)) NoForm) NoForm
-        ≡ form_of b (and_then (on_number (number_of o r) (λ n c. and_then (numbers_at 2 s c.at) (λ ns. some (n ∷ ns))) none) (λ ns. some (m ∷ ns))) (after_at 2 s r)
-    second m r none = refl
-    second m r (some i) = rw (three-is s r) (last m i (after_at 2 s r) (numbers_at 2 s r))
+        → on_number (number_of o r) (λ i c1. on_three (three_at s c1.at) (λ l k a c2. Some (header_record m i l k a c2.at b)) None) None
+        ≡ form_of b (and_then (on_number (number_of o r) (λ n c. and_then (numbers_at 2 s c.at) (λ ns. Some (n ∷ ns))) None) (λ ns. Some (m ∷ ns))) (after_at 2 s r)
+    second m r None = refl
+    second m r (Some i) = rw (three-is s r) (last m i (after_at 2 s r) (numbers_at 2 s r))
 
     go : (o : Option ℕ)
-        → on_number (number_of o (past s at)) (λ m c0. on_number (number_then s c0.at 32) (λ i c1. on_three (three_at s c1.at) (λ l k a c2. Is (header_record m i l k a c2.at b)) NoForm) NoForm) NoForm
-        ≡ form_of b (on_number (number_of o (past s at)) (λ n c. and_then (on_number (number_then s c.at 32) (λ n₁ c₁. and_then (numbers_at 2 s c₁.at) (λ ns. some (n₁ ∷ ns))) none) (λ ns. some (n ∷ ns))) none) (after_at 2 s (past s (past s at)))
-    go none = refl
-    go (some m) = rw (number_is s (past s at) 32) (second m (past s (past s at)) (found number s (past s at) 32))
+        → on_number (number_of o (past s at)) (λ m c0. on_number (number_then s c0.at 32) (λ i c1. on_three (three_at s c1.at) (λ l k a c2. Some (header_record m i l k a c2.at b)) None) None) None
+        ≡ form_of b (on_number (number_of o (past s at)) (λ n c. and_then (on_number (number_then s c.at 32) (λ n₁ c₁. and_then (numbers_at 2 s c₁.at) (λ ns. Some (n₁ ∷ ns))) None) (λ ns. Some (n ∷ ns))) None) (after_at 2 s (past s (past s at)))
+    go None = refl
+    go (Some m) = rw (number_is s (past s at) 32) (second m (past s (past s at)) (found number s (past s at) 32))
 
 -- ---- the first line
-
-unfoldable pub form_means : HeaderForm → Option Header
-form_means NoForm = none
-form_means (Is h) = some h
 
 -- what the model makes of the fields of a line that ends before a place, as a form may where `ok` says so
 abbrev of_fields : (Bool → Bool) → ℕ → List (List ℕ) → Option Header
 of_fields ok end vs =
     and_then (only (ok (same (get_or vs 0 []) aig) && (same (get_or vs 0 []) aig || same (get_or vs 0 []) aag)) (drop 1 vs)) (λ us.
-    and_then (numbers us) (λ ns. some (header_of_numbers (same (get_or vs 0 []) aig) end ns)))
+    and_then (numbers us) (λ ns. Some (header_of_numbers (same (get_or vs 0 []) aig) end ns)))
 
 -- the tests of the first word and of the line's end among the others
 tests : (e k n t : Bool) (ws : List (List ℕ)) (f : List (List ℕ) → Option Header) → and_then (only ((e && k) && (n && t)) (drop 1 ws)) f ≡ and_then (only (e && n) ws) (λ vs. and_then (only (k && t) (drop 1 ws)) f)
@@ -136,7 +126,7 @@ same-fields ok true ws end = refl
 same-fields ok false ws end = refl
 
 -- five numbers of a line that ends as its form may
-ended_form : (b t x : Bool) (ws : List (List ℕ)) (r : ℕ) → pick_form t (form_of b (and_then (only x ws) numbers) r) NoForm ≡ form_of b (and_then (only (x && t) ws) numbers) r
+ended_form : (b t x : Bool) (ws : List (List ℕ)) (r : ℕ) → cond t (form_of b (and_then (only x ws) numbers) r) None ≡ form_of b (and_then (only (x && t) ws) numbers) r
 unfolding only and_then
 ended_form b true true ws r = refl
 ended_form b true false ws r = refl
@@ -144,28 +134,28 @@ ended_form b false true ws r = refl
 ended_form b false false ws r = refl
 
 -- the first word, its space, and five numbers
-module _ (w : List ℕ) (ws : List (List ℕ)) (end behind q : ℕ) (ok : Bool → Bool) (on : Bool → Cursor → HeaderForm) where
-  abbrev tag_of : Bool → Bool → Tagged
-  tag_of x binary = on_step (step_of x q) (λ c. Word binary c) NoTag
+module _ (w : List ℕ) (ws : List (List ℕ)) (end behind q : ℕ) (ok : Bool → Bool) (on : Bool → Cursor → Option Header) where
+  abbrev tag_of : Bool → Bool → Option (Bool × Cursor)
+  tag_of x binary = on_step (step_of x q) (λ c. Some (binary, c)) None
 
-  made : (f : Bool) (o : Option (List ℕ)) → and_then o (λ ns. some (header_of_numbers f behind ns)) ≡ form_means (form_of f o behind)
-  unfolding and_then form_means
-  made f none = refl
-  made f (some ns) = refl
+  made : (f : Bool) (o : Option (List ℕ)) → and_then o (λ ns. Some (header_of_numbers f behind ns)) ≡ form_of f o behind
+  unfolding and_then
+  made f None = refl
+  made f (Some ns) = refl
 
-  made_if : (f t : Bool) → and_then (only (t && true) ws) (λ us. and_then (numbers us) (λ ns. some (header_of_numbers f behind ns))) ≡ form_means (form_of f (and_then (only t ws) numbers) behind)
-  unfolding and_then only form_means
+  made_if : (f t : Bool) → and_then (only (t && true) ws) (λ us. and_then (numbers us) (λ ns. Some (header_of_numbers f behind ns))) ≡ form_of f (and_then (only t ws) numbers) behind
+  unfolding and_then only
   made_if f true = made f (numbers ws)
   made_if f false = refl
 
   first-line : (u v b x : Bool) → same w aig ≡ u → same w aag ≡ v → ((b && x) ≡ true → end ≡ behind) → ((f : Bool) → on f (record { at = q }) ≡ form_of f (and_then (only (x && ok f) ws) numbers) behind)
-      → and_then (only (b && x) (w ∷ ws)) (of_fields ok end) ≡ form_means (on_tag (pick_tag u (tag_of b true) (pick_tag v (tag_of b false) NoTag)) on NoForm)
-  unfolding and_then only form_means
+      → and_then (only (b && x) (w ∷ ws)) (of_fields ok end) ≡ on_tag (cond u (tag_of b true) (cond v (tag_of b false) None)) on None
+  unfolding and_then only
   first-line true v false x d e h k = refl
   first-line false true false x d e h k = refl
   first-line false false false x d e h k = refl
-  first-line true v true false d e h k = sym (ap form_means (k true))
-  first-line false true true false d e h k = sym (ap form_means (k false))
+  first-line true v true false d e h k = sym (k true)
+  first-line false true true false d e h k = sym (k false)
   first-line false false true false d e h k = refl
   first-line true v true true d e h k = rw (d, k true, h refl) (made_if true (ok true))
   first-line false true true true d e h k = rw (d, e, k false, h refl) (made_if false (ok false))
@@ -210,54 +200,54 @@ module _ (s : List ℕ) where
   unfolding header_of aag aig
   fields-is ls =
       let ws = fields (line_at s 0).bytes in let first : List ℕ = get_or ws 0 [] in
-      ap (λ (e : Bool). and_then (only (e && (eqb (length ws) 6 && (same first aig || same first aag))) (drop 1 ws)) (λ vs. and_then (numbers vs) (λ ns. some (header_of_numbers (same first aig) (next_of (line_at s 0)) ns)))) (closed_is (same first aig))
-      ∙ tests (ended (line_at s 0)) (header_ends s (same first aig)) (eqb (length ws) 6) (same first aig || same first aag) ws (λ vs. and_then (numbers vs) (λ ns. some (header_of_numbers (same first aig) (next_of (line_at s 0)) ns)))
+      ap (λ (e : Bool). and_then (only (e && (eqb (length ws) 6 && (same first aig || same first aag))) (drop 1 ws)) (λ vs. and_then (numbers vs) (λ ns. Some (header_of_numbers (same first aig) (next_of (line_at s 0)) ns)))) (closed_is (same first aig))
+      ∙ tests (ended (line_at s 0)) (header_ends s (same first aig)) (eqb (length ws) 6) (same first aig || same first aag) ws (λ vs. and_then (numbers vs) (λ ns. Some (header_of_numbers (same first aig) (next_of (line_at s 0)) ns)))
       ∙ same-fields (header_ends s) (ended (line_at s 0) && eqb (length ws) 6) ws (next_of (line_at s 0))
 
-  first-is : (ls : List Line) → header_of (line_at s 0 ∷ ls) ≡ form_means (form_at s)
+  first-is : (ls : List Line) → header_of (line_at s 0 ∷ ls) ≡ form_at s
   unfolding form_at tag_at tag_behind byte_at words_at seps_at
   first-is ls =
       fields-is ls
       ∙ ap (λ (o : Option (List (List ℕ))). and_then o (of_fields (header_ends s) (next_of (line_at s 0)))) (line-words 5 s 0)
-      ∙ first-line (word_at s 0) (words_at 4 s (past s 0)) (next_of (line_at s 0)) (after_at 4 s (past s 0)) (past s 0) (header_ends s) (λ b c. pick_form (header_ends s b) (numbers_form s c.at b) NoForm)
+      ∙ first-line (word_at s 0) (words_at 4 s (past s 0)) (next_of (line_at s 0)) (after_at 4 s (past s 0)) (past s 0) (header_ends s) (λ b c. cond (header_ends s b) (numbers_form s c.at b) None)
       (same (word_at s 0) aig) (same (word_at s 0) aag) (is_byte s (end_at s 0) 32) (seps_at 4 s (past s 0)) refl refl line-end
-      (λ b. ap (λ (x : HeaderForm). pick_form (header_ends s b) x NoForm) (five-is s (past s 0) b ∙ ap (λ (o : Option (List ℕ)). form_of b o (after_at 4 s (past s 0))) (sym (numbers-at 4 s (past s 0))))
+      (λ b. ap (λ (x : Option Header). cond (header_ends s b) x None) (five-is s (past s 0) b ∙ ap (λ (o : Option (List ℕ)). form_of b o (after_at 4 s (past s 0))) (sym (numbers-at 4 s (past s 0))))
       ∙ ended_form b (header_ends s b) (seps_at 4 s (past s 0)) (words_at 4 s (past s 0)) (after_at 4 s (past s 0)))
 
-none_is : header_of (lines_from 0 [] []) ≡ form_means (form_at [])
-unfolding header_of lines_from form_at tag_at word_at aag aig text same form_means
+none_is : header_of (lines_from 0 [] []) ≡ form_at []
+unfolding header_of lines_from form_at tag_at word_at aag aig text same
 none_is = refl
 
-pub header-means : (s : List ℕ) → header_of (lines_from 0 [] s) ≡ form_means (form_at s)
+pub header-means : (s : List ℕ) → header_of (lines_from 0 [] s) ≡ form_at s
 header-means [] = none_is
 header-means (b ∷ s) = ap header_of (lines_at_lem (b ∷ s) 0 (omega arith)) ∙ first-is (b ∷ s) (cond (ended (line_at (b ∷ s) 0)) (lines_from (past_line (b ∷ s) 0) [] (drop (past_line (b ∷ s) 0) (b ∷ s))) [])
 
 -- ---- 7, 8, 9 and 19
 
 module _ (s : List ℕ) where
-  read_is : read_header s ≡ next (from? (form_means (form_at s)) 7 0) (λ h. unless (eqb h.latches 0) 8 0 (unless (in_limits h) 9 0 (unless (in_sequence h) 19 0 (holds h))))
+  read_is : read_header s ≡ next (from? (form_at s) 7 0) (λ h. unless (eqb h.latches 0) 8 0 (unless (in_limits h) 9 0 (unless (in_sequence h) 19 0 (holds h))))
   unfolding read_header
   read_is = rw (header-means s)
 
-  pub header-broken : form_at s ≡ NoForm → read_header s ≡ fault 7 0
-  unfolding next from? form_means
+  pub header-broken : form_at s ≡ None → read_header s ≡ fault 7 0
+  unfolding next from?
   header-broken e = read_is ∙ rw e
 
-  module _ (h : Header) (e : form_at s ≡ Is h) where
+  module _ (h : Header) (e : form_at s ≡ Some h) where
     pub header_latches : eqb h.latches 0 ≡ false → read_header s ≡ fault 8 0
-    unfolding next from? form_means unless
+    unfolding next from? unless
     header_latches f = read_is ∙ rw (e, f)
 
     pub header_limits : eqb h.latches 0 ≡ true → in_limits h ≡ false → read_header s ≡ fault 9 0
-    unfolding next from? form_means unless
+    unfolding next from? unless
     header_limits f l = read_is ∙ rw (e, f, l)
 
     pub header_sequence : eqb h.latches 0 ≡ true → in_limits h ≡ true → in_sequence h ≡ false → read_header s ≡ fault 19 0
-    unfolding next from? form_means unless
+    unfolding next from? unless
     header_sequence f l q = read_is ∙ rw (e, f, l, q)
 
     pub header-good : eqb h.latches 0 ≡ true → in_limits h ≡ true → in_sequence h ≡ true → read_header s ≡ holds h
-    unfolding next from? form_means unless
+    unfolding next from? unless
     header-good f l q = read_is ∙ rw (e, f, l, q)
 
 -- what 9 leaves: I + A is in range
@@ -270,12 +260,12 @@ limits_sum h e =
     omega arith
 
 -- what `header` ensures is its answer, by case, number and values
-pub header_told : (s : List ℕ) (r : HeaderAnswer) → r ≡ header_answer (read_header s)
-    → (r ≡ header_answer (read_header s)) × ((header_refusal r ≡ refusal_of (read_header s)) × (header_values r ≡ header_numbers (read_header s)))
+pub header_told : (s : List ℕ) (r : (Result Header Refusal)) → r ≡ header_answer (read_header s)
+    → (r ≡ header_answer (read_header s)) × ((verdict_refusal r ≡ refusal_of (read_header s)) × (header_values r ≡ header_numbers (read_header s)))
 header_told s r e = let t = header-refusal r (read_header s) e in (t.0, (t.1, t.2))
 
 -- a header that is answered is the text's
-pub header_read_lem : (r : Read Header) (h : Header) → header_answer r ≡ WasRead h → r ≡ holds h
+pub header_read_lem : (r : Read Header) (h : Header) → header_answer r ≡ Ok h → r ≡ holds h
 unfolding header_answer
 header_read_lem (holds k) h e = let i : k ≡ h = cc in ap holds i
 header_read_lem (fault n k) h e = let z : ◌≡◌ {A = ℕ} 0 1 = cc in absurd (omega arith)

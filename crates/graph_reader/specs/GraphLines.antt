@@ -1,44 +1,31 @@
 -- What each reader of a line finds at a place of the text, composed of what the readers of the crate text find.
-use Rattle.std.specs.Prelude.{◌+◌, ◌*◌, ◌/◌, ◌&&◌, ◌||◌}
-use Rattle.base.specs.{ℕ, Bool, true, false, not, List, eqb, leb}
-use Rattle.model.specs.{all, below, same, text, ended_by_ten}
+use Rattle.std.specs.Prelude.{◌+◌, ◌*◌, ◌/◌, ◌&&◌, ◌||◌, Result, Ok}
+use Rattle.base.specs.{ℕ, Bool, true, false, cond, not, Option, None, Some, List, eqb, leb}
+use Rattle.model.specs.{all, below, same, text, ended_by_ten, refused_with}
 use Rattle.model.specs.declared.Header.{Header}
+use Rattle.model.specs.declared.Refusal.{Refusal}
 use Rattle.base_words.specs.{undefined_kind, and_kind, kind_at, left_at, right_at, output_at}
 use Rattle.base_text.specs.declared.Cursor.{Cursor}
 use Rattle.base_text.specs.{word_at, end_at, on_number, on_step, number_then, number_end, byte_at, pick_bool, line_at}
 use Rattle.graph_loading.specs.declared.Literals.{Literals}
 use Rattle.graph_loading.specs.{literals, literals_fit, may_define, is_already_defined}
-use Rattle.graph_reader.specs.declared.LineRead.{LineRead}
-use Rattle.graph_reader.specs.declared.LineRead.TheVariants.{Read as ALine, Broken as NoLine}
-use Rattle.graph_reader.specs.declared.Validated.{Validated}
-use Rattle.graph_reader.specs.declared.Validated.TheVariants.{Good, Bad}
-use Rattle.graph_reader.specs.declared.Tagged.{Tagged}
-use Rattle.graph_reader.specs.declared.Tagged.TheVariants.{Word, Broken as NoTag}
-use Rattle.graph_reader.specs.declared.Three.{Three}
-use Rattle.graph_reader.specs.declared.Three.TheVariants.{Numbers, Broken as NoThree}
-use Rattle.graph_reader.specs.declared.HeaderForm.{HeaderForm}
-use Rattle.graph_reader.specs.declared.HeaderForm.TheVariants.{Is, Broken as NoForm}
 
 -- ---- the header
 
 -- three numbers, the last at the end of its line
-unfoldable pub three_at : List ℕ → ℕ → Three
+unfoldable pub three_at : List ℕ → ℕ → Option (ℕ × ℕ × ℕ × Cursor)
 three_at s at =
     on_number (number_then s at 32) (λ a c0.
     on_number (number_then s c0.at 32) (λ b c1.
-    on_number (number_end s c1.at) (λ d c2. Numbers a b d c2) NoThree) NoThree) NoThree
+    on_number (number_end s c1.at) (λ d c2. Some (a, b, d, c2)) None) None) None
 
-abbrev pub on_three : {A : Type 0} → Three → (ℕ → ℕ → ℕ → Cursor → A) → A → A
-on_three (Numbers a b d c) f e = f a b d c
-on_three NoThree f e = e
+abbrev pub on_three : {A : Type 0} → Option (ℕ × ℕ × ℕ × Cursor) → (ℕ → ℕ → ℕ → Cursor → A) → A → A
+on_three (Some (a, b, d, c)) f e = f a b d c
+on_three None f e = e
 
-abbrev pub pick_tag : Bool → Tagged → Tagged → Tagged
-pick_tag true a b = a
-pick_tag false a b = b
-
-abbrev pub on_tag : {A : Type 0} → Tagged → (Bool → Cursor → A) → A → A
-on_tag (Word binary c) f e = f binary c
-on_tag NoTag f e = e
+abbrev pub on_tag : {A : Type 0} → Option (Bool × Cursor) → (Bool → Cursor → A) → A → A
+on_tag (Some (binary, c)) f e = f binary c
+on_tag None f e = e
 
 unfoldable pub aag : List ℕ
 unfolding text
@@ -49,65 +36,50 @@ unfolding text
 aig = text "aig"
 
 -- the space behind the first word, which ends at a place
-unfoldable pub tag_behind : List ℕ → ℕ → Bool → Tagged
-tag_behind s end binary = on_step (byte_at s end 32) (λ c. Word binary c) NoTag
+unfoldable pub tag_behind : List ℕ → ℕ → Bool → Option (Bool × Cursor)
+tag_behind s end binary = on_step (byte_at s end 32) (λ c. Some (binary, c)) None
 
-unfoldable pub tag_at : List ℕ → Tagged
-tag_at s = pick_tag (same (word_at s 0) aig) (tag_behind s (end_at s 0) true) (pick_tag (same (word_at s 0) aag) (tag_behind s (end_at s 0) false) NoTag)
+unfoldable pub tag_at : List ℕ → Option (Bool × Cursor)
+tag_at s = cond (same (word_at s 0) aig) (tag_behind s (end_at s 0) true) (cond (same (word_at s 0) aag) (tag_behind s (end_at s 0) false) None)
 
 abbrev pub header_record : ℕ → ℕ → ℕ → ℕ → ℕ → ℕ → Bool → Header
 header_record size inputs latches outputs ands end binary =
     record { size = size; inputs = inputs; latches = latches; outputs = outputs; ands = ands; next = end; binary = binary }
 
-unfoldable pub numbers_form : List ℕ → ℕ → Bool → HeaderForm
+unfoldable pub numbers_form : List ℕ → ℕ → Bool → Option Header
 numbers_form s at binary =
     on_number (number_then s at 32) (λ m c0.
     on_number (number_then s c0.at 32) (λ i c1.
-    on_three (three_at s c1.at) (λ l o a c2. Is (header_record m i l o a c2.at binary)) NoForm) NoForm) NoForm
+    on_three (three_at s c1.at) (λ l o a c2. Some (header_record m i l o a c2.at binary)) None) None) None
 
 -- the first line ends as a header of the form may: in the binary form byte 10 alone is a line's end
 unfoldable pub header_ends : List ℕ → Bool → Bool
 header_ends s binary = pick_bool binary (ended_by_ten (line_at s 0)) true
 
-abbrev pub pick_form : Bool → HeaderForm → HeaderForm → HeaderForm
-pick_form true a b = a
-pick_form false a b = b
-
-unfoldable pub form_at : List ℕ → HeaderForm
-form_at s = on_tag (tag_at s) (λ binary c. pick_form (header_ends s binary) (numbers_form s c.at binary) NoForm) NoForm
+unfoldable pub form_at : List ℕ → Option Header
+form_at s = on_tag (tag_at s) (λ binary c. cond (header_ends s binary) (numbers_form s c.at binary) None) None
 
 -- ---- the expected lines
 
-abbrev pub as_line : ℕ → ℕ → ℕ → ℕ → LineRead
-as_line a l r end = ALine (literals a l r end)
+unfoldable pub one_line : List ℕ → ℕ → Option Literals
+one_line s at = on_number (number_end s at) (λ a c. Some (literals a 0 0 c.at)) None
 
-unfoldable pub one_line : List ℕ → ℕ → LineRead
-one_line s at = on_number (number_end s at) (λ a c. as_line a 0 0 c.at) NoLine
+unfoldable pub and_line : List ℕ → ℕ → Option Literals
+and_line s at = on_three (three_at s at) (λ a l r c. Some (literals a l r c.at)) None
 
-unfoldable pub and_line : List ℕ → ℕ → LineRead
-and_line s at = on_three (three_at s at) (λ a l r c. as_line a l r c.at) NoLine
+unfoldable pub line_read : List ℕ → ℕ → ℕ → Option Literals
+line_read s at kind = cond (eqb kind and_kind) (and_line s at) (one_line s at)
 
-abbrev pub pick_line : Bool → LineRead → LineRead → LineRead
-pick_line true a b = a
-pick_line false a b = b
-
-unfoldable pub line_read : List ℕ → ℕ → ℕ → LineRead
-line_read s at kind = pick_line (eqb kind and_kind) (and_line s at) (one_line s at)
-
-abbrev pub on_line : {A : Type 0} → LineRead → (Literals → A) → A → A
-on_line (ALine l) f e = f l
-on_line NoLine f e = e
-
-abbrev pub pick_validated : Bool → Validated → Validated → Validated
-pick_validated true a b = a
-pick_validated false a b = b
+abbrev pub on_line : {A : Type 0} → Option Literals → (Literals → A) → A → A
+on_line (Some l) f e = f l
+on_line None f e = e
 
 -- 11, 12 and 13 in this order
-unfoldable pub validated_at : List ℕ → ℕ → List ℕ → ℕ → ℕ → Validated
+unfoldable pub validated_at : List ℕ → ℕ → List ℕ → ℕ → ℕ → Result Literals Refusal
 validated_at s at w m kind =
     on_line (line_read s at kind) (λ l.
-    pick_validated (literals_fit m l && may_define kind l.first)
-    (pick_validated (is_already_defined w m kind l.first) (Bad 13) (Good l)) (Bad 12)) (Bad 11)
+    cond (literals_fit m l && may_define kind l.first)
+    (cond (is_already_defined w m kind l.first) (refused_with 13 at) (Ok l)) (refused_with 12 at)) (refused_with 11 at)
 
 -- a literal's variable is defined
 unfoldable pub is_defined : List ℕ → ℕ → ℕ → Bool

@@ -5,9 +5,6 @@
 ghost use Rattle.std.specs.Prelude.{◌≡◌};
 ghost use Rattle.base.specs.{length};
 
-use model::Two;
-use program_files::Loaded;
-
 // "It lends 32,768 words and 65,536 bytes": so many bytes to each channel.
 fn map_files<R: Print + Eprint>(
     rt: &R,
@@ -22,11 +19,9 @@ fn map_files<R: Print + Eprint>(
 )
     requires { (length work.old ≡ 32768) × (length t1.old ≡ 65536) × (length t2.old ≡ 65536) }
 {
-    let r: Two = mapper_two::map_two(cells, g1, a1, g2, a2, false, work, t1, t2);
-    let first = r.first;
-    let second = r.second;
-    program_folder::show(rt, "map_two", first, t1);
-    program_folder::show(rt, "map_two", second, t2);
+    let r = mapper_two::map_two(cells, g1, a1, g2, a2, false, work, t1, t2);
+    program_folder::show(rt, "map_two", r.first, t1);
+    program_folder::show(rt, "map_two", r.second, t2);
 }
 
 // Where a file cannot be read, which `load` has said, nothing is printed.
@@ -39,16 +34,21 @@ fn main(rt: HostRuntime) {
     let mut work = [0u16; 32768];
     let mut text1 = [0u8; 65536];
     let mut text2 = [0u8; 65536];
-    let cells_read = program_files::load(&rt, "map_two", "cells.txt", &mut cells);
-    let Loaded::Bytes(n) = cells_read else { return };
-    let g1_read = program_files::load(&rt, "map_two", "graph1.aag", &mut graph1);
-    let Loaded::Bytes(g1) = g1_read else { return };
-    let a1_read = program_files::load(&rt, "map_two", "arrivals1.txt", &mut arrivals1);
-    let Loaded::Bytes(a1) = a1_read else { return };
-    let g2_read = program_files::load(&rt, "map_two", "graph2.aag", &mut graph2);
-    let Loaded::Bytes(g2) = g2_read else { return };
-    let a2_read = program_files::load(&rt, "map_two", "arrivals2.txt", &mut arrivals2);
-    let Loaded::Bytes(a2) = a2_read else { return };
+    let Ok(n) = program_files::load(&rt, "map_two", "cells.txt", &mut cells) else {
+        return
+    };
+    let Ok(g1) = program_files::load(&rt, "map_two", "graph1.aag", &mut graph1) else {
+        return
+    };
+    let Ok(a1) = program_files::load(&rt, "map_two", "arrivals1.txt", &mut arrivals1) else {
+        return
+    };
+    let Ok(g2) = program_files::load(&rt, "map_two", "graph2.aag", &mut graph2) else {
+        return
+    };
+    let Ok(a2) = program_files::load(&rt, "map_two", "arrivals2.txt", &mut arrivals2) else {
+        return
+    };
     map_files(
         &rt,
         &cells[..n],

@@ -2,8 +2,7 @@
 --     memory-alone                what a call promises of memory leaves nothing open
 --     store_unseen                the call on the words of the former store: the same answer and text, and of the words the former store of what is left
 use Rattle.base.specs.{◌≡◌, refl, sym, ap, ◌∙◌, subst, Bool, true, false, cond, List, ℕ, length, replicate}
-use Rattle.model.specs.declared.Answer.{Answer}
-use Rattle.model.specs.{Outcome, refused, mapped, Call, call_of, map_texts, work_after, tried_early, Memory}
+use Rattle.model.specs.{Outcome, refused, mapped, Call, call_of, map_texts, work_after, tried_early, Memory, Answer}
 use Rattle.base_words.specs.{zeros}
 use Rattle.base_words.proofs.{former, former-length, former-zeros}
 

@@ -1,6 +1,7 @@
 -- From the cuts to the marked phases: what the choice and the marking leave is what the writer asks.
+use Rattle.std.specs.Prelude.{Ok}
 use Rattle.base.specs.{ℕ, ◌/◌, ◌≤◌, arith, ◌≡◌, refl, sym, ◌∙◌, ap, subst, Bool, true, false, List, [], ◌∷◌, inr, length}
-use Rattle.model.specs.{refused_at, first_of, cells_of, topological_order, absent, chosen, refused, mapped, cover_verdict, uncovered, printed}
+use Rattle.model.specs.{refused_at, first_of, cells_of, topological_order, absent, chosen, refused, mapped, cover_verdict, uncovered, printed, refused_with}
 use Rattle.model.specs.{map_chosen, Allowed, followed, choice_text, choice_figures, printed_text, within}
 use Rattle.model.specs.Graph.{Graph}
 use Rattle.model.specs.declared.Library.{Library}
@@ -8,7 +9,7 @@ use Rattle.model.specs.declared.Header.{Header}
 use Rattle.model.specs.declared.Phase.{Phase}
 use Rattle.model.specs.declared.Source.{Source}
 use Rattle.model.specs.declared.Source.TheVariants.{Input, Cell as Matched, Inverter as Inverted, Nothing}
-use Rattle.model.specs.declared.Verdict.TheVariants.{Accepted, Refused}
+use Rattle.model.proofs.{refusal_parts}
 use Rattle.theory_graph.proofs.{order-once}
 use Rattle.theory_cover.proofs.{chosen_fine}
 use Rattle.theory_text.proofs.{outputs_present}
@@ -25,12 +26,12 @@ use Rattle.mapper.proofs.LibraryBounds.{all-matchable, all-few}
 use Rattle.mapper.proofs.StageStates.{none_first}
 
 -- what 17 says
-pub all-covered : (lib : Library) (ids : List ℕ) (g : Graph) → cover_verdict (all_of lib ids) g ≡ Accepted → uncovered (chosen (all_of lib ids) g) 0 g.outputs ≡ []
+pub all-covered : (lib : Library) (ids : List ℕ) (g : Graph) → cover_verdict (all_of lib ids) g ≡ Ok tt → uncovered (chosen (all_of lib ids) g) 0 g.outputs ≡ []
 unfolding cover_verdict
 all-covered lib ids g e = none_first 17 (uncovered (chosen (all_of lib ids) g) 0 g.outputs) e
 
 -- from 17 on, the outcome is the choice's netlist
-pub cut-printed : (ranged : Bool) (lib : Library) (ids : List ℕ) (g : Graph) (bytes : ℕ) → cover_verdict (all_of lib ids) g ≡ Accepted → cut_for ranged lib ids g bytes ≡ printed_for ranged lib ids g bytes
+pub cut-printed : (ranged : Bool) (lib : Library) (ids : List ℕ) (g : Graph) (bytes : ℕ) → cover_verdict (all_of lib ids) g ≡ Ok tt → cut_for ranged lib ids g bytes ≡ printed_for ranged lib ids g bytes
 unfolding map_chosen printed chosen followed
 cut-printed ranged lib ids g bytes e =
     ap (λ (us : List ℕ). within bytes (followed ranged (all_of lib ids) g (printed (cells_of lib) (all_of lib ids) g (chosen (all_of lib ids) g) us))) (all-covered lib ids g e) ∙ ap (within bytes) (go ranged)
@@ -39,13 +40,13 @@ cut-printed ranged lib ids g bytes e =
     go true = refl
     go false = refl
 
-pub cut-refused : (ranged : Bool) (lib : Library) (ids : List ℕ) (g : Graph) (bytes n k : ℕ) → cover_verdict (all_of lib ids) g ≡ Refused n k → cut_for ranged lib ids g bytes ≡ refused n k
+pub cut-refused : (ranged : Bool) (lib : Library) (ids : List ℕ) (g : Graph) (bytes n k : ℕ) → cover_verdict (all_of lib ids) g ≡ refused_with n k → cut_for ranged lib ids g bytes ≡ refused n k
 unfolding map_chosen printed chosen cover_verdict refused_at first_of within followed
 cut-refused ranged lib ids g bytes n k e = go (uncovered (chosen (all_of lib ids) g) 0 g.outputs) e
   where
-    go : (us : List ℕ) → refused_at 17 (first_of us) ≡ Refused n k → within bytes (followed ranged (all_of lib ids) g (printed (cells_of lib) (all_of lib ids) g (chosen (all_of lib ids) g) us)) ≡ refused n k
+    go : (us : List ℕ) → refused_at 17 (first_of us) ≡ refused_with n k → within bytes (followed ranged (all_of lib ids) g (printed (cells_of lib) (all_of lib ids) g (chosen (all_of lib ids) g) us)) ≡ refused n k
     go [] q = absurd (let z : ◌≡◌ {A = ℕ} 0 1 = cc in omega arith)
-    go (u ∷ us) q = let a : ◌≡◌ {A = ℕ} 17 n = cc in let b : u ≡ k = cc in (λ i. refused (a i) (b i))
+    go (u ∷ us) q = let s = refusal_parts q in (λ i. refused (s.0 i) (s.1 i))
 
 module _ (w : List ℕ) (lib : Library) (ids : List ℕ) (h : Header) (g : Graph) (c : Cut w lib ids h g) where
   mid : List ℕ
@@ -73,7 +74,7 @@ module _ (w : List ℕ) (lib : Library) (ids : List ℕ) (h : Header) (g : Graph
   unfolding end
   left = mark_law mid (all_of lib ids) h g c.given.header from.covered none_needed
 
-  pub marked-mapped : cover_verdict (all_of lib ids) g ≡ Accepted
+  pub marked-mapped : cover_verdict (all_of lib ids) g ≡ Ok tt
       → Mapped (marked (all_of lib ids) (chosen_up (all_of lib ids) w h.size (ordered_count h)) h.size h.outputs (ordered_count h)) lib ids h g
   unfolding mid end
   marked-mapped e = record {

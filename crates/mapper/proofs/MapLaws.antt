@@ -1,13 +1,13 @@
 -- The whole call: refusal 1, the library's, and what comes behind; the demands.
+use Rattle.std.specs.Prelude.{Ok, Result}
+use Rattle.model.specs.{Answer, refused_with}
+use Rattle.model.specs.declared.Library.{Library}
+use Rattle.model.specs.declared.Refusal.{Refusal}
 use Rattle.base.specs.{ℕ, ◌≤◌, arith, ◌≡◌, refl, sym, ◌∙◌, ap, subst, Bool, true, false, ◌&&◌, List, T, leb, leb→le, le→leb, length}
 use Rattle.model.specs.{Read, holds, fault, next, unless, cells_of, library_of, library_answer, read_library, is_ranged, cells_for, Call, call_of}
 use Rattle.model.specs.{Design, short, map_design, read_listed, read_texts, map_texts, returned, Memory}
 use Rattle.model.specs.declared.Cell.{Cell}
-use Rattle.model.specs.declared.LibraryAnswer.{LibraryAnswer}
-use Rattle.model.specs.declared.Verdict.TheVariants.{Accepted, Refused}
-use Rattle.model.specs.declared.Answer.{Answer}
-use Rattle.model.specs.declared.Answer.TheVariants.{Refused as Permuted}
-use Rattle.model.proofs.{answer-returns}
+use Rattle.model.proofs.{answer-returns, refusal_parts}
 use Rattle.promises.specs.{Fits, Mapping}
 use Rattle.theory_demands.proofs.{promised}
 use Rattle.mapper.specs.{Left, LibraryRead, headed_of, library_for}
@@ -58,10 +58,10 @@ module _ (paired : Bool) (library graph arrivals work text : List ℕ) where
   unfolding read_texts read_listed behind listing headed
   texts_are = refl
 
-  one : short call ≡ false → Memory call work text (Permuted 1 0) work text
+  one : short call ≡ false → Memory call work text (refused_with 1 0) work text
   unfolding map_texts map_design unless
   one e =
-      memory_of call work text (Permuted 1 0) work text
+      memory_of call work text (refused_with 1 0) work text
       (left_as (ap (λ (r : Read Design). map_design (length text) r) (texts_are ∙ ap (λ (b : Bool). unless b 1 0 behind) e)) (left-early 1 0 work text refl))
 
   -- "A text is longer than 65,536 bytes": any of three
@@ -71,7 +71,7 @@ module _ (paired : Bool) (library graph arrivals work text : List ℕ) where
   short-not true false c y = refl
   short-not false b c y = refl
 
-  pub long-text : (length library ≤ 65536 → length graph ≤ 65536 → length arrivals ≤ 65536 → ⊥) → Memory call work text (Permuted 1 0) work text
+  pub long-text : (length library ≤ 65536 → length graph ≤ 65536 → length arrivals ≤ 65536 → ⊥) → Memory call work text (refused_with 1 0) work text
   long-text l =
       one (short-not (leb (length library) 65536) (leb (length graph) 65536) (leb (length arrivals) 65536)
       (λ x y z. l (leb→le (length library) 65536 x) (leb→le (length graph) 65536 y) (leb→le (length arrivals) 65536 z)))
@@ -90,36 +90,36 @@ module _ (paired : Bool) (library graph arrivals work text : List ℕ) where
         go true false c x y z = absurd y
         go false b c x y z = absurd x
 
-    module _ (l : LibraryAnswer) (answered : l ≡ library_answer (read_library library)) where
+    module _ (l : Result Library Refusal) (answered : l ≡ library_answer (read_library library)) where
       -- 2 to 6 and 27
-      pub library-stops : (n k : ℕ) → l.verdict ≡ Refused n k → Memory call work text (Permuted n k) work text
+      pub library-stops : (n k : ℕ) → l ≡ refused_with n k → Memory call work text (refused_with n k) work text
       unfolding library_answer behind listing next map_design
-      library-stops n k e = go (read_library library) refl (sym (ap (λ (x : LibraryAnswer). x.verdict) answered) ∙ e)
+      library-stops n k e = go (read_library library) refl (sym answered ∙ e)
         where
-          go : (r : Read (List Cell)) → read_library library ≡ r → (library_answer r).verdict ≡ Refused n k → Memory call work text (Permuted n k) work text
+          go : (r : Read (List Cell)) → read_library library ≡ r → library_answer r ≡ refused_with n k → Memory call work text (refused_with n k) work text
           go (holds cs) q z = absurd (let x : ◌≡◌ {A = ℕ} 0 1 = cc in omega arith)
           go (fault m j) q z =
-              let x : m ≡ n = cc in let y : j ≡ k = cc in
+              let x = (refusal_parts z).0 in let y = (refusal_parts z).1 in
               let f : read_library library ≡ fault n k = q ∙ (λ i. fault (x i) (y i)) in
-              memory_of call work text (Permuted n k) work text
+              memory_of call work text (refused_with n k) work text
               (left_as (entered ∙ ap (λ (r : Read (List Cell)). map_design (length text) (listing r)) f)
               (left-early n k work text ((library-early library).has n k f)))
 
-      pub record IsRead : Type 0 where
-        pub ok : LibraryRead l.library
-        pub goes : map_texts call ≡ library_for paired (is_ranged library) l.library graph arrivals (length work) (length text)
+      pub record IsRead (lib : Library) : Type 0 where
+        pub ok : LibraryRead lib
+        pub goes : map_texts call ≡ library_for paired (is_ranged library) lib graph arrivals (length work) (length text)
 
-      pub library-heard : l.verdict ≡ Accepted → IsRead
+      pub library-heard : (lib : Library) → l ≡ Ok lib → IsRead lib
       unfolding library_answer behind listing headed library_for next
-      library-heard e = go (read_library library) refl (sym (ap (λ (x : LibraryAnswer). x.verdict) answered) ∙ e)
+      library-heard lib e = go (read_library library) refl (sym answered ∙ e)
         where
-          go : (r : Read (List Cell)) → read_library library ≡ r → (library_answer r).verdict ≡ Accepted → IsRead
+          go : (r : Read (List Cell)) → read_library library ≡ r → library_answer r ≡ Ok lib → IsRead lib
           go (fault m j) q z = absurd (let x : ◌≡◌ {A = ℕ} 0 1 = cc in omega arith)
           go (holds cs) q z =
-              let is : l.library ≡ library_of cs = ap (λ (x : LibraryAnswer). x.library) (answered ∙ ap library_answer q) in
+              let is : lib ≡ library_of cs = cc in
               let same : cells_of (library_of cs) ≡ cs = cells-back cs in
               record {
                 ok = subst LibraryRead (sym is) (library-read library cs q);
                 goes = entered ∙ ap (λ (r : Read (List Cell)). map_design (length text) (listing r)) (q ∙ ap holds (sym (ap cells_of is ∙ same)))
-                    ∙ ap (map_design (length text)) (unless-next (leb (length (cells_for paired (cells_of l.library))) 256) 30 0 (cells_of l.library) headed);
+                    ∙ ap (map_design (length text)) (unless-next (leb (length (cells_for paired (cells_of lib))) 256) 30 0 (cells_of lib) headed);
               }

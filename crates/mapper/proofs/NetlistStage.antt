@@ -1,18 +1,18 @@
 -- The last step: the netlist is measured, and then written or refused by 18.
+use Rattle.std.specs.Prelude.{Ok}
 use Rattle.base.specs.{ℕ, ◌+◌, ◌≤◌, ◌<◌, arith, ◌≡◌, refl, sym, ◌∙◌, ap, ap₂, subst, Bool, true, false, cond, List, ◌++◌, append_assoc, T}
 use Rattle.base.specs.{leb, leb→le, le→leb, length, take, drop, length-append, take-append_seam, drop-append-add, drop-drop}
-use Rattle.model.specs.{cells_of, Outcome, refused, mapped, chosen, min_arrival_of, timing_lines, within, answer_of, text_after, choice_text}
+use Rattle.model.specs.{cells_of, Outcome, refused, mapped, chosen, min_arrival_of, timing_lines, within, answer_of, text_after, choice_text, refused_with}
 use Rattle.model.specs.{choice_figures}
 use Rattle.model.specs.Graph.{Graph}
 use Rattle.model.specs.declared.Library.{Library}
 use Rattle.model.specs.declared.Figures.{Figures}
-use Rattle.model.specs.declared.Answer.TheVariants.{Mapped, Refused}
 use Rattle.base_words.specs.{put_at}
 use Rattle.net_writer.specs.{text_for, measured_for}
-use Rattle.net_writer.specs.declared.Measured.{Measured}
+use Rattle.model.specs.declared.Mapped.{Mapped as Measured}
 use Rattle.mapper.specs.{all_of, Answered, printed_for}
 
-pub answered-refused : (n k : ℕ) (text : List ℕ) → Answered (refused n k) text (Refused n k) text
+pub answered-refused : (n k : ℕ) (text : List ℕ) → Answered (refused n k) text (refused_with n k) text
 unfolding answer_of text_after
 answered-refused n k text = record { answers = refl; bytes = refl }
 
@@ -40,10 +40,10 @@ module _ (lib : Library) (ids : List ℕ) (g : Graph) (text : List ℕ) (m : Mea
   unfolding t
   long = ap (λ (x : Measured). x.length) is
 
-  pub print_short : length text < m.length → Answered (printed_for false lib ids g (length text)) text (Refused 18 m.length) text
+  pub print_short : length text < m.length → Answered (printed_for false lib ids g (length text)) text (refused_with 18 m.length) text
   unfolding t
   print_short h =
-      subst (λ (o : Outcome). Answered o text (Refused 18 m.length) text)
+      subst (λ (o : Outcome). Answered o text (refused_with 18 m.length) text)
       (ap (refused 18) long ∙ sym (within-not (length text) t (choice_figures (cells_of lib) (all_of lib ids) g) (omega (arith, long))))
       (answered-refused 18 m.length text)
 
@@ -52,12 +52,12 @@ module _ (lib : Library) (ids : List ℕ) (g : Graph) (text : List ℕ) (m : Mea
   print_capacity h = omega (arith, long, ap (λ (x : Measured). length (text_for lib ids g x.figures)) is)
 
   pub print_done : m.length ≤ length text → (out : List ℕ) → out ≡ text_for lib ids g m.figures ++ drop (length (text_for lib ids g m.figures)) text
-      → Answered (printed_for false lib ids g (length text)) text (Mapped m.length m.figures) out
+      → Answered (printed_for false lib ids g (length text)) text (Ok (record { length = m.length; figures = m.figures })) out
   unfolding t answer_of text_after
   print_done h out e =
-      subst (λ (o : Outcome). Answered o text (Mapped m.length m.figures) out) (sym (within-is (length text) t (choice_figures (cells_of lib) (all_of lib ids) g) (omega (arith, long))))
+      subst (λ (o : Outcome). Answered o text (Ok (record { length = m.length; figures = m.figures })) out) (sym (within-is (length text) t (choice_figures (cells_of lib) (all_of lib ids) g) (omega (arith, long))))
       (record {
-        answers = ap (λ (x : Measured). Mapped x.length x.figures) is;
+        answers = ap (λ (x : Measured). Ok (record { length = x.length; figures = x.figures })) is;
         bytes = e ∙ ap (λ (x : Measured). text_for lib ids g x.figures ++ drop (length (text_for lib ids g x.figures)) text) is;
       })
 
@@ -84,23 +84,23 @@ module _ (lib : Library) (ids : List ℕ) (g : Graph) (text : List ℕ) (m : Mea
       let b = length-append (choice_text (cells_of lib) (all_of lib ids) g) (timing_lines (min_arrival_of (all_of lib ids) g) (λ (l : ℕ). (chosen (all_of lib ids) g l).arrival) 0 g.outputs) in
       omega (arith, a, b, ap length lines)
 
-  pub timed-short : length text < m.length + length ls → Answered (printed_for true lib ids g (length text)) text (Refused 18 (m.length + length ls)) text
+  pub timed-short : length text < m.length + length ls → Answered (printed_for true lib ids g (length text)) text (refused_with 18 (m.length + length ls)) text
   unfolding whole
   timed-short h =
-      subst (λ (o : Outcome). Answered o text (Refused 18 (m.length + length ls)) text)
+      subst (λ (o : Outcome). Answered o text (refused_with 18 (m.length + length ls)) text)
       (ap (refused 18) whole_long ∙ sym (within-not (length text) whole (choice_figures (cells_of lib) (all_of lib ids) g) (omega (arith, whole_long))))
       (answered-refused 18 (m.length + length ls) text)
 
   pub timed-done : m.length + length ls ≤ length text → (mid out : List ℕ) → mid ≡ text_for lib ids g m.figures ++ drop (length (text_for lib ids g m.figures)) text
-      → out ≡ put_at mid m.length ls → Answered (printed_for true lib ids g (length text)) text (Mapped (m.length + length ls) m.figures) out
+      → out ≡ put_at mid m.length ls → Answered (printed_for true lib ids g (length text)) text (Ok (record { length = m.length + length ls; figures = m.figures })) out
   unfolding whole answer_of text_after
   timed-done h mid out e f =
       let figs : m.figures ≡ choice_figures (cells_of lib) (all_of lib ids) g = ap (λ (x : Measured). x.figures) is in
       let a : m.length ≡ length (choice_text (cells_of lib) (all_of lib ids) g) = ap (λ (x : Measured). x.length) is in
       let written : out ≡ put_at (choice_text (cells_of lib) (all_of lib ids) g ++ drop (length (choice_text (cells_of lib) (all_of lib ids) g)) text) (length (choice_text (cells_of lib) (all_of lib ids) g)) ls =
       f ∙ (λ i. put_at (e i) m.length ls) ∙ (λ i. put_at (text_for lib ids g (figs i) ++ drop (length (text_for lib ids g (figs i))) text) (a i) ls) in
-      subst (λ (o : Outcome). Answered o text (Mapped (m.length + length ls) m.figures) out) (sym (within-is (length text) whole (choice_figures (cells_of lib) (all_of lib ids) g) (omega (arith, whole_long))))
+      subst (λ (o : Outcome). Answered o text (Ok (record { length = m.length + length ls; figures = m.figures })) out) (sym (within-is (length text) whole (choice_figures (cells_of lib) (all_of lib ids) g) (omega (arith, whole_long))))
       (record {
-        answers = (λ i. Mapped (whole_long i) (figs i));
+        answers = (λ i. Ok (record { length = whole_long i; figures = (figs i) }));
         bytes = written ∙ put-behind (choice_text (cells_of lib) (all_of lib ids) g) ls text ∙ ap (λ (xs : List ℕ). (choice_text (cells_of lib) (all_of lib ids) g ++ xs) ++ drop (length (choice_text (cells_of lib) (all_of lib ids) g ++ xs)) text) lines;
       })

@@ -1,15 +1,14 @@
 -- What each function of the call has once the layer below has answered: the next layer's premise, or the outcome.
-use Rattle.base.specs.{ℕ, arith, ◌≡◌, refl, sym, ◌∙◌, ap, subst, Bool, Option, none, some, List, [], ◌∷◌, length}
+use Rattle.std.specs.Prelude.{Ok}
+use Rattle.model.specs.{Answer, Verdict, refused_with}
+use Rattle.base.specs.{ℕ, arith, ◌≡◌, refl, sym, ◌∙◌, ap, subst, Bool, Option, None, Some, List, [], ◌∷◌, length}
 use Rattle.model.specs.{lowest, Read, holds, fault, next, verdict_of, refused_at, first_of, cells_of, unordered, over_limit, read_header, read_graph}
 use Rattle.model.specs.{InputArrival, read_arrivals, timed_by, Outcome, refused, cover_verdict, cuts_verdict, order_verdict, map_cut, map_ordered}
 use Rattle.model.specs.{map_graph, followed, within, map_design}
 use Rattle.model.specs.Graph.{Graph}
 use Rattle.model.specs.declared.Library.{Library}
 use Rattle.model.specs.declared.Header.{Header}
-use Rattle.model.specs.declared.Answer.{Answer}
-use Rattle.model.specs.declared.Answer.TheVariants.{Refused as Permuted}
-use Rattle.model.specs.declared.Verdict.{Verdict}
-use Rattle.model.specs.declared.Verdict.TheVariants.{Accepted, Refused}
+use Rattle.model.proofs.{refusal_parts}
 use Rattle.theory_graph.proofs.{timed-unordered}
 use Rattle.base_words.specs.{ordered_count}
 use Rattle.cells_pairs.specs.{Coded}
@@ -52,7 +51,7 @@ module _ (ranged : Bool) (w : List ℕ) (lib : Library) (ids : List ℕ) (h : He
     cover-is : r ≡ cover_verdict (all_of lib ids) g
     cover-is = answered ∙ ap (λ (x : List ℕ). missing x h.size h.outputs) e ∙ chosen-verdict w lib ids h g c
 
-    pub cover-mapped : r ≡ Accepted → (z : List ℕ) → z ≡ marked (all_of lib ids) y h.size h.outputs (ordered_count h) → Mapped z lib ids h g
+    pub cover-mapped : r ≡ Ok tt → (z : List ℕ) → z ≡ marked (all_of lib ids) y h.size h.outputs (ordered_count h) → Mapped z lib ids h g
     cover-mapped a z f =
         subst (λ (x : List ℕ). Mapped x lib ids h g) (sym (f ∙ ap (λ (x : List ℕ). marked (all_of lib ids) x h.size h.outputs (ordered_count h)) e))
         (marked-mapped w lib ids h g c (sym cover-is ∙ a))
@@ -61,10 +60,10 @@ module _ (ranged : Bool) (w : List ℕ) (lib : Library) (ids : List ℕ) (h : He
     cover_timeable z f =
         subst (λ (x : List ℕ). Timeable x lib ids h g) (sym (f ∙ ap (λ (x : List ℕ). marked (all_of lib ids) x h.size h.outputs (ordered_count h)) e)) (marked_timeable w lib ids h g c)
 
-    pub cover_goes : r ≡ Accepted → (bytes : ℕ) → cut_for ranged lib ids g bytes ≡ printed_for ranged lib ids g bytes
+    pub cover_goes : r ≡ Ok tt → (bytes : ℕ) → cut_for ranged lib ids g bytes ≡ printed_for ranged lib ids g bytes
     cover_goes a bytes = cut-printed ranged lib ids g bytes (sym cover-is ∙ a)
 
-    pub cover-stops : (n k : ℕ) → r ≡ Refused n k → (t : List ℕ) → Answered (cut_for ranged lib ids g (length t)) t (Permuted n k) t
+    pub cover-stops : (n k : ℕ) → r ≡ refused_with n k → (t : List ℕ) → Answered (cut_for ranged lib ids g (length t)) t (refused_with n k) t
     cover-stops n k a t = answered_as (cut-refused ranged lib ids g (length t) n k (sym cover-is ∙ a)) (answered-refused n k t)
 
 -- ---- after the cuts
@@ -77,20 +76,20 @@ module _ (ranged : Bool) (w : List ℕ) (lib : Library) (ids : List ℕ) (h : He
     cuts-is : r ≡ cuts_verdict g
     cuts-is = answered ∙ enumerate_verdict w h.size (ordered_count h) g p.represents (timed_ok w lib ids h g p) p.uncut
 
-    pub cuts-cut : r ≡ Accepted → (y : List ℕ) → y ≡ enumerated w h.size (ordered_count h) → Cut y lib ids h g
+    pub cuts-cut : r ≡ Ok tt → (y : List ℕ) → y ≡ enumerated w h.size (ordered_count h) → Cut y lib ids h g
     cuts-cut a y e = subst (λ (x : List ℕ). Cut x lib ids h g) (sym e) (cut-after w lib ids h g p (sym cuts-is ∙ a))
 
-    pub cuts_go : r ≡ Accepted → (bytes : ℕ) → ordered_for ranged lib ids g bytes ≡ cut_for ranged lib ids g bytes
+    pub cuts_go : r ≡ Ok tt → (bytes : ℕ) → ordered_for ranged lib ids g bytes ≡ cut_for ranged lib ids g bytes
     unfolding map_cut
     cuts_go a bytes = ap (λ (vs : List ℕ). within bytes (followed ranged (all_of lib ids) g (map_cut (cells_of lib) (all_of lib ids) g vs))) (none-over_limit g (sym cuts-is ∙ a))
 
-    pub cuts_stop : (n k : ℕ) → r ≡ Refused n k → (t : List ℕ) → Answered (ordered_for ranged lib ids g (length t)) t (Permuted n k) t
+    pub cuts_stop : (n k : ℕ) → r ≡ refused_with n k → (t : List ℕ) → Answered (ordered_for ranged lib ids g (length t)) t (refused_with n k) t
     unfolding map_cut cuts_verdict refused_at first_of within followed
     cuts_stop n k a t = answered_as (go (over_limit g) (sym cuts-is ∙ a)) (answered-refused n k t)
       where
-        go : (vs : List ℕ) → refused_at 16 (first_of vs) ≡ Refused n k → within (length t) (followed ranged (all_of lib ids) g (map_cut (cells_of lib) (all_of lib ids) g vs)) ≡ refused n k
+        go : (vs : List ℕ) → refused_at 16 (first_of vs) ≡ refused_with n k → within (length t) (followed ranged (all_of lib ids) g (map_cut (cells_of lib) (all_of lib ids) g vs)) ≡ refused n k
         go [] q = absurd (let z : ◌≡◌ {A = ℕ} 0 1 = cc in omega arith)
-        go (v ∷ vs) q = let x : ◌≡◌ {A = ℕ} 16 n = cc in let y : v ≡ k = cc in (λ i. refused (x i) (y i))
+        go (v ∷ vs) q = let x = (refusal_parts q).0 in let y = (refusal_parts q).1 in (λ i. refused (x i) (y i))
 
 -- ---- after the ordering
 
@@ -114,22 +113,22 @@ module _ (ranged : Bool) (w : List ℕ) (lib : Library) (ids : List ℕ) (h : He
 
   module _ (t : List ℕ) (u : Verdict) (said : u ≡ verdict_of (read_arrivals h.inputs t)) where
     -- 25 and 26
-    pub times_stop : (n k : ℕ) → u ≡ Refused n k → (text : List ℕ) → Answered (times_for ranged lib ids t h g (length text)) text (Permuted n k) text
+    pub times_stop : (n k : ℕ) → u ≡ refused_with n k → (text : List ℕ) → Answered (times_for ranged lib ids t h g (length text)) text (refused_with n k) text
     unfolding verdict_of times_for map_design next
     times_stop n k a text = go (read_arrivals h.inputs t) refl (sym said ∙ a)
       where
-        go : (x : Read (List InputArrival)) → read_arrivals h.inputs t ≡ x → verdict_of x ≡ Refused n k → Answered (map_design (length text) (times_of ranged lib ids t h g)) text (Permuted n k) text
+        go : (x : Read (List InputArrival)) → read_arrivals h.inputs t ≡ x → verdict_of x ≡ refused_with n k → Answered (map_design (length text) (times_of ranged lib ids t h g)) text (refused_with n k) text
         go (holds es) q z = absurd (let x : ◌≡◌ {A = ℕ} 0 1 = cc in omega arith)
         go (fault m j) q z =
-            let x : m ≡ n = cc in let y : j ≡ k = cc in
+            let x = (refusal_parts z).0 in let y = (refusal_parts z).1 in
             answered_as (ap (λ (v : Read (List InputArrival)). map_design (length text) (next v (λ es. holds (record { listed = cells_of lib; cells = all_of lib ids; ranged = ranged; graph = timed_by g es })))) q ∙ (λ i. refused (x i) (y i))) (answered-refused n k text)
 
-    module _ (a : u ≡ Accepted) where
+    module _ (a : u ≡ Ok tt) where
       times-read : (es : List InputArrival) × (read_arrivals h.inputs t ≡ holds es)
       unfolding verdict_of
       times-read = go (read_arrivals h.inputs t) refl (sym said ∙ a)
         where
-          go : (x : Read (List InputArrival)) → read_arrivals h.inputs t ≡ x → verdict_of x ≡ Accepted → (es : List InputArrival) × (read_arrivals h.inputs t ≡ holds es)
+          go : (x : Read (List InputArrival)) → read_arrivals h.inputs t ≡ x → verdict_of x ≡ Ok tt → (es : List InputArrival) × (read_arrivals h.inputs t ≡ holds es)
           go (holds es) q z = (es, q)
           go (fault m j) q z = absurd (let x : ◌≡◌ {A = ℕ} 0 1 = cc in omega arith)
 
@@ -138,17 +137,17 @@ module _ (ranged : Bool) (w : List ℕ) (lib : Library) (ids : List ℕ) (h : He
       times_are bytes = ap (λ (v : Read (List InputArrival)). map_design bytes (next v (λ es. holds (record { listed = cells_of lib; cells = all_of lib ids; ranged = ranged; graph = timed_by g es })))) times-read.1
 
       -- 15
-      pub ordering_stops : (n k : ℕ) → r ≡ Refused n k → (text : List ℕ) → Answered (times_for ranged lib ids t h g (length text)) text (Permuted n k) text
+      pub ordering_stops : (n k : ℕ) → r ≡ refused_with n k → (text : List ℕ) → Answered (times_for ranged lib ids t h g (length text)) text (refused_with n k) text
       unfolding map_graph map_ordered order_verdict refused_at within followed
       ordering_stops n k b text =
           answered_as (times_are (length text) ∙ go (lowest (unordered (timed_by g times-read.0))) (ap (λ (us : List ℕ). refused_at 15 (lowest us)) (timed-unordered g times-read.0) ∙ sym ordering_is ∙ b))
           (answered-refused n k text)
         where
-          go : (o : Option ℕ) → refused_at 15 o ≡ Refused n k → within (length text) (followed ranged (all_of lib ids) (timed_by g times-read.0) (map_ordered (cells_of lib) (all_of lib ids) (timed_by g times-read.0) o)) ≡ refused n k
-          go none q = absurd (let z : ◌≡◌ {A = ℕ} 0 1 = cc in omega arith)
-          go (some v) q = let x : ◌≡◌ {A = ℕ} 15 n = cc in let z : v ≡ k = cc in (λ i. refused (x i) (z i))
+          go : (o : Option ℕ) → refused_at 15 o ≡ refused_with n k → within (length text) (followed ranged (all_of lib ids) (timed_by g times-read.0) (map_ordered (cells_of lib) (all_of lib ids) (timed_by g times-read.0) o)) ≡ refused n k
+          go None q = absurd (let z : ◌≡◌ {A = ℕ} 0 1 = cc in omega arith)
+          go (Some v) q = let x = (refusal_parts q).0 in let z = (refusal_parts q).1 in (λ i. refused (x i) (z i))
 
-      pub ordering_timed : r ≡ Accepted → (z : List ℕ) → z ≡ put_all y h.size (listed h.inputs t) → Times t z
+      pub ordering_timed : r ≡ Ok tt → (z : List ℕ) → z ≡ put_all y h.size (listed h.inputs t) → Times t z
       unfolding map_graph map_ordered lowest
       ordering_timed b z f =
           let all : unordered g ≡ [] = all-ordered g (sym ordering_is ∙ b) in
@@ -167,11 +166,11 @@ pub record Reads (ranged : Bool) (lib : Library) (ids : List ℕ) (s t : List �
   pub outcome : (bytes : ℕ) → graph_for ranged lib ids s t h bytes ≡ times_for ranged lib ids t h graph bytes
 
 module _ (ranged : Bool) (lib : Library) (ids : List ℕ) (ok : LibraryOk lib ids) (s t : List ℕ) (h : Header) (w : List ℕ) (fit : Fit h w) (d : read_header s ≡ holds h) (r : Verdict) (answered : r ≡ verdict_of (read_graph s h)) where
-  pub reading_loaded : r ≡ Accepted → (y : List ℕ) → y ≡ loaded_words w s h → Reads ranged lib ids s t h y
+  pub reading_loaded : r ≡ Ok tt → (y : List ℕ) → y ≡ loaded_words w s h → Reads ranged lib ids s t h y
   unfolding verdict_of graph_for times_for map_design next
   reading_loaded a y e = go (read_graph s h) refl (sym answered ∙ a)
     where
-      go : (x : Read Graph) → read_graph s h ≡ x → verdict_of x ≡ Accepted → Reads ranged lib ids s t h y
+      go : (x : Read Graph) → read_graph s h ≡ x → verdict_of x ≡ Ok tt → Reads ranged lib ids s t h y
       go (holds g) q z = record {
         graph = g;
         loaded = subst (λ (u : List ℕ). Loaded u lib ids h g) (sym e) (loaded_after lib ids ok s h w fit d g q);
@@ -179,12 +178,12 @@ module _ (ranged : Bool) (lib : Library) (ids : List ℕ) (ok : LibraryOk lib id
       }
       go (fault n k) q z = absurd (let x : ◌≡◌ {A = ℕ} 0 1 = cc in omega arith)
 
-  pub reading_stops : (n k : ℕ) → r ≡ Refused n k → (text : List ℕ) → Answered (graph_for ranged lib ids s t h (length text)) text (Permuted n k) text
+  pub reading_stops : (n k : ℕ) → r ≡ refused_with n k → (text : List ℕ) → Answered (graph_for ranged lib ids s t h (length text)) text (refused_with n k) text
   unfolding verdict_of graph_for map_design next
   reading_stops n k a text = go (read_graph s h) refl (sym answered ∙ a)
     where
-      go : (x : Read Graph) → read_graph s h ≡ x → verdict_of x ≡ Refused n k → Answered (map_design (length text) (design_of ranged lib ids s t h)) text (Permuted n k) text
+      go : (x : Read Graph) → read_graph s h ≡ x → verdict_of x ≡ refused_with n k → Answered (map_design (length text) (design_of ranged lib ids s t h)) text (refused_with n k) text
       go (holds g) q z = absurd (let x : ◌≡◌ {A = ℕ} 0 1 = cc in omega arith)
       go (fault m j) q z =
-          let x : m ≡ n = cc in let y : j ≡ k = cc in
+          let x = (refusal_parts z).0 in let y = (refusal_parts z).1 in
           answered_as (ap (λ (u : Read Graph). map_design (length text) (next u (times_of ranged lib ids t h))) q ∙ (λ i. refused (x i) (y i))) (answered-refused n k text)

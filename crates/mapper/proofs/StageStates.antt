@@ -1,5 +1,7 @@
 -- From layer to layer: what one leaves in the words is what the next asks.
-use Rattle.base.specs.{ℕ, ◌+◌, ◌*◌, ◌≤◌, ◌<◌, arith, ◌≡◌, refl, sym, ◌∙◌, ap, subst, Bool, true, false, cond, Option, none, some, List, []}
+use Rattle.std.specs.Prelude.{Ok}
+use Rattle.model.specs.{Verdict, refused_with}
+use Rattle.base.specs.{ℕ, ◌+◌, ◌*◌, ◌≤◌, ◌<◌, arith, ◌≡◌, refl, sym, ◌∙◌, ap, subst, Bool, true, false, cond, Option, None, Some, List, []}
 use Rattle.base.specs.{◌∷◌, ◌++◌, Memᴰ, Memᴰ-head, Memᴰ-tail, add-one, eqb, length, get_or, length-append, get_or-append}
 use Rattle.model.specs.{lowest, smaller, holds, refused_at, first_of, Node, constant, input, undefined, both, node, order_from, topological_order}
 use Rattle.model.specs.{unordered, and_vars, cuts_of, cut_at, cut_table, over_limit, read_header, read_graph, InputArrival, read_arrivals, input_arrival_of, timed_by}
@@ -7,7 +9,6 @@ use Rattle.model.specs.{Lists, order_verdict, cuts_verdict}
 use Rattle.model.specs.Graph.{Graph}
 use Rattle.model.specs.declared.Library.{Library}
 use Rattle.model.specs.declared.Header.{Header}
-use Rattle.model.specs.declared.Verdict.TheVariants.{Accepted, Refused}
 use Rattle.theory_graph.proofs.{front-distinct, order_small, timed-accepted, timed-unordered}
 use Rattle.theory_text.proofs.{graph-known, graph-accepted, graph-counted, graph-fits, timed-fits, InputArrivalRead, input-arrival-read}
 use Rattle.base_words.specs.{ordered_count, HasCapacity, HasCapacityFor, left_at, right_at, slot_at, position_at, position_addr, output_at, output_addr, count_addr}
@@ -29,29 +30,29 @@ use Rattle.cover_choice.proofs.{ordered-is}
 use Rattle.mapper.specs.{LibraryOk, Given, Loaded, OrderedGraph, Timed, Cut}
 use Rattle.theory_graph.specs.AcceptedGraph as accepted
 
-verdicts_differ : {n k : ℕ} → ¬ (Refused n k ≡ Accepted)
+verdicts_differ : {n k : ℕ} → ◌≡◌ {A = Verdict} (refused_with n k) (Ok tt) → ⊥
 verdicts_differ e = let z : ◌≡◌ {A = ℕ} 0 1 = cc in omega arith
 
 -- a verdict without a refusal says that there is nothing to refuse
-none-lowest : (n : ℕ) (us : List ℕ) → refused_at n (lowest us) ≡ Accepted → us ≡ []
+none-lowest : (n : ℕ) (us : List ℕ) → refused_at n (lowest us) ≡ Ok tt → us ≡ []
 unfolding refused_at lowest smaller
 none-lowest n [] e = refl
 none-lowest n (u ∷ us) e = go (lowest us) e
   where
-    go : (o : Option ℕ) → refused_at n (smaller u o) ≡ Accepted → u ∷ us ≡ []
-    go none q = absurd (verdicts_differ q)
-    go (some x) q = absurd (verdicts_differ q)
+    go : (o : Option ℕ) → refused_at n (smaller u o) ≡ Ok tt → u ∷ us ≡ []
+    go None q = absurd (verdicts_differ q)
+    go (Some x) q = absurd (verdicts_differ q)
 
-pub none_first : (n : ℕ) (us : List ℕ) → refused_at n (first_of us) ≡ Accepted → us ≡ []
+pub none_first : (n : ℕ) (us : List ℕ) → refused_at n (first_of us) ≡ Ok tt → us ≡ []
 unfolding refused_at first_of
 none_first n [] e = refl
 none_first n (u ∷ us) e = absurd (verdicts_differ e)
 
-pub all-ordered : (g : Graph) → order_verdict g ≡ Accepted → unordered g ≡ []
+pub all-ordered : (g : Graph) → order_verdict g ≡ Ok tt → unordered g ≡ []
 unfolding order_verdict
 all-ordered g e = none-lowest 15 (unordered g) e
 
-pub none-over_limit : (g : Graph) → cuts_verdict g ≡ Accepted → over_limit g ≡ []
+pub none-over_limit : (g : Graph) → cuts_verdict g ≡ Ok tt → over_limit g ≡ []
 unfolding cuts_verdict
 none-over_limit g e = none_first 16 (over_limit g) e
 
@@ -236,7 +237,7 @@ module _ (w : List ℕ) (lib : Library) (ids : List ℕ) (h : Header) (g : Graph
   pub timed_ok : accepted.Accepted g
   timed_ok = p.given.accepted p.ordered
 
-  module _ (few : cuts_verdict g ≡ Accepted) where
+  module _ (few : cuts_verdict g ≡ Ok tt) where
     out : List ℕ
     out = enumerated w h.size (ordered_count h)
 

@@ -1,14 +1,13 @@
 -- What the words hold between the layers, and the outcome from each layer on, in terms of `model`.
 use Rattle.std.specs.Prelude.{◌≡◌, ◌∷◌, ◌+◌, ◌*◌, ◌≤◌, ◌<◌}
 use Rattle.base.specs.{Bool, List, [], Memᴰ, ℕ, T, leb, length, get_or}
-use Rattle.model.specs.{need, Read, holds, next, unless, cell_at, cells_of, no_pair, pairs_of, cells_for, topological_order, unordered, over_limit}
+use Rattle.model.specs.{need, Read, holds, next, unless, cell_at, cells_of, no_pair, pairs_of, cells_for, topological_order, unordered, over_limit, Answer}
 use Rattle.model.specs.{chosen, choices, read_header, read_graph, read_arrivals, timed_by, Outcome, mapped, map_graph, map_cut, map_chosen, min_arrival_of}
 use Rattle.model.specs.{followed, Design, within, map_design, answer_of, text_after, work_after, Distinct, choice_figures, printed_text}
 use Rattle.model.specs.Graph.{Graph}
 use Rattle.model.specs.declared.Cell.{Cell}
 use Rattle.model.specs.declared.Library.{Library}
 use Rattle.model.specs.declared.Header.{Header}
-use Rattle.model.specs.declared.Answer.{Answer}
 use Rattle.theory_graph.specs.AcceptedGraph.{Accepted}
 use Rattle.theory_graph.specs.{library_fits}
 use Rattle.theory_text.specs.{GraphFits}

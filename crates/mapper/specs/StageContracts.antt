@@ -1,11 +1,10 @@
 -- What the stages of a call ask, and what they answer for whatever graph the words are of.
 use Rattle.std.specs.Prelude.{◌≡◌, ◌≤◌}
 use Rattle.base.specs.{List, ℕ, Bool, length}
-use Rattle.model.specs.{need, holds, read_header}
+use Rattle.model.specs.{need, holds, read_header, Answer}
 use Rattle.model.specs.Graph.{Graph}
 use Rattle.model.specs.declared.Library.{Library}
 use Rattle.model.specs.declared.Header.{Header}
-use Rattle.model.specs.declared.Answer.{Answer}
 use Rattle.cells_matching.specs.{MatchTable}
 use Rattle.net_writer.specs.MappedWords.{Mapped}
 use Rattle.mapper.specs.MapStages.{Answered, Left, LibraryOk, all_of, Timed, Timeable, printed_for, ordered_for, graph_for, header_for}

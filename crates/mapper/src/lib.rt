@@ -7,7 +7,8 @@ ghost use Rattle.cells_matching.specs.{Blank};
 ghost use Rattle.mapper.specs.{Left, LibraryRead, LibraryOk, all_of, library_for};
 ghost use Rattle.mapper.specs.{Printable, Printed, Cuttable, CutAnswered, GraphMappable, GraphAnswered, HeaderLeft};
 
-use model::{Answer, Header, HeaderAnswer, Library, Verdict};
+use cells_matching::{MATCH_TABLE, PAIRED_MATCH_TABLE};
+use model::{Answer, Header, Library, Mapped, Refusal};
 
 // 18, and the netlist: "Text memory is shorter than the netlist; place, the length needed." Where delays are ranges the minimum arrivals come first, and
 // a timing line per output stands behind the netlist: "18 and the returned length count these lines".
@@ -23,23 +24,30 @@ fn print(
     ensures { Printed work.old lib ids.now h ranged text.old result text.new }
 {
     let m = net_writer::measure(work, lib, ids, h);
-    let length = m.length;
-    let figures = m.figures;
     if ranged {
         net_timing::retime(work, lib, ids, h);
-        let whole = length + net_timing::lines_len(work, h.size, h.outputs);
+        let whole = m.length + net_timing::lines_len(work, h.size, h.outputs);
         if text.len() < whole {
-            return Answer::Refused(18, whole);
+            return Err(Refusal {
+                number: 18,
+                place: whole,
+            });
         }
-        net_writer::write(work, lib, ids, h, figures, text);
-        net_timing::put_lines(work, h.size, h.outputs, text, length);
-        return Answer::Mapped(whole, figures);
+        net_writer::write(work, lib, ids, h, m.figures, text);
+        net_timing::put_lines(work, h.size, h.outputs, text, m.length);
+        return Ok(Mapped {
+            length: whole,
+            figures: m.figures,
+        });
     }
-    if text.len() < length {
-        return Answer::Refused(18, length);
+    if text.len() < m.length {
+        return Err(Refusal {
+            number: 18,
+            place: m.length,
+        });
     }
-    net_writer::write(work, lib, ids, h, figures, text);
-    Answer::Mapped(length, figures)
+    net_writer::write(work, lib, ids, h, m.figures, text);
+    Ok(m)
 }
 
 // The cuts and 16, the choice and 17, and the needed phases.
@@ -55,19 +63,11 @@ fn cut_graph(
     requires { Cuttable work.old lib ids.now h matches.now }
     ensures { CutAnswered work.old lib ids.now h ranged text.old result text.new }
 {
-    match cut_pass::enumerate(work, h) {
-        Verdict::Accepted => {
-            cover_choice::choose(work, lib, ids, h, matches);
-            match cover_choice::uncovered(work, h) {
-                Verdict::Accepted => {
-                    cover_choice::mark(work, lib, ids, h);
-                    print(work, lib, ids, h, ranged, text)
-                }
-                Verdict::Refused(number, place) => Answer::Refused(number, place),
-            }
-        }
-        Verdict::Refused(number, place) => Answer::Refused(number, place),
-    }
+    cut_pass::enumerate(work, h)?;
+    cover_choice::choose(work, lib, ids, h, matches);
+    cover_choice::uncovered(work, h)?;
+    cover_choice::mark(work, lib, ids, h);
+    print(work, lib, ids, h, ranged, text)
 }
 
 // All that comes behind 10, for words that hold anything: the graph behind its header, 11 to 14, or 11, 12, 20 and 21; the topological order, the arrivals with
@@ -87,19 +87,11 @@ pub fn load_graph(
     requires { GraphMappable graph.now h lib ids.now matches.now work.old }
     ensures { GraphAnswered graph.now arrivals.now h lib ids.now ranged text.old result text.new }
 {
-    match graph_reader::load(graph, h, work) {
-        Verdict::Accepted => {
-            let ordered = graph_order::order_graph(work, h);
-            match graph_arrivals::read(arrivals, h, work) {
-                Verdict::Accepted => match ordered {
-                    Verdict::Accepted => cut_graph(work, lib, ids, h, ranged, matches, text),
-                    Verdict::Refused(number, place) => Answer::Refused(number, place),
-                },
-                Verdict::Refused(number, place) => Answer::Refused(number, place),
-            }
-        }
-        Verdict::Refused(number, place) => Answer::Refused(number, place),
-    }
+    graph_reader::load(graph, h, work)?;
+    let ordered = graph_order::order_graph(work, h);
+    graph_arrivals::read(arrivals, h, work)?;
+    ordered?;
+    cut_graph(work, lib, ids, h, ranged, matches, text)
 }
 
 // The header, 7 to 9 and 19, then 10: "Work memory is unchanged by every refusal tried up to 10, and all zero after a later one and after success." The
@@ -118,18 +110,17 @@ fn map_header(
     ensures { HeaderLeft graph.now arrivals.now lib ids.now ranged work.old text.old result
         work.new text.new }
 {
-    match graph_reader::header(graph) {
-        HeaderAnswer::Read(h) => {
-            if work.len() < base_words::need_words(h.size, h.outputs) {
-                return Answer::Refused(10, 0);
-            }
-            cover_choice::match_library(lib, ids, matches);
-            let a = load_graph(graph, arrivals, h, lib, ids, ranged, matches, work, text);
-            base_words::clear_all(work);
-            a
-        }
-        HeaderAnswer::Refused(number, place) => Answer::Refused(number, place),
+    let h = graph_reader::header(graph)?;
+    if work.len() < base_words::need_words(h.size, h.outputs) {
+        return Err(Refusal {
+            number: 10,
+            place: 0,
+        });
     }
+    cover_choice::match_library(lib, ids, matches);
+    let a = load_graph(graph, arrivals, h, lib, ids, ranged, matches, work, text);
+    base_words::clear_all(work);
+    a
 }
 
 // The listed cells and their pairs, or 30: "when cells and pairs exceed 256, after 6, place 0".
@@ -148,10 +139,13 @@ fn map_pairs(
     let mut pairs = [0u16; 4096];
     let n = cells_pairs::form(&mut pairs, lib);
     if lib.n + n > 256 {
-        return Answer::Refused(30, 0);
+        return Err(Refusal {
+            number: 30,
+            place: 0,
+        });
     }
     let ids = &pairs[..n];
-    let mut matches = cells_matching::empty_paired_match_table();
+    let mut matches: [u32; PAIRED_MATCH_TABLE] = cells_matching::empty_match_table();
     map_header(graph, arrivals, lib, ids, ranged, &mut matches, work, text)
 }
 
@@ -174,7 +168,7 @@ fn map_cells(
     }
     let none = [0u16; 1];
     let ids = &none[..0];
-    let mut matches = cells_matching::empty_match_table();
+    let mut matches: [u32; MATCH_TABLE] = cells_matching::empty_match_table();
     map_header(graph, arrivals, lib, ids, ranged, &mut matches, work, text)
 }
 
@@ -193,16 +187,12 @@ pub fn map_texts(
         result work.new text.new }
 {
     if cells.len() > 65536 || graph.len() > 65536 || arrivals.len() > 65536 {
-        return Answer::Refused(1, 0);
+        return Err(Refusal {
+            number: 1,
+            place: 0,
+        });
     }
-    let l = cells_reader::read(cells);
-    let v = l.verdict;
-    match v {
-        Verdict::Accepted => {
-            let lib = l.library;
-            let ranged = cells_reader::is_ranged(cells);
-            map_cells(graph, arrivals, lib, ranged, paired, work, text)
-        }
-        Verdict::Refused(number, place) => Answer::Refused(number, place),
-    }
+    let lib = cells_reader::read(cells)?;
+    let ranged = cells_reader::is_ranged(cells);
+    map_cells(graph, arrivals, lib, ranged, paired, work, text)
 }

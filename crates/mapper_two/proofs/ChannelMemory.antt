@@ -1,12 +1,11 @@
 -- What two channels leave: refused together, or each as its passes leave it; and the refusals tried up to 10.
+use Rattle.model.specs.{Answer, refused_with}
 use Rattle.base.specs.{ℕ, ◌+◌, ◌≤◌, ◌<◌, arith, ◌≡◌, refl, sym, ◌∙◌, ap, ap₂, subst, Bool, true, false, ◌&&◌, List, T, leb, leb→le, le→leb}
 use Rattle.base.specs.{length, replicate}
 use Rattle.model.specs.{need, Read, holds, fault, next, unless, cells_of, cells_for, read_header, answer_of, text_after, Channel, answers_of}
 use Rattle.model.specs.declared.Library.{Library}
 use Rattle.model.specs.declared.Header.{Header}
 use Rattle.model.specs.declared.Two.{Two}
-use Rattle.model.specs.declared.Answer.{Answer}
-use Rattle.model.specs.declared.Answer.TheVariants.{Refused}
 use Rattle.mapper.specs.{Answered, all_of, graph_for}
 use Rattle.mapper_two.specs.{Heads, sum_for, second_for, first_for, pair_for, work_for, PairLeft, TwoLeft}
 
@@ -19,7 +18,7 @@ pair_as {ranged = ranged} {lib = lib} {ids = ids} {a = a} {b = b} {work = work} 
 
 -- "neither is mapped and work memory is unchanged"
 pub pair-early : (ranged : Bool) (lib : Library) (ids : List ℕ) (a b : Channel) (r : Read Heads) (n k : ℕ) → r ≡ fault n k → (work first second : List ℕ) (answer : Two)
-    → answer ≡ record { first = Refused n k; second = Refused n k } → PairLeft ranged lib ids a b r work first second answer work first second
+    → answer ≡ record { first = refused_with n k; second = refused_with n k } → PairLeft ranged lib ids a b r work first second answer work first second
 unfolding pair_for work_for answers_of answer_of text_after
 pair-early ranged lib ids a b r n k e work first second answer q = pair_as e (record { answers = q; words = refl; first_bytes = refl; second_bytes = refl })
 
@@ -43,7 +42,7 @@ module _ (paired ranged : Bool) (lib : Library) (ids : List ℕ) (are_cells : ce
       go true t = refl
       go false t = absurd t
 
-  pub two-early : 256 < length (all_of lib ids) → answer ≡ record { first = Refused 30 0; second = Refused 30 0 } → TwoLeft paired ranged lib a b work first second answer work first second
+  pub two-early : 256 < length (all_of lib ids) → answer ≡ record { first = refused_with 30 0; second = refused_with 30 0 } → TwoLeft paired ranged lib a b work first second answer work first second
   unfolding unless
   two-early many q =
       record {

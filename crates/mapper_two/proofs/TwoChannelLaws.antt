@@ -1,18 +1,17 @@
 -- The whole call for two channels: refusal 1 and the library's, and what comes behind; demand 1.
+use Rattle.std.specs.Prelude.{Ok, Result}
+use Rattle.model.specs.declared.Refusal.{Refusal}
 use Rattle.base.specs.{ℕ, ◌+◌, ◌≤◌, le_refl, arith, ◌≡◌, refl, sym, ◌∙◌, ap, ap₂, subst, Bool, true, false, ◌&&◌, List, T, leb, leb→le}
 use Rattle.base.specs.{le→leb, length}
-use Rattle.model.specs.{need, Read, holds, fault, next, unless, cells_of, library_of, library_answer, read_library, is_ranged, cells_for}
+use Rattle.model.specs.{need, Read, holds, fault, next, unless, cells_of, library_of, library_answer, read_library, is_ranged, cells_for, refused_with}
 use Rattle.model.specs.{read_header, read_graph, read_arrivals, timed_by, Outcome, refused, Design, short, read_listed, read_texts, map_design}
 use Rattle.model.specs.{map_texts, answer_of, returned, text_after, Channel, TwoCall, channel_of, two_call_of, alone, need_of, Needs, needs_of}
 use Rattle.model.specs.{Outcomes, map_needs, map_two, answers_of, two_work_after}
 use Rattle.model.specs.declared.Cell.{Cell}
 use Rattle.model.specs.declared.Library.{Library}
 use Rattle.model.specs.declared.Header.{Header}
-use Rattle.model.specs.declared.LibraryAnswer.{LibraryAnswer}
-use Rattle.model.specs.declared.Verdict.TheVariants.{Accepted, Refused as Answered2}
 use Rattle.model.specs.declared.Two.{Two}
-use Rattle.model.specs.declared.Answer.TheVariants.{Refused}
-use Rattle.model.proofs.{answer-returns}
+use Rattle.model.proofs.{answer-returns, refusal_parts}
 use Rattle.promises.specs.{Fits, TwoMemory, MappingTwo}
 use Rattle.theory_text.proofs.{holds-once, unless_out, next_out}
 use Rattle.theory_demands.proofs.{two-promised}
@@ -62,7 +61,7 @@ module _ (paired : Bool) (library : List ℕ) (a b : Channel) (work first second
       works (holds x) = unfold work_for two_work_after needs_in in refl
 
   -- a refusal of the first channel that is tried before its header's
-  early : (n k : ℕ) → need_of paired library a ≡ fault n k → (answer : Two) → answer ≡ record { first = Refused n k; second = Refused n k }
+  early : (n k : ℕ) → need_of paired library a ≡ fault n k → (answer : Two) → answer ≡ record { first = refused_with n k; second = refused_with n k }
       → TwoMemory call work first second answer work first second
   unfolding needs_of next map_two map_needs answers_of answer_of text_after two_work_after
   early n k e answer q =
@@ -79,7 +78,7 @@ module _ (paired : Bool) (library : List ℕ) (a b : Channel) (work first second
       }
 
   -- "A text is longer than 65,536 bytes": the library, or one of the first channel's
-  pub long-text : (length library ≤ 65536 → length a.graph ≤ 65536 → length a.arrivals ≤ 65536 → ⊥) → (answer : Two) → answer ≡ record { first = Refused 1 0; second = Refused 1 0 }
+  pub long-text : (length library ≤ 65536 → length a.graph ≤ 65536 → length a.arrivals ≤ 65536 → ⊥) → (answer : Two) → answer ≡ record { first = refused_with 1 0; second = refused_with 1 0 }
       → TwoMemory call work first second answer work first second
   unfolding need_of unless
   long-text l = early 1 0 (go (leb (length library) 65536) (leb (length a.graph) 65536) (leb (length a.arrivals) 65536) (leb→le (length library) 65536) (leb→le (length a.graph) 65536) (leb→le (length a.arrivals) 65536))
@@ -91,7 +90,7 @@ module _ (paired : Bool) (library : List ℕ) (a b : Channel) (work first second
       go true false z f g h = refl
       go false y z f g h = refl
 
-  module _ (short_library : length library ≤ 65536) (short_graph : length a.graph ≤ 65536) (short_arrivals : length a.arrivals ≤ 65536) (l : LibraryAnswer) (answered : l ≡ library_answer (read_library library)) where
+  module _ (short_library : length library ≤ 65536) (short_graph : length a.graph ≤ 65536) (short_arrivals : length a.arrivals ≤ 65536) (l : Result Library Refusal) (answered : l ≡ library_answer (read_library library)) where
     needed : Read (List Cell) → Channel → Read ℕ
     needed r ch = next r (λ _. next (read_header ch.graph) (λ h. holds (need h.size h.outputs)))
 
@@ -119,20 +118,20 @@ module _ (paired : Bool) (library : List ℕ) (a b : Channel) (work first second
         go false f = absurd f
 
     -- a refusal of the library, its pairs among them
-    listed-stops : (n k : ℕ) → read_listed paired library ≡ fault n k → (answer : Two) → answer ≡ record { first = Refused n k; second = Refused n k } → TwoMemory call work first second answer work first second
+    listed-stops : (n k : ℕ) → read_listed paired library ≡ fault n k → (answer : Two) → answer ≡ record { first = refused_with n k; second = refused_with n k } → TwoMemory call work first second answer work first second
     unfolding next needed
     listed-stops n k e = early n k (first-need ∙ ap (λ (r : Read (List Cell)). needed r a) e)
 
     -- 2 to 6 and 27
-    pub library-stops : (n k : ℕ) → l.verdict ≡ Answered2 n k → (answer : Two) → answer ≡ record { first = Refused n k; second = Refused n k } → TwoMemory call work first second answer work first second
+    pub library-stops : (n k : ℕ) → l ≡ refused_with n k → (answer : Two) → answer ≡ record { first = refused_with n k; second = refused_with n k } → TwoMemory call work first second answer work first second
     unfolding library_answer next read_listed
-    library-stops n k e = go (read_library library) refl (sym (ap (λ (x : LibraryAnswer). x.verdict) answered) ∙ e)
+    library-stops n k e = go (read_library library) refl (sym answered ∙ e)
       where
-        go : (r : Read (List Cell)) → read_library library ≡ r → (library_answer r).verdict ≡ Answered2 n k → (answer : Two) → answer ≡ record { first = Refused n k; second = Refused n k }
+        go : (r : Read (List Cell)) → read_library library ≡ r → library_answer r ≡ refused_with n k → (answer : Two) → answer ≡ record { first = refused_with n k; second = refused_with n k }
             → TwoMemory call work first second answer work first second
         go (holds cs) q z = absurd (let x : ◌≡◌ {A = ℕ} 0 1 = cc in omega arith)
         go (fault m j) q z =
-            let x : m ≡ n = cc in let y : j ≡ k = cc in
+            let x = (refusal_parts z).0 in let y = (refusal_parts z).1 in
             listed-stops n k (ap (λ (r : Read (List Cell)). next r (λ cells. unless (leb (length (cells_for paired cells)) 256) 30 0 (holds cells))) (q ∙ (λ i. fault (x i) (y i))))
 
     module _ (lib : Library) (ids : List ℕ) (is_listed : read_listed paired library ≡ holds (cells_of lib)) (are_cells : cells_for paired (cells_of lib) ≡ all_of lib ids) where
@@ -228,49 +227,49 @@ module _ (paired : Bool) (library : List ℕ) (a b : Channel) (work first second
               (alone-is a first_short x.first (f.1 ∙ ap (λ (y : Heads). holds y.first) is))
               (alone-is b (second_short s.0) x.second (k.1 ∙ ap (λ (y : Heads). holds y.second) is))
 
-    pub record IsRead : Type 0 where
-      pub ok : LibraryRead l.library
-      pub goes : (answer : Two) (y u w : List ℕ) → TwoLeft paired (is_ranged library) l.library a b work first second answer y u w → TwoMemory call work first second answer y u w
+    pub record IsRead (lib : Library) : Type 0 where
+      pub ok : LibraryRead lib
+      pub goes : (answer : Two) (y u w : List ℕ) → TwoLeft paired (is_ranged library) lib a b work first second answer y u w → TwoMemory call work first second answer y u w
 
-    pub library-heard : l.verdict ≡ Accepted → IsRead
+    pub library-heard : (lib : Library) → l ≡ Ok lib → IsRead lib
     unfolding library_answer
-    library-heard e = go (read_library library) refl (sym (ap (λ (x : LibraryAnswer). x.verdict) answered) ∙ e)
+    library-heard lib e = go (read_library library) refl (sym answered ∙ e)
       where
-        from-left : read_library library ≡ holds (cells_of l.library) → (answer : Two) (y u w : List ℕ) → TwoLeft paired (is_ranged library) l.library a b work first second answer y u w
+        from-left : read_library library ≡ holds (cells_of lib) → (answer : Two) (y u w : List ℕ) → TwoLeft paired (is_ranged library) lib a b work first second answer y u w
             → TwoMemory call work first second answer y u w
-        from-left read answer y u w t = tested (leb (length (all_of l.library t.ids)) 256) refl
+        from-left read answer y u w t = tested (leb (length (all_of lib t.ids)) 256) refl
           where
-            listed-is : read_listed paired library ≡ unless (leb (length (all_of l.library t.ids)) 256) 30 0 (holds (cells_of l.library))
+            listed-is : read_listed paired library ≡ unless (leb (length (all_of lib t.ids)) 256) 30 0 (holds (cells_of lib))
             listed-is = unfold read_listed next in
                 ap (λ (r : Read (List Cell)). next r (λ cells. unless (leb (length (cells_for paired cells)) 256) 30 0 (holds cells))) read
-                ∙ ap (λ (cs : List Cell). unless (leb (length cs) 256) 30 0 (holds (cells_of l.library))) t.are_cells
+                ∙ ap (λ (cs : List Cell). unless (leb (length cs) 256) 30 0 (holds (cells_of lib))) t.are_cells
 
-            refused-left : read_listed paired library ≡ fault 30 0 → (answer : Two) (y u w : List ℕ) → PairLeft (is_ranged library) l.library t.ids a b (fault 30 0) work first second answer y u w
+            refused-left : read_listed paired library ≡ fault 30 0 → (answer : Two) (y u w : List ℕ) → PairLeft (is_ranged library) lib t.ids a b (fault 30 0) work first second answer y u w
                 → TwoMemory call work first second answer y u w
             refused-left stops answer y u w p = unfold pair_for work_for answers_of answer_of text_after in
                 subst (λ (v : List ℕ). TwoMemory call work first second answer y u v) (sym p.second_bytes)
                 (subst (λ (v : List ℕ). TwoMemory call work first second answer y v second) (sym p.first_bytes)
                 (subst (λ (v : List ℕ). TwoMemory call work first second answer v first second) (sym p.words) (listed-stops 30 0 stops answer p.answers)))
 
-            tested : (x : Bool) → leb (length (all_of l.library t.ids)) 256 ≡ x → TwoMemory call work first second answer y u w
+            tested : (x : Bool) → leb (length (all_of lib t.ids)) 256 ≡ x → TwoMemory call work first second answer y u w
             tested true e =
-                let within : unless (leb (length (all_of l.library t.ids)) 256) 30 0 (first_for (length work) a b) ≡ first_for (length work) a b =
+                let within : unless (leb (length (all_of lib t.ids)) 256) 30 0 (first_for (length work) a b) ≡ first_for (length work) a b =
                 (unfold unless in ap (λ (x : Bool). unless x 30 0 (first_for (length work) a b)) e) in
-                let is_listed : read_listed paired library ≡ holds (cells_of l.library) = listed-is ∙ (unfold unless in ap (λ (x : Bool). unless x 30 0 (holds (cells_of l.library))) e) in
-                of_pair_lem (is_ranged library) l.library t.ids (first_for (length work) a b) (needs_are l.library t.ids is_listed t.are_cells) (outcomes_are l.library t.ids is_listed t.are_cells) answer y u w
+                let is_listed : read_listed paired library ≡ holds (cells_of lib) = listed-is ∙ (unfold unless in ap (λ (x : Bool). unless x 30 0 (holds (cells_of lib))) e) in
+                of_pair_lem (is_ranged library) lib t.ids (first_for (length work) a b) (needs_are lib t.ids is_listed t.are_cells) (outcomes_are lib t.ids is_listed t.are_cells) answer y u w
                 (pair_as (sym within) t.left)
             tested false e =
-                let stops : read_listed paired library ≡ fault 30 0 = listed-is ∙ (unfold unless in ap (λ (x : Bool). unless x 30 0 (holds (cells_of l.library))) e) in
-                let over : unless (leb (length (all_of l.library t.ids)) 256) 30 0 (first_for (length work) a b) ≡ fault 30 0 =
+                let stops : read_listed paired library ≡ fault 30 0 = listed-is ∙ (unfold unless in ap (λ (x : Bool). unless x 30 0 (holds (cells_of lib))) e) in
+                let over : unless (leb (length (all_of lib t.ids)) 256) 30 0 (first_for (length work) a b) ≡ fault 30 0 =
                 (unfold unless in ap (λ (x : Bool). unless x 30 0 (first_for (length work) a b)) e) in
-                let left : PairLeft (is_ranged library) l.library t.ids a b (fault 30 0) work first second answer y u w = pair_as (sym over) t.left in
+                let left : PairLeft (is_ranged library) lib t.ids a b (fault 30 0) work first second answer y u w = pair_as (sym over) t.left in
                 refused-left stops answer y u w left
 
-        go : (r : Read (List Cell)) → read_library library ≡ r → (library_answer r).verdict ≡ Accepted → IsRead
+        go : (r : Read (List Cell)) → read_library library ≡ r → library_answer r ≡ Ok lib → IsRead lib
         go (fault m j) q z = absurd (let x : ◌≡◌ {A = ℕ} 0 1 = cc in omega arith)
         go (holds cs) q z =
-            let is : l.library ≡ library_of cs = ap (λ (x : LibraryAnswer). x.library) (answered ∙ ap library_answer q) in
-            let same : cells_of l.library ≡ cs = ap cells_of is ∙ cells-back cs in
+            let is : lib ≡ library_of cs = cc in
+            let same : cells_of lib ≡ cs = ap cells_of is ∙ cells-back cs in
             record {
               ok = subst LibraryRead (sym is) (library-read library cs q);
               goes = λ answer y u w t. from-left (q ∙ ap holds (sym same)) answer y u w t;

@@ -1,13 +1,19 @@
 -- What the stages of a call for two channels ask, and what comes of the channels' texts.
-use Rattle.std.specs.Prelude.{◌≡◌}
+use Rattle.std.specs.Prelude.{◌≡◌, Result, Ok, Err}
 use Rattle.base.specs.{List, ℕ, Bool, length}
 use Rattle.model.specs.{holds, read_header, channel_of}
 use Rattle.model.specs.declared.Library.{Library}
 use Rattle.model.specs.declared.Header.{Header}
+use Rattle.model.specs.declared.Refusal.{Refusal}
 use Rattle.model.specs.declared.Two.{Two}
 use Rattle.cells_matching.specs.{Blank}
 use Rattle.mapper.specs.{LibraryOk, all_of}
 use Rattle.mapper_two.specs.ChannelPairs.{PairLeft, TwoLeft, sum_for, first_for}
+
+-- what both channels answer: "both return that number and place"
+abbrev pub told : Result Two Refusal → Two
+told (Ok t) = t
+told (Err r) = record { first = Err r; second = Err r }
 
 -- both headers were read, and the match table is blank
 abbrev pub PairReady : List ℕ → Header → List ℕ → Header → Library → List ℕ → List ℕ → Type 0

@@ -1,6 +1,6 @@
 -- BLIF, as far as the netlist uses it: a text read, and the values and arrivals of its nets. Apart from the writer.
 use Rattle.std.specs.Prelude.{◌+◌, ◌-◌, ◌*◌, ◌≤◌, ◌≡◌, ◌&&◌, ◌∷◌}
-use Rattle.base.specs.{ℕ, Bool, cond, Option, none, some, List, [], map, Memᴰ, eqb, length, get_or}
+use Rattle.base.specs.{ℕ, Bool, cond, Option, None, Some, List, [], map, Memᴰ, eqb, length, get_or}
 use Rattle.model.specs.Base.{same, and_then, only, below}
 use Rattle.model.specs.Text.{text, parts, fields, between}
 use Rattle.model.specs.Table.{value, row_of}
@@ -40,19 +40,19 @@ longer b p = record { pin = b ∷ p.pin; net = p.net }
 -- a word `pin=net`, parted at the first `=`
 unfoldable pub binding : List ℕ → Option Binding
 unfolding and_then longer
-binding [] = none
-binding (b ∷ bs) = let rest = binding bs in cond (eqb b 61) (some (record { pin = []; net = bs })) (and_then rest (λ p. some (longer b p)))
+binding [] = None
+binding (b ∷ bs) = let rest = binding bs in cond (eqb b 61) (Some (record { pin = []; net = bs })) (and_then rest (λ p. Some (longer b p)))
 
 -- the bindings of a gate line
 unfoldable pub bindings_of : List (List ℕ) → Option (List Binding)
 unfolding and_then binding
-bindings_of [] = some []
-bindings_of (w ∷ ws) = and_then (binding w) (λ p. and_then (bindings_of ws) (λ ps. some (p ∷ ps)))
+bindings_of [] = Some []
+bindings_of (w ∷ ws) = and_then (binding w) (λ p. and_then (bindings_of ws) (λ ps. Some (p ∷ ps)))
 
 -- the words after a first word that is the keyword
 unfoldable pub after_word : List ℕ → List (List ℕ) → Option (List (List ℕ))
 unfolding same only
-after_word keyword [] = none
+after_word keyword [] = None
 after_word keyword (w ∷ ws) = only (same w keyword) ws
 
 -- the words of a line after its keyword, one space between
@@ -63,8 +63,8 @@ words_after keyword l = after_word keyword (parts 32 l)
 -- the cell's name, and the bindings
 unfoldable pub gate_of : List (List ℕ) → Option GateLine
 unfolding bindings_of and_then
-gate_of [] = none
-gate_of (c ∷ ws) = and_then (bindings_of ws) (λ ps. some (record { cell = c; bindings = ps }))
+gate_of [] = None
+gate_of (c ∷ ws) = and_then (bindings_of ws) (λ ps. Some (record { cell = c; bindings = ps }))
 
 -- a line `.gate`
 unfoldable pub read_gate : List ℕ → Option GateLine
@@ -73,10 +73,10 @@ read_gate l = and_then (words_after (text ".gate") l) gate_of
 
 -- two words
 unfoldable pub wire_of : List (List ℕ) → Option Wire
-wire_of [] = none
-wire_of (a ∷ []) = none
-wire_of (a ∷ b ∷ []) = some (record { source = a; target = b })
-wire_of (a ∷ b ∷ c ∷ ws) = none
+wire_of [] = None
+wire_of (a ∷ []) = None
+wire_of (a ∷ b ∷ []) = Some (record { source = a; target = b })
+wire_of (a ∷ b ∷ c ∷ ws) = None
 
 -- a line `.names` of two nets, and behind it the row `1 1`: with any other row it is no wire
 unfoldable pub read_wire : List ℕ → List ℕ → Option Wire
@@ -86,11 +86,11 @@ read_wire l row = and_then (only (same row (text "1 1")) l) (λ k. and_then (wor
 -- wires up to `.end`
 unfoldable pub read_wires : List (List ℕ) → Option (List Wire)
 unfolding same text and_then read_wire
-read_wires [] = none
-read_wires (l ∷ []) = cond (same l (text ".end")) (some []) none
+read_wires [] = None
+read_wires (l ∷ []) = cond (same l (text ".end")) (Some []) None
 read_wires (l ∷ row ∷ ls) =
     let rest = read_wires ls in
-    cond (same l (text ".end")) (some []) (and_then (read_wire l row) (λ x. and_then rest (λ xs. some (x ∷ xs))))
+    cond (same l (text ".end")) (Some []) (and_then (read_wire l row) (λ x. and_then rest (λ xs. Some (x ∷ xs))))
 
 -- gates, and the wires behind them
 pub record Body : Type 0 where
@@ -100,13 +100,13 @@ pub record Body : Type 0 where
 -- a gate before what follows it, or else wires alone
 unfoldable pub body_from : Option GateLine → Option Body → Option (List Wire) → Option Body
 unfolding and_then
-body_from (some t) rest wires = and_then rest (λ b. some (record { gates = t ∷ b.gates; wires = b.wires }))
-body_from none rest wires = and_then wires (λ xs. some (record { gates = []; wires = xs }))
+body_from (Some t) rest wires = and_then rest (λ b. Some (record { gates = t ∷ b.gates; wires = b.wires }))
+body_from None rest wires = and_then wires (λ xs. Some (record { gates = []; wires = xs }))
 
 -- the lines of gates and wires, up to `.end`
 unfoldable pub read_body : List (List ℕ) → Option Body
 unfolding read_gate read_wires body_from
-read_body [] = none
+read_body [] = None
 read_body (l ∷ ls) =
     let rest = read_body ls in
     let wires = read_wires (l ∷ ls) in
@@ -115,14 +115,14 @@ read_body (l ∷ ls) =
 -- `.model top`, `.inputs`, `.outputs`, the gates, the wires
 unfoldable pub read_lines : List (List ℕ) → Option Blif
 unfolding same text words_after read_body and_then
-read_lines [] = none
-read_lines (m ∷ []) = none
-read_lines (m ∷ i ∷ []) = none
+read_lines [] = None
+read_lines (m ∷ []) = None
+read_lines (m ∷ i ∷ []) = None
 read_lines (m ∷ i ∷ o ∷ ls) = cond (same m (text ".model top"))
     (and_then (words_after (text ".inputs") i) (λ is.
     and_then (words_after (text ".outputs") o) (λ os.
-    and_then (read_body ls) (λ b. some (record { inputs = is; outputs = os; gates = b.gates; wires = b.wires })))))
-    none
+    and_then (read_body ls) (λ b. Some (record { inputs = is; outputs = os; gates = b.gates; wires = b.wires })))))
+    None
 
 -- a model with its inputs, outputs, gates and wires
 unfoldable pub read_blif : List ℕ → Option Blif
@@ -134,22 +134,22 @@ read_blif bytes = read_lines (parts 10 bytes)
 -- the number of decimal digits, behind one that was read so far
 unfoldable pub digits_from : ℕ → List ℕ → Option ℕ
 unfolding and_then only between
-digits_from n [] = some n
+digits_from n [] = Some n
 digits_from n (b ∷ bs) = and_then (only (between 48 57 b) (b - 48)) (λ d. digits_from (n * 10 + d) bs)
 
 -- a number of any size in decimal without leading zeros: 0 alone, or a first digit that is not 0
 unfoldable pub figure : List ℕ → Option ℕ
 unfolding digits_from
-figure [] = none
+figure [] = None
 figure (b ∷ []) = digits_from 0 (b ∷ [])
-figure (b ∷ c ∷ bs) = cond (eqb b 48) none (digits_from 0 (b ∷ c ∷ bs))
+figure (b ∷ c ∷ bs) = cond (eqb b 48) None (digits_from 0 (b ∷ c ∷ bs))
 
 -- the line behind `.end`
 unfoldable pub behind_end : List (List ℕ) → Option (List ℕ)
 unfolding same text
-behind_end [] = none
-behind_end (l ∷ []) = none
-behind_end (l ∷ k ∷ ls) = let later = behind_end (k ∷ ls) in cond (same l (text ".end")) (some k) later
+behind_end [] = None
+behind_end (l ∷ []) = None
+behind_end (l ∷ k ∷ ls) = let later = behind_end (k ∷ ls) in cond (same l (text ".end")) (Some k) later
 
 -- the words `# gates N area N arrival N`, one space between
 unfoldable pub read_figure_words : List (List ℕ) → Option Figures
@@ -160,7 +160,7 @@ read_figure_words ws =
     and_then (figure (get_or ws 2 [])) (λ count.
     and_then (figure (get_or ws 4 [])) (λ area.
     and_then (figure (get_or ws 6 [])) (λ arrival.
-    some (record { gates = count; area = area; arrival = arrival })))))
+    Some (record { gates = count; area = area; arrival = arrival })))))
 
 -- "the three figures of its `# gates` line": the line behind `.end`; what follows it is not read
 unfoldable pub read_figures : List ℕ → Option Figures
@@ -182,13 +182,13 @@ read_timing_words ws =
     and_then (only (eqb (length ws) 5 && (same (get_or ws 0 []) (text "#") && same (get_or ws 1 []) (text "timing"))) ws) (λ _.
     and_then (figure (get_or ws 3 [])) (λ low.
     and_then (figure (get_or ws 4 [])) (λ high.
-    some (record { output = get_or ws 2 []; low = low; high = high }))))
+    Some (record { output = get_or ws 2 []; low = low; high = high }))))
 
 -- lines that are all of this form
 unfoldable pub read_timing_lines : List (List ℕ) → Option (List TimingLine)
 unfolding and_then fields read_timing_words
-read_timing_lines [] = some []
-read_timing_lines (l ∷ ls) = let rest = read_timing_lines ls in and_then (read_timing_words (fields l)) (λ x. and_then rest (λ xs. some (x ∷ xs)))
+read_timing_lines [] = Some []
+read_timing_lines (l ∷ ls) = let rest = read_timing_lines ls in and_then (read_timing_words (fields l)) (λ x. and_then rest (λ xs. Some (x ∷ xs)))
 
 -- the lines behind the `# gates` line
 unfoldable pub behind_figures : List (List ℕ) → List (List ℕ)

@@ -1,11 +1,10 @@
 -- A cell of the library, and the library as the code holds it.
-use Rattle.std.specs.Prelude.{◌-◌, ◌&&◌, ◌++◌}
+use Rattle.std.specs.Prelude.{◌-◌, ◌&&◌, ◌++◌, Result, Ok}
 use Rattle.base.specs.{ℕ, Bool, List, [], eqb, ltb, length, take, get_or, replicate}
-use Rattle.model.specs.ReadResult.{Read, holds, fault}
+use Rattle.model.specs.ReadResult.{Read, holds, fault, refused_with}
 use Rattle.model.specs.declared.Cell.{Cell}
 use Rattle.model.specs.declared.Library.{Library}
-use Rattle.model.specs.declared.LibraryAnswer.{LibraryAnswer}
-use Rattle.model.specs.declared.Verdict.TheVariants.{Accepted, Refused}
+use Rattle.model.specs.declared.Refusal.{Refusal}
 
 -- the cell's name
 unfoldable pub name_of : Cell → List ℕ
@@ -38,7 +37,7 @@ unfoldable pub cells_of : Library → List Cell
 cells_of l = take l.n l.cells
 
 -- the one answer to what a library's text gives
-unfoldable pub library_answer : Read (List Cell) → LibraryAnswer
+unfoldable pub library_answer : Read (List Cell) → Result Library Refusal
 unfolding library_of
-library_answer (holds cs) = record { verdict = Accepted; library = library_of cs }
-library_answer (fault n k) = record { verdict = Refused n k; library = library_of [] }
+library_answer (holds cs) = Ok (library_of cs)
+library_answer (fault n k) = refused_with n k

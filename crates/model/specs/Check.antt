@@ -1,11 +1,11 @@
 -- Request N14, "Netlists edited by the layout group": a netlist's text read, its nets validated, and its outputs compared with the graph's.
-use Rattle.std.specs.Prelude.{◌+◌, ◌*◌, ◌^◌, ◌&&◌, ◌||◌, ◌∷◌, ◌++◌}
-use Rattle.base.specs.{ℕ, zero, suc, Bool, false, not, cond, beq, Option, none, some, List, []}
+use Rattle.std.specs.Prelude.{◌+◌, ◌*◌, ◌^◌, ◌&&◌, ◌||◌, ◌∷◌, ◌++◌, Result, Ok, Err}
+use Rattle.base.specs.{ℕ, zero, suc, Bool, false, not, cond, beq, Option, None, Some, List, []}
 use Rattle.base.specs.{map, eqb, leb, length, take, get_or, replicate}
 use Rattle.model.specs.Base.{bit, all, any, keep, each, same, below, and_then, only, lowest}
 use Rattle.model.specs.Limits.{need}
 use Rattle.model.specs.Text.{Line, ended_by_ten, text, lines_from, fields, between, is_letter}
-use Rattle.model.specs.ReadResult.{Read, holds, fault, next, unless, from?}
+use Rattle.model.specs.ReadResult.{Read, holds, fault, next, unless, from?, refused_with}
 use Rattle.model.specs.Table.{value, row_of}
 use Rattle.model.specs.Cells.{name_of}
 use Rattle.model.specs.Graph.{Graph, literal, unordered, literal_value, value_of}
@@ -14,8 +14,9 @@ use Rattle.model.specs.GraphText.{read_header, read_graph}
 use Rattle.model.specs.Netlist.{net_name, out_name}
 use Rattle.model.specs.Mapper.{tried_early}
 use Rattle.model.specs.declared.Cell.{Cell}
-use Rattle.model.specs.declared.Checked.{Checked}
-use Rattle.model.specs.declared.Checked.TheVariants.{Accepted, Differs, Refused}
+use Rattle.model.specs.declared.Comparison.{Comparison}
+use Rattle.model.specs.declared.Comparison.TheVariants.{Equal, Differs}
+use Rattle.model.specs.declared.Refusal.{Refusal}
 
 -- ---- the text, 32
 
@@ -35,33 +36,33 @@ is_net w = leb 1 (length w) && (leb (length w) 8 && all (λ (b : ℕ). is_letter
 -- a word `A=net` with the letter b
 unfoldable pub pin_net : ℕ → List ℕ → Option (List ℕ)
 unfolding only is_net
-pin_net b [] = none
-pin_net b (c ∷ []) = none
+pin_net b [] = None
+pin_net b (c ∷ []) = None
 pin_net b (c ∷ e ∷ w) = only (eqb c b && (eqb e 61 && is_net w)) w
 
 -- "each pin in order with `=` and its net, then the output likewise"
 unfoldable pub bound_nets : List ℕ → List (List ℕ) → Option (List (List ℕ))
 unfolding and_then pin_net
-bound_nets [] [] = some []
-bound_nets [] (w ∷ ws) = none
-bound_nets (b ∷ bs) [] = none
-bound_nets (b ∷ bs) (w ∷ ws) = and_then (pin_net b w) (λ n. and_then (bound_nets bs ws) (λ ns. some (n ∷ ns)))
+bound_nets [] [] = Some []
+bound_nets [] (w ∷ ws) = None
+bound_nets (b ∷ bs) [] = None
+bound_nets (b ∷ bs) (w ∷ ws) = and_then (pin_net b w) (λ n. and_then (bound_nets bs ws) (λ ns. Some (n ∷ ns)))
 
 -- the listed cell of a name
 unfoldable pub cell_named : List Cell → List ℕ → Option Cell
 unfolding same name_of
-cell_named [] w = none
-cell_named (c ∷ cs) w = let r = cell_named cs w in cond (same (name_of c) w) (some c) r
+cell_named [] w = None
+cell_named (c ∷ cs) w = let r = cell_named cs w in cond (same (name_of c) w) (Some c) r
 
 -- a gate line's fields: `.gate`, a listed cell, its pins A to D and its output O
 unfoldable pub gate_of_fields : List Cell → ℕ → List (List ℕ) → Option Driver
 unfolding and_then cell_named bound_nets below
-gate_of_fields cells at [] = none
-gate_of_fields cells at (k ∷ []) = none
+gate_of_fields cells at [] = None
+gate_of_fields cells at (k ∷ []) = None
 gate_of_fields cells at (k ∷ name ∷ ws) =
     and_then (cell_named cells name) (λ c.
     and_then (bound_nets (map (λ (j : ℕ). 65 + j) (below c.pins) ++ (79 ∷ [])) ws) (λ nets.
-    some (record { offset = at; table = c.table; uses = take c.pins nets; net = get_or nets c.pins [] })))
+    Some (record { offset = at; table = c.table; uses = take c.pins nets; net = get_or nets c.pins [] })))
 
 unfoldable pub gate_driver : List Cell → Line → Option Driver
 unfolding and_then only gate_of_fields fields
@@ -152,14 +153,14 @@ among n ns = any (same n) ns
 
 -- the first line that passes a test
 unfoldable pub first_line : (Driver → Bool) → List Driver → Option ℕ
-first_line p [] = none
-first_line p (d ∷ ds) = let r = first_line p ds in cond (p d) (some d.offset) r
+first_line p [] = None
+first_line p (d ∷ ds) = let r = first_line p ds in cond (p d) (Some d.offset) r
 
 -- "when a line drives a net already driven": `known` are the nets driven before
 unfoldable pub driven_twice : List (List ℕ) → List Driver → Option ℕ
 unfolding among
-driven_twice known [] = none
-driven_twice known (d ∷ ds) = let r = driven_twice (d.net ∷ known) ds in cond (among d.net known) (some d.offset) r
+driven_twice known [] = None
+driven_twice known (d ∷ ds) = let r = driven_twice (d.net ∷ known) ds in cond (among d.net known) (Some d.offset) r
 
 -- "when one uses a net that no line drives"; "`.inputs` drives its nets"
 unfoldable pub undriven : List (List ℕ) → List Driver → Option ℕ
@@ -187,8 +188,8 @@ on_cycle ds d = among d.net (feeding (suc (length ds)) ds (added d.uses []))
 
 -- a fault at a line, if there is one
 unfoldable pub unless_at : {A : Type 0} → Option ℕ → ℕ → Read A → Read A
-unless_at none n r = r
-unless_at (some k) n r = fault n k
+unless_at None n r = r
+unless_at (Some k) n r = fault n k
 
 -- "33 when a line drives a net already driven, then when one uses a net that no line drives, then when one drives a net on a circle": each part over
 -- all lines, "at the first such line"
@@ -210,18 +211,18 @@ net_value (e ∷ es) n = let r = net_value es n in cond (same e.0 n) e.1 r
 -- a driver whose nets are all known, the first; and those that are left
 unfoldable pub take_ready : List (List ℕ) → List Driver → Option (Driver × List Driver)
 unfolding all among and_then
-take_ready known [] = none
+take_ready known [] = None
 take_ready known (d ∷ ds) =
-    let later = and_then {B = Driver × List Driver} (take_ready known ds) (λ r. some (r.0, d ∷ r.1)) in
-    cond (all (λ (n : List ℕ). among n known) d.uses) (some (d, ds)) later
+    let later = and_then {B = Driver × List Driver} (take_ready known ds) (λ r. Some (r.0, d ∷ r.1)) in
+    cond (all (λ (n : List ℕ). among n known) d.uses) (Some (d, ds)) later
 
 -- the drivers, each behind those that feed it
 unfoldable pub settled : ℕ → List (List ℕ) → List Driver → List Driver
 unfolding take_ready
 settled zero known ds = []
 settled (suc fuel) known ds = elim (take_ready known ds) [
-  | none ↦ []
-  | some r ↦ r.0 ∷ settled fuel (r.0.net ∷ known) r.1
+  | None ↦ []
+  | Some r ↦ r.0 ∷ settled fuel (r.0.net ∷ known) r.1
 ]
 
 -- the nets' values, one driver after the other
@@ -245,9 +246,9 @@ assignment_of s k (u ∷ us) v = let r = assignment_of s (suc k) us v in cond (e
 
 -- the first place at which two lists of values differ, from k on
 unfoldable pub first_wrong : ℕ → List Bool → List Bool → Option ℕ
-first_wrong k [] ys = none
-first_wrong k (x ∷ xs) [] = none
-first_wrong k (x ∷ xs) (y ∷ ys) = let r = first_wrong (suc k) xs ys in cond (beq x y) r (some k)
+first_wrong k [] ys = None
+first_wrong k (x ∷ xs) [] = None
+first_wrong k (x ∷ xs) (y ∷ ys) = let r = first_wrong (suc k) xs ys in cond (beq x y) r (Some k)
 
 -- "that setting's first wrong output": `order` are the drivers, each behind those that feed it
 unfoldable pub wrong_at : Graph → List Driver → ℕ → Option ℕ
@@ -259,11 +260,11 @@ wrong_at g order s =
 -- ---- the answer
 
 -- "the lowest setting that differs", of the n assignments from s on
-unfoldable pub compare_from : ℕ → ℕ → (ℕ → Option ℕ) → Checked
-compare_from zero s wrong = Accepted
+unfoldable pub compare_from : ℕ → ℕ → (ℕ → Option ℕ) → Comparison
+compare_from zero s wrong = Equal
 compare_from (suc n) s wrong = elim (wrong s) [
-  | none ↦ compare_from n (suc s) wrong
-  | some k ↦ Differs s k
+  | None ↦ compare_from n (suc s) wrong
+  | Some k ↦ Differs s k
 ]
 
 -- the bytes 10 of a text
@@ -290,14 +291,18 @@ read_edited library graph netlist words =
     (next (read_netlist cells g netlist) (λ ds.
     next (validate_nets (input_nets g) ds) (λ es. holds (record { graph = g; drivers = es }))))))))))
 
+-- what a check answers
+abbrev pub Checked : Type 0
+Checked = Result Comparison Refusal
+
 -- the answer for what was read: "the 2^I input settings"
 unfoldable pub check_read : Read Edited → Checked
 unfolding compare_from wrong_at settled input_nets
-check_read (fault n k) = Refused n k
+check_read (fault n k) = refused_with n k
 check_read (holds e) =
     let g = e.graph in
     let ds = e.drivers in
-    compare_from (2 ^ length g.inputs) 0 (wrong_at g (settled (length ds) (input_nets g) ds))
+    Ok (compare_from (2 ^ length g.inputs) 0 (wrong_at g (settled (length ds) (input_nets g) ds)))
 
 -- the answer of a check: the library's text, the graph's, the netlist's, and how many words are lent
 unfoldable pub check_texts : List ℕ → List ℕ → List ℕ → ℕ → Checked
@@ -313,16 +318,16 @@ pub record CheckResult : Type 0 where
   pub second : ℕ
 
 unfoldable pub result_of : Checked → CheckResult
-result_of Accepted = record { verdict = 0; first = 0; second = 0 }
-result_of (Differs s k) = record { verdict = 1; first = s; second = k }
-result_of (Refused n k) = record { verdict = 2; first = n; second = k }
+result_of (Ok Equal) = record { verdict = 0; first = 0; second = 0 }
+result_of (Ok (Differs s k)) = record { verdict = 1; first = s; second = k }
+result_of (Err r) = record { verdict = 2; first = r.number; second = r.place }
 
 -- the same of what was read: what the interface returns, whatever the answer is made of
 unfoldable pub result_from : ℕ → ℕ → (ℕ → Option ℕ) → CheckResult
 result_from zero s wrong = record { verdict = 0; first = 0; second = 0 }
 result_from (suc n) s wrong = elim (wrong s) [
-  | none ↦ result_from n (suc s) wrong
-  | some k ↦ record { verdict = 1; first = s; second = k }
+  | None ↦ result_from n (suc s) wrong
+  | Some k ↦ record { verdict = 1; first = s; second = k }
 ]
 
 unfoldable pub result_by : Read Edited → CheckResult
@@ -335,6 +340,5 @@ result_by (holds e) =
 
 -- "Work memory is unchanged by every refusal tried up to 10, and all zero after a later one and after success."
 unfoldable pub checked_work : Checked → List ℕ → List ℕ
-checked_work (Refused n k) memory = cond (tried_early n) memory (replicate (length memory) 0)
-checked_work Accepted memory = replicate (length memory) 0
-checked_work (Differs s k) memory = replicate (length memory) 0
+checked_work (Err r) memory = cond (tried_early r.number) memory (replicate (length memory) 0)
+checked_work (Ok c) memory = replicate (length memory) 0

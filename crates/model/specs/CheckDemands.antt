@@ -1,6 +1,6 @@
 -- The demands for the check of an edited netlist, for every call: library text, graph text, netlist text and number of lent words.
-use Rattle.std.specs.Prelude.{◌+◌, ◌*◌, ◌^◌, ◌≤◌, ◌<◌, ◌≡◌, ◌↔◌}
-use Rattle.base.specs.{ℕ, Bool, some, List, map, Memᴰ, length, get_or}
+use Rattle.std.specs.Prelude.{◌+◌, ◌*◌, ◌^◌, ◌≤◌, ◌<◌, ◌≡◌, ◌↔◌, Ok}
+use Rattle.base.specs.{ℕ, Bool, Some, List, map, Memᴰ, length, get_or}
 use Rattle.model.specs.Base.{bit}
 use Rattle.model.specs.Limits.{need}
 use Rattle.model.specs.ReadResult.{holds}
@@ -10,12 +10,11 @@ use Rattle.model.specs.LibraryText.{read_library}
 use Rattle.model.specs.Netlist.{mapped, out_name}
 use Rattle.model.specs.Blif.{Blif, read_blif, NetValues}
 use Rattle.model.specs.Mapper.{Call, Design, read_texts, map_texts}
-use Rattle.model.specs.Check.{Driver, Edited, input_nets, output_nets, assignment_of, line_ends, read_edited, check_texts, result_of, result_by}
+use Rattle.model.specs.Check.{Checked, Driver, Edited, input_nets, output_nets, assignment_of, line_ends, read_edited, check_texts, result_of, result_by}
 use Rattle.model.specs.Check.{checked_work}
 use Rattle.model.specs.declared.Cell.{Cell}
 use Rattle.model.specs.declared.Figures.{Figures}
-use Rattle.model.specs.declared.Checked.{Checked}
-use Rattle.model.specs.declared.Checked.TheVariants.{Accepted, Differs}
+use Rattle.model.specs.declared.Comparison.TheVariants.{Equal, Differs}
 
 -- ---- Demand 1: the answer of a check, the numbers that it stands for, and what it leaves of the lent words
 pub record CheckMemory (library graph netlist work : List ℕ) (answer : Checked) (work_left : List ℕ) : Type 0 where
@@ -49,12 +48,12 @@ Right g ds s k = RightUnder g ds (assignment_of s 0 g.inputs) k
 pub record Compared (g : Graph) (ds : List Driver) (answer : Checked) : Type 0 where
   pub graph_has : (s : ℕ) → (v : ℕ → Bool) × GraphValues g (assignment_of s 0 g.inputs) v
   pub netlist_has : (s : ℕ) → (w : List ℕ → Bool) × DriverValues g ds s w
-  pub accepts : (answer ≡ Accepted) ↔ ((s : ℕ) → s < 2 ^ length g.inputs → (k : ℕ) → k < length g.outputs → Right g ds s k)
-  pub differing : (s k : ℕ) → (answer ≡ Differs s k) ↔ ((s < 2 ^ length g.inputs) × (k < length g.outputs) × (¬ Right g ds s k)
+  pub accepts : (answer ≡ Ok Equal) ↔ ((s : ℕ) → s < 2 ^ length g.inputs → (k : ℕ) → k < length g.outputs → Right g ds s k)
+  pub differing : (s k : ℕ) → (answer ≡ Ok (Differs s k)) ↔ ((s < 2 ^ length g.inputs) × (k < length g.outputs) × (¬ Right g ds s k)
       × ((j : ℕ) → j < k → Right g ds s j) × ((r : ℕ) → r < s → (j : ℕ) → j < length g.outputs → Right g ds r j))
   pub numbered : (s k : ℕ) → k < length g.inputs → assignment_of s 0 g.inputs (get_or g.inputs k 0) ≡ bit s k
   pub every : (assignment : ℕ → Bool) → (s : ℕ) × (s < 2 ^ length g.inputs) × ((v : ℕ) → Memᴰ v g.inputs → assignment_of s 0 g.inputs v ≡ assignment v)
-  pub accepted : (answer ≡ Accepted) ↔ ((assignment : ℕ → Bool) (k : ℕ) → k < length g.outputs → RightUnder g ds assignment k)
+  pub accepted : (answer ≡ Ok Equal) ↔ ((assignment : ℕ → Bool) (k : ℕ) → k < length g.outputs → RightUnder g ds assignment k)
 
 -- so of every check that is unrefused
 abbrev pub ComparedCheck : List ℕ → List ℕ → List ℕ → ℕ → Type 0
@@ -65,7 +64,7 @@ ComparedCheck library graph netlist words =
 -- values that hold for the drivers are those that hold for the model
 pub record MeansText (cells : List Cell) (g : Graph) (netlist : List ℕ) (ds : List Driver) : Type 0 where
   pub blif : Blif
-  pub reads : read_blif netlist ≡ some blif
+  pub reads : read_blif netlist ≡ Some blif
   pub inputs : blif.inputs ≡ input_nets g
   pub outputs : blif.outputs ≡ output_nets g
   pub values : (assignment : ℕ → Bool) (w : List ℕ → Bool) → ValuesUnder g ds assignment w ↔ NetValues cells blif (map assignment g.inputs) w
@@ -81,8 +80,8 @@ MeantCheck library graph netlist words =
 abbrev pub EqualCheck : List ℕ → List ℕ → List ℕ → ℕ → Type 0
 EqualCheck library graph netlist words =
     (e : Edited) → read_edited library graph netlist words ≡ holds e → (cells : List Cell) → read_library library ≡ holds cells
-    → (n : Blif) → read_blif netlist ≡ some n
-    → (check_texts library graph netlist words ≡ Accepted) ↔ ((assignment v : ℕ → Bool) → GraphValues e.graph assignment v
+    → (n : Blif) → read_blif netlist ≡ Some n
+    → (check_texts library graph netlist words ≡ Ok Equal) ↔ ((assignment v : ℕ → Bool) → GraphValues e.graph assignment v
     → (w : List ℕ → Bool) → NetValues cells n (map assignment e.graph.inputs) w
     → (k : ℕ) → k < length e.graph.outputs → w (out_name k) ≡ literal_value v (get_or e.graph.outputs k 0))
 
@@ -92,7 +91,7 @@ abbrev pub AcceptsPrinted : Call → Type 0
 AcceptsPrinted c =
     (d : Design) (t : List ℕ) (f : Figures) (words : ℕ) → read_texts c ≡ holds d → map_texts c ≡ mapped t f
     → length d.graph.inputs ≤ 12 → length t ≤ 65536 → need d.graph.size (length d.graph.outputs) + 8 * line_ends t ≤ words
-    → check_texts c.library c.graph t words ≡ Accepted
+    → check_texts c.library c.graph t words ≡ Ok Equal
 
 -- so of the texts of one check: the call that printed the netlist had this library and this graph
 abbrev pub PrintedAccepted : List ℕ → List ℕ → List ℕ → ℕ → Type 0
@@ -101,7 +100,7 @@ PrintedAccepted library graph netlist words =
     → read_texts (record { paired = paired; library = library; graph = graph; arrivals = arrivals; words = with_memory; bytes = bytes }) ≡ holds d
     → map_texts (record { paired = paired; library = library; graph = graph; arrivals = arrivals; words = with_memory; bytes = bytes }) ≡ mapped netlist f
     → length d.graph.inputs ≤ 12 → length netlist ≤ 65536 → need d.graph.size (length d.graph.outputs) + 8 * line_ends netlist ≤ words
-    → check_texts library graph netlist words ≡ Accepted
+    → check_texts library graph netlist words ≡ Ok Equal
 
 -- ---- what is promised of a check
 pub record CheckPromised (library graph netlist : List ℕ) (words : ℕ) : Type 0 where

@@ -1,7 +1,7 @@
 -- The cut lists, and the function of a cut.
 use Rattle.std.specs.Prelude.{◌+◌, ◌*◌, ◌∷◌}
-use Rattle.base.specs.{ℕ, zero, suc, compare, Ordering, Ordering-lt, Ordering-eq, Ordering-gt, Bool, false, cond, Option, none}
-use Rattle.base.specs.{some, List, [], map, eqb, leb, ltb, length, get_or}
+use Rattle.base.specs.{ℕ, zero, suc, compare, Ordering, Ordering-lt, Ordering-eq, Ordering-gt, Bool, false, cond, Option, None}
+use Rattle.base.specs.{Some, List, [], map, eqb, leb, ltb, length, get_or}
 use Rattle.model.specs.Base.{bit, one, union, keep, each, find, run, or_else}
 use Rattle.model.specs.Limits.{cut_limit}
 use Rattle.model.specs.Graph.{Graph, Node, constant, input, undefined, both, node, topological_order, span, var_of, node_value}
@@ -60,8 +60,8 @@ over_limit g = let cuts = cut_lists_of g in keep (λ (v : ℕ). ltb cut_limit (l
 -- "leaf number i (ascending, from 0) is bit i of the row"
 unfoldable pub leaf_bit : List ℕ → ℕ → ℕ → ℕ → Option Bool
 unfolding bit
-leaf_bit [] i r v = none
-leaf_bit (x ∷ xs) i r v = let rest = leaf_bit xs (suc i) r v in cond (eqb v x) (some (bit r i)) rest
+leaf_bit [] i r v = None
+leaf_bit (x ∷ xs) i r v = let rest = leaf_bit xs (suc i) r v in cond (eqb v x) (Some (bit r i)) rest
 
 -- "from the root down, a leaf gives its bit and the walk stops there; variable 0 gives 0; an AND gives the AND of its literals"
 unfoldable pub walk : ℕ → Graph → List ℕ → ℕ → ℕ → Bool

@@ -2,7 +2,7 @@
 -- number of lent bytes; and what is promised of two texts that mean the same graph, of texts alike but for line ends, of inputs that arrive late, and of
 -- delays given as ranges.
 use Rattle.std.specs.Prelude.{◌+◌, ◌*◌, ◌≤◌, ◌<◌, ◌≡◌, ◌&&◌, ◌||◌, ◌∷◌, ◌++◌, ◌⊎◌, ◌↔◌}
-use Rattle.base.specs.{ℕ, suc, Bool, true, false, cond, some, List, [], map, Memᴰ}
+use Rattle.base.specs.{ℕ, suc, Bool, true, false, cond, Some, List, [], map, Memᴰ}
 use Rattle.base.specs.{Ordering-gt, eqb, leb, length, take, drop, get_or}
 use Rattle.model.specs.Base.{each, below, same}
 use Rattle.model.specs.Limits.{need}
@@ -24,13 +24,12 @@ use Rattle.model.specs.Netlist.{largest}
 use Rattle.model.specs.Timing.{min_arrival_of, timing_lines}
 use Rattle.model.specs.Blif.{GateLine, Binding, Wire, Blif, read_blif, read_figures, TimingLine, read_timings, named, drives, fed_by}
 use Rattle.model.specs.Blif.{pin_names, output_name, NetValues, Delays, delays_at, NetTimes, NetArrivals, InRange}
-use Rattle.model.specs.Mapper.{Call, Design, design_of, short, read_listed, read_texts, within, map_design, map_texts, answer_of, returned}
-use Rattle.model.specs.Mapper.{returned_by, text_after, work_after}
+use Rattle.model.specs.Mapper.{Answer, Call, Design, design_of, short, read_listed, read_texts, within, map_design, map_texts, answer_of, returned}
+use Rattle.model.specs.Mapper.{Answer, returned_by, text_after, work_after}
 use Rattle.model.specs.declared.Cell.{Cell}
 use Rattle.model.specs.declared.Header.{Header}
 use Rattle.model.specs.declared.Source.{Source}
 use Rattle.model.specs.declared.Figures.{Figures}
-use Rattle.model.specs.declared.Answer.{Answer}
 
 -- no element stands twice
 abbrev pub Distinct {ℓ} : {A : Type ℓ} → List A → Type ℓ
@@ -57,8 +56,8 @@ driven_nets n = n.inputs ++ (map drives n.gates ++ map (λ (x : Wire). x.target)
 pub record Printed (c : Call) (t : List ℕ) (f : Figures) (d : Design) (n : Blif) : Type 0 where
   pub design : read_texts c ≡ holds d
   pub outcome : map_texts c ≡ mapped t f
-  pub reads : read_blif t ≡ some n
-  pub says : read_figures t ≡ some f
+  pub reads : read_blif t ≡ Some n
+  pub says : read_figures t ≡ Some f
 
 -- a statement of what a call prints: of the listed cells, the cells that are mapped with, the graph, the figures and the netlist
 abbrev pub OfPrinted : (List Cell → List Cell → Graph → Figures → Blif → Type 0) → Call → Type 0
@@ -252,8 +251,8 @@ pub record WithinRanges (listed : List Cell) (g : Graph) (n : Blif) (ts : List T
 -- what a printed text says behind its `# gates` line, read there: under the longer names line these lines, under the shorter nothing
 pub record Ranges (c : Call) : Type 0 where
   pub timed : (t : List ℕ) (f : Figures) (d : Design) (n : Blif) → Printed c t f d n → is_ranged c.library ≡ true
-      → (ts : List TimingLine) × (read_timings t ≡ some ts) × WithinRanges d.listed d.graph n ts
-  pub untimed : (t : List ℕ) (f : Figures) → map_texts c ≡ mapped t f → is_ranged c.library ≡ false → read_timings t ≡ some []
+      → (ts : List TimingLine) × (read_timings t ≡ Some ts) × WithinRanges d.listed d.graph n ts
+  pub untimed : (t : List ℕ) (f : Figures) → map_texts c ≡ mapped t f → is_ranged c.library ≡ false → read_timings t ≡ Some []
 
 -- ---- demands 2 and 3 together, for a call
 

@@ -1,14 +1,12 @@
 -- A genlib text, read: the cell text that is written for it, or the first refusal of 1, 22 to 24 and 18.
-use Rattle.std.specs.Prelude.{◌+◌, ◌/◌, ◌%◌, ◌^◌, ◌&&◌, ◌||◌, ◌∷◌, ◌++◌}
-use Rattle.base.specs.{ℕ, max, Bool, true, false, cond, Option, none, some, List, [], map, eqb}
+use Rattle.std.specs.Prelude.{◌+◌, ◌/◌, ◌%◌, ◌^◌, ◌&&◌, ◌||◌, ◌∷◌, ◌++◌, Ok, Err}
+use Rattle.base.specs.{ℕ, max, Bool, true, false, cond, Option, None, Some, List, [], map, eqb}
 use Rattle.base.specs.{leb, ltb, length, drop, get_or}
 use Rattle.model.specs.Base.{all, each, keep, same, and_then}
 use Rattle.model.specs.Text.{Line, text, decimal, lines_from, ended, is_name_byte}
-use Rattle.model.specs.ReadResult.{Read, holds, fault, next, unless, from?}
+use Rattle.model.specs.ReadResult.{Read, holds, fault, next, unless, from?, refused_with, Written}
 use Rattle.model.specs.GenlibWords.{tokens, is_blank, is_sign, is_word, is_figure, thousandths, span}
 use Rattle.model.specs.GenlibFormula.{formed, shallow, is_pin, pins_of, name_value, value_of, row_bits}
-use Rattle.model.specs.declared.Written.{Written}
-use Rattle.model.specs.declared.Written.TheVariants.{Length, Refused}
 
 -- ---- the form of the lines
 
@@ -59,12 +57,12 @@ fits name ts = is_sign 42 (get_or ts 1 []) || same name (get_or ts 1 [])
 -- "the first that fits counts"
 unfoldable pub pin_line : List ℕ → List (List (List ℕ)) → Option (List (List ℕ))
 unfolding fits
-pin_line name [] = none
-pin_line name (ts ∷ rest) = let r = pin_line name rest in cond (fits name ts) (some ts) r
+pin_line name [] = None
+pin_line name (ts ∷ rest) = let r = pin_line name rest in cond (fits name ts) (Some ts) r
 
 unfoldable pub is_there : {A : Type 0} → Option A → Bool
-is_there none = false
-is_there (some a) = true
+is_there None = false
+is_there (Some a) = true
 
 unfoldable pub has_line : List (List (List ℕ)) → List ℕ → Bool
 unfolding is_there pin_line
@@ -73,12 +71,12 @@ has_line lines name = is_there (pin_line name lines)
 -- "A pin's delay is the larger of its rise and fall block delays"
 unfoldable pub delay_of : List (List ℕ) → Option ℕ
 unfolding and_then thousandths
-delay_of ts = and_then (thousandths (get_or ts 5 [])) (λ rise. and_then (thousandths (get_or ts 7 [])) (λ fall. some (max rise fall)))
+delay_of ts = and_then (thousandths (get_or ts 5 [])) (λ rise. and_then (thousandths (get_or ts 7 [])) (λ fall. Some (max rise fall)))
 
 -- the delay of pin j, "0 .. like absent pins' delays"
 unfoldable pub pin_delay : List (List (List ℕ)) → List (List ℕ) → ℕ → Option ℕ
 unfolding and_then pin_line delay_of
-pin_delay lines names j = let d = and_then (pin_line (get_or names j []) lines) delay_of in cond (ltb j (length names)) d (some 0)
+pin_delay lines names j = let d = and_then (pin_line (get_or names j []) lines) delay_of in cond (ltb j (length names)) d (Some 0)
 
 -- d0 to d3
 unfoldable pub delays_of : List (List (List ℕ)) → List (List ℕ) → Option (List ℕ)
@@ -88,7 +86,7 @@ delays_of lines names =
     and_then (pin_delay lines names 1) (λ d1.
     and_then (pin_delay lines names 2) (λ d2.
     and_then (pin_delay lines names 3) (λ d3.
-    some (d0 ∷ d1 ∷ d2 ∷ d3 ∷ [])))))
+    Some (d0 ∷ d1 ∷ d2 ∷ d3 ∷ [])))))
 
 -- ---- a gate
 
@@ -152,7 +150,7 @@ gate_from lines ts =
     let names = pins_of (drop 5 ts) in
     and_then (thousandths (get_or ts 2 [])) (λ area.
     and_then (delays_of lines names) (λ delays.
-    some (record { name = get_or ts 1 []; pins = length names; table = table_of (drop 5 ts); area = area; delays = delays })))
+    Some (record { name = get_or ts 1 []; pins = length names; table = table_of (drop 5 ts); area = area; delays = delays })))
 
 unfoldable pub gate_of : Group → Option Gate
 unfolding gate_from line_tokens
@@ -220,13 +218,13 @@ genlib_text genlib bytes =
 
 -- the answer of a call that writes a text
 unfoldable pub written_answer : Read (List ℕ) → Written
-written_answer (holds t) = Length (length t)
-written_answer (fault n k) = Refused n k
+written_answer (holds t) = Ok (length t)
+written_answer (fault n k) = refused_with n k
 
 -- what the document says that such a call returns: "Success .. returns 0 and the length"
 unfoldable pub written_pair : Written → ℕ × ℕ
-written_pair (Length n) = (0, n)
-written_pair (Refused n k) = (n, k)
+written_pair (Ok n) = (0, n)
+written_pair (Err r) = (r.number, r.place)
 
 -- the same of what is written: what a call returns, whatever its answer is made of
 unfoldable pub written_by : Read (List ℕ) → ℕ × ℕ

@@ -1,6 +1,6 @@
 -- What is promised of the cell text that is written for a genlib text, for every text and every number of lent bytes.
 use Rattle.std.specs.Prelude.{◌^◌, ◌≤◌, ◌<◌, ◌≡◌, ◌&&◌, ◌||◌, ◌∷◌, ◌++◌}
-use Rattle.base.specs.{ℕ, max, Bool, true, false, not, some, List, [], map, Memᴰ, T, length}
+use Rattle.base.specs.{ℕ, max, Bool, true, false, not, Some, List, [], map, Memᴰ, T, length}
 use Rattle.base.specs.{get_or}
 use Rattle.model.specs.Base.{all, bit}
 use Rattle.model.specs.Text.{lines_from, is_name}
@@ -61,15 +61,15 @@ pub record HasDelay (lines : List (List (List ℕ))) (name : List ℕ) (d : ℕ)
   pub fitting : T (fits name line)
   pub rise : ℕ
   pub fall : ℕ
-  pub is_rise : thousandths (get_or line 5 []) ≡ some rise
-  pub is_fall : thousandths (get_or line 7 []) ≡ some fall
+  pub is_rise : thousandths (get_or line 5 []) ≡ Some rise
+  pub is_fall : thousandths (get_or line 7 []) ≡ Some fall
   pub larger : d ≡ max rise fall
 
 -- the gate that is written for a GATE line and its PIN lines: "The written table must equal the expression in its 2^pins rows and be 0 above, like
 -- absent pins' delays"
 pub record GateMeans (g : Group) (c : Gate) : Type 0 where
   pub name : c.name ≡ get_or (line_tokens g.head) 1 []
-  pub area : thousandths (get_or (line_tokens g.head) 2 []) ≡ some c.area
+  pub area : thousandths (get_or (line_tokens g.head) 2 []) ≡ Some c.area
   pub pins : c.pins ≡ length (pins_of (formula_of g))
   pub rows : (r : ℕ) → r < 2 ^ c.pins → HasValue (name_value (pins_of (formula_of g)) r) (formula_of g) (bit c.table r)
   pub above : (r : ℕ) → 2 ^ c.pins ≤ r → bit c.table r ≡ false

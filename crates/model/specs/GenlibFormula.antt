@@ -1,6 +1,6 @@
 -- The expression of a GATE line: its form, its pins, and its value by the grammar. Its tokens are those behind `=`, the `;` among them.
 use Rattle.std.specs.Prelude.{◌+◌, ◌-◌, ◌*◌, ◌&&◌, ◌||◌, ◌∷◌, ◌++◌}
-use Rattle.base.specs.{ℕ, zero, suc, Bool, true, false, not, cond, Option, none, some, List, [], eqb}
+use Rattle.base.specs.{ℕ, zero, suc, Bool, true, false, not, cond, Option, None, Some, List, [], eqb}
 use Rattle.base.specs.{leb, ltb, drop}
 use Rattle.model.specs.Base.{bit, one, flip, any, same, and_then}
 use Rattle.model.specs.Text.{text}
@@ -122,28 +122,28 @@ begins b (t ∷ ts) = is_sign b t
 -- Parts with the sign b between them, joined to a value one after the other. The fuel is one for each part.
 unfoldable pub chain : ℕ → (Bool → Bool → Bool) → (List (List ℕ) → Taken) → ℕ → Bool → List (List ℕ) → Taken
 unfolding and_then begins
-chain b join part zero v ts = none
+chain b join part zero v ts = None
 chain b join part (suc fuel) v ts =
     and_then (part ts) (λ q.
     let on = chain b join part fuel (join v q.0) (drop 1 q.1) in
-    let end : Taken = some (join v q.0, q.1) in
+    let end : Taken = Some (join v q.0, q.1) in
     cond (begins b q.1) on end)
 
 -- a value, with the `'` behind it
 unfoldable pub quoted : Bool → List (List ℕ) → Taken
 unfolding negated_by_signs
-quoted v ts = some (negated_by_signs 39 v ts)
+quoted v ts = Some (negated_by_signs 39 v ts)
 
 -- the bracket that must close behind a value
 unfoldable pub close_bracket : Bool → List (List ℕ) → Taken
 unfolding begins quoted
-close_bracket v ts = cond (begins 41 ts) (quoted v (drop 1 ts)) none
+close_bracket v ts = cond (begins 41 ts) (quoted v (drop 1 ts)) None
 
 -- a name
 unfoldable pub named : (List ℕ → Bool) → Bool → List (List ℕ) → Taken
 unfolding is_word flip quoted
-named value odd [] = none
-named value odd (t ∷ ts) = cond (is_word t) (quoted (flip odd (value t)) ts) none
+named value odd [] = None
+named value odd (t ∷ ts) = cond (is_word t) (quoted (flip odd (value t)) ts) None
 
 -- a name, or what may stand `inside` brackets
 unfoldable pub atom : (List ℕ → Bool) → (List (List ℕ) → Taken) → Bool → List (List ℕ) → Taken
@@ -170,12 +170,12 @@ sum_of value fuel inside ts = chain 43 ◌||◌ (product_of value fuel inside) f
 -- "a bracketed factor of a sum again": what may stand inside brackets, where so many may open, the first of them counted
 unfoldable pub within : (List ℕ → Bool) → ℕ → ℕ → List (List ℕ) → Taken
 unfolding sum_of
-within value fuel zero ts = none
+within value fuel zero ts = None
 within value fuel (suc depth) ts = sum_of value fuel (within value fuel depth) ts
 
 unfoldable pub value_taken : Taken → Bool
-value_taken none = false
-value_taken (some q) = q.0
+value_taken None = false
+value_taken (Some q) = q.0
 
 -- the value of an expression with brackets at most 16 deep; no text has more parts than its 65,536 bytes
 unfoldable pub value_of : (List ℕ → Bool) → List (List ℕ) → Bool

@@ -1,6 +1,6 @@
 -- The graph, the topological order, and the value of a variable as AIGER has it.
 use Rattle.std.specs.Prelude.{◌+◌, ◌*◌, ◌/◌, ◌%◌, ◌&&◌, ◌∷◌, ◌++◌, ◌≡◌}
-use Rattle.base.specs.{ℕ, zero, suc, Bool, false, not, cond, Option, none, some, List, [], map}
+use Rattle.base.specs.{ℕ, zero, suc, Bool, false, not, cond, Option, None, Some, List, [], map}
 use Rattle.base.specs.{Memᴰ, eqb, length}
 use Rattle.model.specs.Base.{flip, elem, keep, lowest, find, run}
 
@@ -58,8 +58,8 @@ ready ordered a = not (elem a.var ordered) && (elem (var_of a.left) ordered && e
 
 -- v, and what comes after it; nothing where there is no v
 unfoldable pub and_on : Option ℕ → (ℕ → List ℕ) → List ℕ
-and_on none on = []
-and_on (some v) on = v ∷ on v
+and_on None on = []
+and_on (Some v) on = v ∷ on v
 
 -- the ANDs that can be ordered after those ordered already, one after the other
 unfoldable pub order_from : ℕ → List And → List ℕ → List ℕ

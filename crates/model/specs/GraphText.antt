@@ -1,15 +1,14 @@
 -- The graph's text in either form, read: its header, then its graph, or the first refusal of 7 to 9, 11 to 14 and 19 to 21 with its place; and a
 -- graph written in the ASCII form.
-use Rattle.std.specs.Prelude.{◌+◌, ◌-◌, ◌*◌, ◌%◌, ◌&&◌, ◌||◌, ◌∷◌, ◌++◌}
-use Rattle.base.specs.{ℕ, zero, suc, Bool, true, false, not, cond, Option, none, some, List, []}
+use Rattle.std.specs.Prelude.{◌+◌, ◌-◌, ◌*◌, ◌%◌, ◌&&◌, ◌||◌, ◌∷◌, ◌++◌, Result, Ok, Err}
+use Rattle.base.specs.{ℕ, zero, suc, Bool, true, false, not, cond, Option, None, Some, List, []}
 use Rattle.base.specs.{map, eqb, leb, ltb, length, get_or, drop, replicate}
 use Rattle.model.specs.Base.{from, all, keep, each, elem, same, and_then, only}
 use Rattle.model.specs.Text.{Line, ended, ended_by_ten, next_of, text, decimal, lines_from, fields, numbers}
-use Rattle.model.specs.ReadResult.{Read, holds, fault, next, unless, from?, Refusal}
+use Rattle.model.specs.ReadResult.{Read, holds, fault, next, unless, from?, refused_with}
 use Rattle.model.specs.Graph.{And, Graph, var_of}
 use Rattle.model.specs.declared.Header.{Header}
-use Rattle.model.specs.declared.HeaderAnswer.{HeaderAnswer}
-use Rattle.model.specs.declared.HeaderAnswer.TheVariants.{Read as WasRead, Refused}
+use Rattle.model.specs.declared.Refusal.{Refusal}
 
 -- ---- the header `aag M I L O A` or `aig M I L O A`
 
@@ -32,12 +31,12 @@ closed binary l = cond binary (ended_by_ten l) (ended l)
 -- the header of a text's first line: "Read the `aig` form too, known by the header's first word."
 unfoldable pub header_of : List Line → Option Header
 unfolding and_then only numbers fields same text header_of_numbers
-header_of [] = none
+header_of [] = None
 header_of (l ∷ ls) =
     let ws = fields l.bytes in
     let binary = same (get_or ws 0 []) (text "aig") in
     and_then (only (closed binary l && (eqb (length ws) 6 && (binary || same (get_or ws 0 []) (text "aag")))) (drop 1 ws)) (λ vs.
-    and_then (numbers vs) (λ ns. some (header_of_numbers binary (next_of l) ns)))
+    and_then (numbers vs) (λ ns. Some (header_of_numbers binary (next_of l) ns)))
 
 -- "M exceeds 4,095, O exceeds 4,096, or I + A exceeds M": none of them
 unfoldable pub in_limits : Header → Bool
@@ -55,19 +54,14 @@ read_header bytes =
     unless (eqb h.latches 0) 8 0 (unless (in_limits h) 9 0 (unless (in_sequence h) 19 0 (holds h))))
 
 -- the answer of the header's reader
-unfoldable pub header_answer : Read Header → HeaderAnswer
-header_answer (holds h) = WasRead h
-header_answer (fault n k) = Refused n k
+unfoldable pub header_answer : Read Header → Result Header Refusal
+header_answer (holds h) = Ok h
+header_answer (fault n k) = refused_with n k
 
--- the documents' number and place for each case of that answer
-unfoldable pub header_refusal : HeaderAnswer → Refusal
-header_refusal (WasRead h) = record { number = 0; place = 0 }
-header_refusal (Refused n k) = record { number = n; place = k }
-
--- and its values, the numbers M, I, L, O and A of the line; a refusal has none
-unfoldable pub header_values : HeaderAnswer → List ℕ
-header_values (WasRead h) = h.size ∷ h.inputs ∷ h.latches ∷ h.outputs ∷ h.ands ∷ []
-header_values (Refused n k) = []
+-- the values of that answer, the numbers M, I, L, O and A of the line; a refusal has none
+unfoldable pub header_values : Result Header Refusal → List ℕ
+header_values (Ok h) = h.size ∷ h.inputs ∷ h.latches ∷ h.outputs ∷ h.ands ∷ []
+header_values (Err r) = []
 
 -- the numbers of a header that is read
 unfoldable pub header_numbers : Read Header → List ℕ

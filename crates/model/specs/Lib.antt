@@ -38,7 +38,7 @@ unfoldable pub use Limits.{need}
 pub use Text.{Line, ended, ended_by_ten, next_of}
 unfoldable pub use Text.{as_digits, between, closing, decimal, digits, fields, hex_digit, hex_from, hex_table, is_letter, is_name, is_name_byte}
 unfoldable pub use Text.{lines_from, number, numbers, onto, parts, shown, split, text}
-pub use ReadResult.{Read, Refusal, fault, holds}
+pub use ReadResult.{Read, Verdict, Written, fault, holds, refused_with}
 unfoldable pub use ReadResult.{first_of, from?, next, refused_at, refusal_at, refusal_of, unless, verdict_of, verdict_refusal}
 unfoldable pub use Table.{orders, pin_row, row_map, row_of, value}
 pub use Cells.{blank, no_cell}
@@ -73,12 +73,12 @@ unfoldable pub use LibraryText.{read_cells, read_library, read_library_lines}
 unfoldable pub use FormerLibrary.{former_cells, former_clean, former_fields, former_library, former_line, former_lines}
 pub use GraphText.{Item, Kind, Passed, an_and, an_input, an_output, closed}
 unfoldable pub use GraphText.{ascii_text, behind_lines, check_uses, defined_by, defines, difference, expected, graph_of, header_answer, header_numbers}
-unfoldable pub use GraphText.{header_of, header_of_numbers, header_refusal, header_values, how_many, in_limits, in_sequence, input_items, is_kind}
+unfoldable pub use GraphText.{header_of, header_of_numbers, header_values, how_many, in_limits, in_sequence, input_items, is_kind}
 unfoldable pub use GraphText.{item_literals, less_by, numbers_line, read_ands, read_binary, read_expected, read_graph, read_header, read_items, same_kind}
 unfoldable pub use GraphText.{uses}
 pub use ArrivalsText.{InputArrival}
 unfoldable pub use ArrivalsText.{arrivals_text, input_arrival_numbers, input_arrival_of, read_arrivals, read_input_arrivals, read_input_arrival_lines, timed_by}
-pub use Mapper.{Call, Design, Returned, call_of, design_of, short, tried_early}
+pub use Mapper.{Answer, Call, Design, Returned, call_of, design_of, short, tried_early}
 unfoldable pub use Mapper.{answer_of, map_design, map_texts, read_listed, read_texts, returned, returned_by, text_after, within, work_after}
 pub use Channels.{Channel, Needs, Outcomes, TwoCall, alone, channel_of, two_call_of}
 unfoldable pub use Channels.{answers_of, map_needs, map_two, need_of, needs_of, two_work_after}
@@ -94,9 +94,9 @@ pub use ShuffleDemands.{Agree, EarliestAt, SameCells, SameLines, Shuffled, Shuff
 unfoldable pub use ShuffleDemands.{behind_first, cell_lines}
 unfoldable pub use NetlistLines.{are_digits, gate_form, gate_of, is_bound, is_figures, is_gate_net, is_inner_net, is_label, is_name_list, is_phase_net}
 unfoldable pub use NetlistLines.{is_timing, is_wire, of_form, of_list}
-unfoldable pub use Tally.{add_each, after_gates, area_of, behind_gates, cell_line, count_text, counted, counted_answer, expected_lines, empty_tally}
+unfoldable pub use Tally.{add_each, after_gates, area_of, behind_gates, cell_line, count_text, counted, expected_lines, empty_tally}
 unfoldable pub use Tally.{preamble, gate_in, gates_in, in_width, nothing_left, outputs_of, read_counted, report_line, report_of, report_text, times}
-unfoldable pub use Tally.{timings, total_line, wire_pairs}
+unfoldable pub use Tally.{tally_after, timings, total_line, wire_pairs}
 pub use GenlibWords.{token_prepended}
 unfoldable pub use GenlibWords.{decimals, in_thousandths, is_blank, is_digit, is_digits, is_empty, is_figure, is_fraction, is_sign, is_word}
 unfoldable pub use GenlibWords.{is_word_byte, lead, span, starts_word, thousandths, tokens, wholes}
@@ -112,7 +112,7 @@ unfoldable pub use Genlib.{written_answer, written_by, written_pair}
 pub use GenlibDemands.{GateMeans, GatesMean, GenlibDemand, HasDelay, HasValue, Listable, Means, Part, bracketed, factor, plus, primed}
 pub use GenlibDemands.{product, sign_negated}
 unfoldable pub use GenlibDemands.{cell_of_gate}
-pub use Check.{Driver, Edited, CheckResult}
+pub use Check.{Checked, Driver, Edited, CheckResult}
 unfoldable pub use Check.{added, among, bound_nets, cell_named, check_read, check_texts, checked_work, compare_from, driven_twice, feeding}
 unfoldable pub use Check.{first_line, first_wrong, preamble_of, gate_driver, gate_of_fields, input_nets, input_values, is_gate, is_line, is_net}
 unfoldable pub use Check.{validate_nets, line_ends, name_driver, net_value, on_cycle, output_nets, past_lines, past_row, pin_net, read_drivers}

@@ -1,8 +1,8 @@
 -- The whole: three texts, the lent words and bytes, the answer "in checking order", and what the lent memory then holds.
-use Rattle.std.specs.Prelude.{◌&&◌, ◌||◌, ◌++◌}
+use Rattle.std.specs.Prelude.{◌&&◌, ◌||◌, ◌++◌, Result, Ok, Err}
 use Rattle.base.specs.{ℕ, Bool, cond, List, eqb, leb, length, drop, replicate}
 use Rattle.model.specs.Limits.{need}
-use Rattle.model.specs.ReadResult.{Read, holds, fault, next, unless}
+use Rattle.model.specs.ReadResult.{Read, refused_with, holds, fault, next, unless}
 use Rattle.model.specs.LibraryText.{read_library, is_ranged}
 use Rattle.model.specs.Pairs.{cells_for}
 use Rattle.model.specs.GraphText.{read_header, read_graph}
@@ -11,8 +11,8 @@ use Rattle.model.specs.Graph.{Graph}
 use Rattle.model.specs.Netlist.{Outcome, refused, mapped, map_graph}
 use Rattle.model.specs.Timing.{followed}
 use Rattle.model.specs.declared.Cell.{Cell}
-use Rattle.model.specs.declared.Answer.{Answer}
-use Rattle.model.specs.declared.Answer.TheVariants.{Mapped, Refused}
+use Rattle.model.specs.declared.Mapped.{Mapped}
+use Rattle.model.specs.declared.Refusal.{Refusal}
 
 -- what a call is given: whether it wants pairs of cells, the library's text, the graph's, the arrivals', "or empty for none", and how many words and
 -- bytes are lent to it
@@ -79,10 +79,14 @@ map_texts c = map_design c.bytes (read_texts c)
 
 -- ---- the answer, and the lent memory
 
+-- what a call answers
+abbrev pub Answer : Type 0
+Answer = Result Mapped Refusal
+
 -- the answer of a call
 unfoldable pub answer_of : Outcome → Answer
-answer_of (refused n k) = Refused n k
-answer_of (mapped t f) = Mapped (length t) f
+answer_of (refused n k) = refused_with n k
+answer_of (mapped t f) = Ok (record { length = length t; figures = f })
 
 -- what the document says that a call returns
 pub record Returned : Type 0 where
@@ -94,8 +98,8 @@ pub record Returned : Type 0 where
 
 -- "Success returns number 0, the netlist's length and the three figures of its `# gates` line; a refusal its number, its place and zero figures"
 unfoldable pub returned : Answer → Returned
-returned (Mapped n f) = record { number = 0; value = n; gates = f.gates; area = f.area; arrival = f.arrival }
-returned (Refused n k) = record { number = n; value = k; gates = 0; area = 0; arrival = 0 }
+returned (Ok m) = record { number = 0; value = m.length; gates = m.figures.gates; area = m.figures.area; arrival = m.figures.arrival }
+returned (Err r) = record { number = r.number; value = r.place; gates = 0; area = 0; arrival = 0 }
 
 -- the same of an outcome: what a call returns, whatever its answer is made of
 unfoldable pub returned_by : Outcome → Returned

@@ -1,10 +1,10 @@
 -- The gates, the netlist's text and its figures, and what is printed for a graph that is read.
 use Rattle.std.specs.Prelude.{◌+◌, ◌*◌, ◌∷◌, ◌++◌}
-use Rattle.base.specs.{ℕ, suc, max, Bool, true, false, cond, not, Option, none, some, List, [], map, reverse, ltb}
+use Rattle.base.specs.{ℕ, suc, max, Bool, true, false, cond, not, Option, None, Some, List, [], map, reverse, ltb}
 use Rattle.base.specs.{length, take, drop}
 use Rattle.model.specs.Base.{keep, each, find, elem, below, lowest}
 use Rattle.model.specs.Text.{text, decimal}
-use Rattle.model.specs.ReadResult.{refused_at, first_of}
+use Rattle.model.specs.ReadResult.{Verdict, refused_at, first_of}
 use Rattle.model.specs.Cells.{name_of, cell_at}
 use Rattle.model.specs.Pairs.{splice, pair_at}
 use Rattle.model.specs.Graph.{Graph, topological_order, unordered, var_of, negated, literal}
@@ -15,7 +15,6 @@ use Rattle.model.specs.declared.Source.{Source}
 use Rattle.model.specs.declared.Source.TheVariants.{Input, Cell as Matched, Inverter as Inverted, Nothing}
 use Rattle.model.specs.declared.Phase.{Phase}
 use Rattle.model.specs.declared.Figures.{Figures}
-use Rattle.model.specs.declared.Verdict.{Verdict}
 
 -- ---- the needed phases
 
@@ -225,8 +224,8 @@ map_cut listed cells g [] = map_chosen listed cells g (choices cells g)
 -- the cuts, unless some AND can't be ordered: "place, the lowest such variable"
 unfoldable pub map_ordered : List Cell → List Cell → Graph → Option ℕ → Outcome
 unfolding map_cut over_limit
-map_ordered listed cells g (some v) = refused 15 v
-map_ordered listed cells g none = map_cut listed cells g (over_limit g)
+map_ordered listed cells g (Some v) = refused 15 v
+map_ordered listed cells g None = map_cut listed cells g (over_limit g)
 
 -- what is printed for a library and a graph, 15 to 17 tried in this order: `cells` are the listed cells, and pairs where they are wanted
 unfoldable pub map_graph : List Cell → List Cell → Graph → Outcome

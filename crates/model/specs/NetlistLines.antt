@@ -1,6 +1,6 @@
 -- The forms of a printed netlist's lines, field by field: "the kind and form mapping prints there (net and output numbers and times may be any digits)".
 use Rattle.std.specs.Prelude.{◌+◌, ◌&&◌, ◌||◌, ◌∷◌, ◌++◌}
-use Rattle.base.specs.{ℕ, suc, Bool, true, false, cond, Option, none, some, List, [], map, eqb, ltb, length}
+use Rattle.base.specs.{ℕ, suc, Bool, true, false, cond, Option, None, Some, List, [], map, eqb, ltb, length}
 use Rattle.base.specs.{get_or, drop}
 use Rattle.model.specs.Base.{all, same, below}
 use Rattle.model.specs.Text.{text, decimal, fields, between}
@@ -67,8 +67,8 @@ gate_form c = same (text ".gate") ∷ same (name_of c) ∷ map (λ (j : ℕ). is
 -- the line of the listed cell that a gate line is of, the lines numbered from k
 unfoldable pub gate_of : ℕ → List Cell → List ℕ → Option ℕ
 unfolding of_form gate_form fields
-gate_of k [] l = none
-gate_of k (c ∷ cs) l = let later = gate_of (suc k) cs l in cond (of_form (gate_form c) (fields l)) (some k) later
+gate_of k [] l = None
+gate_of k (c ∷ cs) l = let later = gate_of (suc k) cs l in cond (of_form (gate_form c) (fields l)) (Some k) later
 
 -- `.names p3 o0`
 unfoldable pub is_wire : List ℕ → Bool

@@ -1,8 +1,7 @@
 -- What reading gives: what is read, or the first refusal that applies.
-use Rattle.std.specs.Prelude.{◌∷◌}
-use Rattle.base.specs.{ℕ, Bool, true, false, Option, none, some, List, []}
-use Rattle.model.specs.declared.Verdict.{Verdict}
-use Rattle.model.specs.declared.Verdict.TheVariants.{Accepted, Refused}
+use Rattle.std.specs.Prelude.{◌∷◌, Result, Ok, Err}
+use Rattle.base.specs.{ℕ, Bool, true, false, Option, None, Some, List, []}
+use Rattle.model.specs.declared.Refusal.{Refusal}
 
 -- what a text holds, or a refusal's number and place
 pub data Read (A : Type 0) : Type 0 where
@@ -21,44 +20,51 @@ unless false n k r = fault n k
 
 -- a fault where there is nothing
 unfoldable pub from? : {A : Type 0} → Option A → ℕ → ℕ → Read A
-from? none n k = fault n k
-from? (some a) n k = holds a
+from? None n k = fault n k
+from? (Some a) n k = holds a
 
 -- ---- verdicts of the code, by document 01's numbers and places
 
+-- what a layer answers that hands nothing on
+abbrev pub Verdict : Type 0
+Verdict = Result (Unit {0}) Refusal
+
+-- what a call that writes a text answers: the text's length
+abbrev pub Written : Type 0
+Written = Result ℕ Refusal
+
+-- refusal n at a place
+abbrev pub refused_with : {A : Type 0} → ℕ → ℕ → Result A Refusal
+refused_with n k = Err (record { number = n; place = k })
+
 -- what a reading says, without what was read
 unfoldable pub verdict_of : {A : Type 0} → Read A → Verdict
-verdict_of (holds a) = Accepted
-verdict_of (fault n k) = Refused n k
+verdict_of (holds a) = Ok tt
+verdict_of (fault n k) = refused_with n k
 
 -- refusal n at a place, if there is one
 unfoldable pub refused_at : ℕ → Option ℕ → Verdict
-refused_at n none = Accepted
-refused_at n (some k) = Refused n k
+refused_at n None = Ok tt
+refused_at n (Some k) = refused_with n k
 
 -- the first of a list
 unfoldable pub first_of : List ℕ → Option ℕ
-first_of [] = none
-first_of (k ∷ ks) = some k
+first_of [] = None
+first_of (k ∷ ks) = Some k
 
 -- ---- document 01's number and values for each case of an answer
 
--- a refusal's number and place; number 0 where nothing is refused
-pub record Refusal : Type 0 where
-  pub number : ℕ
-  pub place : ℕ
-
--- what is read says a number and a place
+-- what is read says a refusal's number and place; number 0 where nothing is refused
 unfoldable pub refusal_of : {A : Type 0} → Read A → Refusal
 refusal_of (holds a) = record { number = 0; place = 0 }
 refusal_of (fault n k) = record { number = n; place = k }
 
 -- refusal n, where it has a place
 unfoldable pub refusal_at : ℕ → Option ℕ → Refusal
-refusal_at n none = record { number = 0; place = 0 }
-refusal_at n (some k) = record { number = n; place = k }
+refusal_at n None = record { number = 0; place = 0 }
+refusal_at n (Some k) = record { number = n; place = k }
 
--- the cases of a verdict
-unfoldable pub verdict_refusal : Verdict → Refusal
-verdict_refusal Accepted = record { number = 0; place = 0 }
-verdict_refusal (Refused n k) = record { number = n; place = k }
+-- the cases of an answer
+unfoldable pub verdict_refusal : {A : Type 0} → Result A Refusal → Refusal
+verdict_refusal (Ok a) = record { number = 0; place = 0 }
+verdict_refusal (Err r) = r

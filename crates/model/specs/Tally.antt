@@ -1,7 +1,7 @@
 -- Netlists of one library counted into a tally, and its report: "a line per cell in library order, as `inv 3 3 2`: its gates, their total area and in how many
 -- netlists it occurs; then `total` with gates, area and netlists counted".
 use Rattle.std.specs.Prelude.{◌+◌, ◌-◌, ◌*◌, ◌^◌, ◌&&◌, ◌∷◌, ◌++◌}
-use Rattle.base.specs.{ℕ, suc, Bool, cond, Option, none, some, List, [], map, eqb, leb, ltb, length}
+use Rattle.base.specs.{ℕ, suc, Bool, cond, Option, None, Some, List, [], map, eqb, leb, ltb, length}
 use Rattle.base.specs.{take, get_or, replicate}
 use Rattle.model.specs.Base.{one, all, each, same, below}
 use Rattle.model.specs.Text.{Line, ended_by_ten, text, decimal, lines_from, fields}
@@ -12,8 +12,6 @@ use Rattle.model.specs.Netlist.{sum}
 use Rattle.model.specs.NetlistLines.{is_name_list, gate_of, is_wire, is_figures, is_timing}
 use Rattle.model.specs.declared.Cell.{Cell}
 use Rattle.model.specs.declared.Tally.{Tally}
-use Rattle.model.specs.declared.Counted.{Counted}
-use Rattle.model.specs.declared.Verdict.TheVariants.{Accepted, Refused}
 
 -- ---- the tally
 
@@ -45,18 +43,18 @@ nothing_left (l ∷ ls) = fault 29 l.offset
 -- the listed cell that a line is a gate of, if it is one
 unfoldable pub gate_in : List Cell → Line → Option ℕ
 unfolding gate_of
-gate_in cells l = cond (ended_by_ten l) (gate_of 0 cells l.bytes) none
+gate_in cells l = cond (ended_by_ten l) (gate_of 0 cells l.bytes) None
 
 -- the cells of the gate lines that come first, and the lines behind these
 unfoldable pub gates_in : List Cell → List Line → List ℕ
 unfolding gate_in
 gates_in cells [] = []
-gates_in cells (l ∷ ls) = elim (gate_in cells l) [ some i ↦ i ∷ gates_in cells ls | none ↦ [] ]
+gates_in cells (l ∷ ls) = elim (gate_in cells l) [ Some i ↦ i ∷ gates_in cells ls | None ↦ [] ]
 
 unfoldable pub after_gates : List Cell → List Line → List Line
 unfolding gate_in
 after_gates cells [] = []
-after_gates cells (l ∷ ls) = elim (gate_in cells l) [ some i ↦ after_gates cells ls | none ↦ l ∷ ls ]
+after_gates cells (l ∷ ls) = elim (gate_in cells l) [ Some i ↦ after_gates cells ls | None ↦ l ∷ ls ]
 
 -- the area of gates
 unfoldable pub area_of : List Cell → List ℕ → ℕ
@@ -132,9 +130,9 @@ count_text t library netlist =
     (next (read_counted (is_ranged library) cells netlist) (λ used. holds (counted cells used t)))))
 
 -- "A refused netlist adds nothing."
-unfoldable pub counted_answer : Tally → Read Tally → Counted
-counted_answer t (holds u) = record { verdict = Accepted; tally = u }
-counted_answer t (fault n k) = record { verdict = Refused n k; tally = t }
+unfoldable pub tally_after : Tally → Read Tally → Tally
+tally_after t (holds u) = u
+tally_after t (fault n k) = t
 
 -- ---- the report
 

@@ -2,7 +2,7 @@
 use Prim.Native.Char.{code}
 use Prim.Native.String.{String, [] as end, ◌∷◌ as ◌then◌}
 use Rattle.std.specs.Prelude.{◌+◌, ◌-◌, ◌*◌, ◌/◌, ◌%◌, ◌&&◌, ◌||◌, ◌∷◌}
-use Rattle.base.specs.{ℕ, zero, suc, Bool, true, false, cond, Option, none, some, List, []}
+use Rattle.base.specs.{ℕ, zero, suc, Bool, true, false, cond, Option, None, Some, List, []}
 use Rattle.base.specs.{reverse, eqb, ltb, leb, length}
 use Rattle.model.specs.Base.{all, same, and_then, only}
 
@@ -96,8 +96,8 @@ number w = let n = as_digits 0 w in only (leb n 65535 && same w (decimal n)) n
 -- all fields as numbers
 unfoldable pub numbers : List (List ℕ) → Option (List ℕ)
 unfolding and_then number
-numbers [] = some []
-numbers (w ∷ ws) = and_then (number w) (λ n. and_then (numbers ws) (λ ns. some (n ∷ ns)))
+numbers [] = Some []
+numbers (w ∷ ws) = and_then (number w) (λ n. and_then (numbers ws) (λ ns. Some (n ∷ ns)))
 
 -- a byte of a range
 unfoldable pub between : ℕ → ℕ → ℕ → Bool
@@ -106,12 +106,12 @@ between low high b = leb low b && leb b high
 -- the value of a "lower-case hexadecimal" digit
 unfoldable pub hex_digit : ℕ → Option ℕ
 unfolding between
-hex_digit b = cond (between 48 57 b) (some (b - 48)) (cond (between 97 102 b) (some (b - 87)) none)
+hex_digit b = cond (between 48 57 b) (Some (b - 48)) (cond (between 97 102 b) (Some (b - 87)) None)
 
 -- the digits behind a number that was read so far
 unfoldable pub hex_from : ℕ → List ℕ → Option ℕ
 unfolding and_then hex_digit
-hex_from n [] = some n
+hex_from n [] = Some n
 hex_from n (b ∷ bs) = and_then (hex_digit b) (λ d. hex_from (n * 16 + d) bs)
 
 -- "The table is four lower-case hexadecimal digits"

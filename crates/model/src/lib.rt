@@ -3,6 +3,7 @@
 
 // A cell of the library: "cell pins table area d0 d1 d2 d3" and, in the longer form, `l0` to `l3`; in the shorter the lowest delays are the
 // delays. Its name is the first `len` bytes of `name`, and the bytes after them are 0.
+// Stays: arrays and their lengths: no heap, and the definitions of the documents (`name_of`, `cells_of`, `cut_at`) say these fields.
 #[derive(Clone, Copy)]
 pub struct Cell {
     pub name: [u8; 8],
@@ -15,24 +16,19 @@ pub struct Cell {
 }
 
 // "No cells and 32 cells are accepted." The first `n` are the library's, in the order of their lines.
+// Stays: no heap, as `Cell`.
 #[derive(Clone, Copy)]
 pub struct Library {
     pub n: usize,
     pub cells: [Cell; 32],
 }
 
-// A refusal's number and place, or none. Every layer answers with it.
-#[derive(Clone, Copy)]
-pub enum Verdict {
-    Accepted,
-    Refused(usize, usize),
-}
-
-// The cells stand beside the verdict. After a refusal there are none.
-#[derive(Clone, Copy)]
-pub struct LibraryAnswer {
-    pub verdict: Verdict,
-    pub library: Library,
+// A refusal, by document 01's number and place. Every layer answers `Err` with it.
+// Stays: the numbers are the documents' names of the refusals: the definitions (`fault n k`), the theorems and the C interface say them.
+#[derive(Clone, Copy, PartialEq, Eq)]
+pub struct Refusal {
+    pub number: usize,
+    pub place: usize,
 }
 
 // The numbers of the header line `aag M I L O A` or `aig M I L O A`, the offset of what follows the line, and whether the graph is in the
@@ -48,13 +44,8 @@ pub struct Header {
     pub binary: bool,
 }
 
-#[derive(Clone, Copy)]
-pub enum HeaderAnswer {
-    Read(Header),
-    Refused(usize, usize),
-}
-
 // A cut: so many leaves, ascending; what stands past them is no part of the cut.
+// Stays: no heap, as `Cell`.
 #[derive(Clone, Copy)]
 pub struct Cut {
     pub leaves: [u16; 4],
@@ -71,6 +62,7 @@ pub struct Match {
 }
 
 // "In the state each phase is one of these sources with its data, or none." An inverter's data is its cell's line.
+// Stays: document 01 names the form, "enum Input, Cell(match struct), Inverter(cell), Nothing".
 #[derive(Clone, Copy)]
 pub enum Source {
     Input,
@@ -94,19 +86,15 @@ pub struct Figures {
     pub arrival: u32,
 }
 
-// What a call answers: the netlist's length and its figures, or a refusal's number and place.
+// A netlist that was printed: its length and its figures.
 #[derive(Clone, Copy)]
-pub enum Answer {
-    Mapped(usize, Figures),
-    Refused(usize, usize),
+pub struct Mapped {
+    pub length: usize,
+    pub figures: Figures,
 }
 
-// What a call that writes a text answers: the text's length, or a refusal's number and place.
-#[derive(Clone, Copy)]
-pub enum Written {
-    Length(usize),
-    Refused(usize, usize),
-}
+// What a call answers.
+pub type Answer = Result<Mapped, Refusal>;
 
 // The scan of a genlib expression: a factor is expected, or one has ended, where so many brackets are open; or the `;` has ended it.
 #[derive(Clone, Copy)]
@@ -126,6 +114,7 @@ pub struct Two {
 
 // The netlists counted so far: for each of the library's 32 lines the gates of its cell, their total area and in how many netlists it occurs, and how
 // many netlists were counted. "a tally handed on by these calls from an empty one".
+// Stays: three columns, as the C interface has them, 32 numbers each and one; the theorem `Tallied` says these fields.
 #[derive(Clone, Copy)]
 pub struct Tally {
     pub gates: [u64; 32],
@@ -134,18 +123,10 @@ pub struct Tally {
     pub netlists: u64,
 }
 
-// What counting answers: the tally handed on stands beside the verdict. After a refusal it is the tally as it was.
-#[derive(Clone, Copy)]
-pub struct Counted {
-    pub verdict: Verdict,
-    pub tally: Tally,
-}
-
-// What a check of a netlist answers: it computes the graph; or the lowest assignment that differs and that assignment's first wrong output; or a
-// refusal's number and place.
-#[derive(Clone, Copy)]
-pub enum Checked {
-    Accepted,
+// What a check of a netlist finds: it computes the graph; or the lowest assignment that differs and that assignment's first wrong output.
+// Stays: the new form is no plainer: an Option of the two numbers would call None what is found equal.
+#[derive(Clone, Copy, PartialEq, Eq)]
+pub enum Comparison {
+    Equal,
     Differs(usize, usize),
-    Refused(usize, usize),
 }

@@ -2,6 +2,7 @@
 --     four_taken          the first of four nets are those that feed so many pins
 --     root_before, ..     which net a root's pin has
 --     drives_by           what drives a phase by the cell of a number are its gates
+--     nothing_drives      of no driver there are no gates
 --     number-pins         a number's pins are at most four
 use Rattle.base.specs.{◌≡◌, refl, sym, ap, ◌∙◌, Bool, true, false, cond, List, [], ◌∷◌, map, ℕ, zero, suc, ◌+◌, ◌-◌, ◌*◌, ◌/◌, ◌%◌, ◌≤◌}
 use Rattle.base.specs.{◌<◌, not-suc-le-zero, arith, eqb, ltb, length, get_or, take, drop, get_or-map, lt-ltb, le-ltb, ltb-true, ltb-false}
@@ -13,7 +14,7 @@ use Rattle.base_truth.specs.{places_of}
 use Rattle.base_truth.proofs.{places-four}
 use Rattle.cells_pairs.specs.{count_in, line_cell, id_in}
 use Rattle.net_gates.specs.{net_of, phase_net, inside_net, four_nets, inner_four, root_pick, root_four, gate_of, gates_of, one_driver}
-use Rattle.net_gates.specs.{two_driver, pair_driver, driver_by, pins_by, gates_under, root_in, inner_in, NumberReady, Drives}
+use Rattle.net_gates.specs.{two_driver, pair_driver, driver_by, pins_by, gates_under, root_in, inner_in, NumberReady, Drives, no_driver}
 
 -- the first of the four nets are those that feed so many pins
 four-places : (places : List ℕ) → length places ≡ 4 → (mask : ℕ) (leaves : List ℕ) (n : ℕ) → n ≤ 4 → take n (four_nets places mask leaves) ≡ fed_nets n places mask leaves
@@ -187,7 +188,7 @@ module _ (ps : List ℕ) (four : length ps ≡ 4) (l : ℕ) where
 
   one-drives : (c : Cell) → c.pins ≤ 4 → Drives (one_driver c nets c.pins l) (one_gate c (take c.pins ps) l)
   unfolding gates_of gate_of one_gate
-  one-drives c h = record { is_gate = λ i. record { cell = c; pins = one-nets c.pins i; net = net-phase l i } ∷ []; few = (omega arith, h); none = λ e. absurd (omega (arith, ap length e)) }
+  one-drives c h = record { is_gate = λ i. record { cell = c; pins = one-nets c.pins i; net = net-phase l i } ∷ []; few = h; none = λ e. absurd (omega (arith, ap length e)) }
 
   pub drives_by : (records : List ℕ) (k : ℕ) → NumberReady records k → Drives (driver_by records k nets l) (gates_under records k (take (pins_by records k) ps) l)
   unfolding driver_by gates_under pins_by pair_pins
@@ -211,7 +212,12 @@ number-pins records k ready = go (ltb k (count_in records)) refl
     go true e = (ready.listed (ltb-true k (count_in records) e)).pins
     go false e = let p = ready.pair (ltb-false k (count_in records) e) in omega (arith, p.few, p.some)
 
+-- where no gate drives
+pub nothing_drives : Drives no_driver []
+unfolding gates_of
+nothing_drives = record { is_gate = refl; few = tt; none = λ _. refl }
+
 -- an inverter's
 pub drives-inverted : (c : Cell) (x l : ℕ) → Drives (one_driver c (phase_net x ∷ 0 ∷ 0 ∷ 0 ∷ []) 1 l) (one_gate c (x ∷ []) l)
 unfolding gates_of gate_of one_gate
-drives-inverted c x l = record { is_gate = λ i. record { cell = c; pins = net-phase x i ∷ []; net = net-phase l i } ∷ []; few = (omega arith, omega arith); none = λ e. absurd (omega (arith, ap length e)) }
+drives-inverted c x l = record { is_gate = λ i. record { cell = c; pins = net-phase x i ∷ []; net = net-phase l i } ∷ []; few = omega arith; none = λ e. absurd (omega (arith, ap length e)) }

@@ -1,3 +1,3 @@
 -- `GateFeeds`: the nets of a match, and its gates.
 pub mod GateFeeds
-pub use GateFeeds.{drives_by, drives-inverted, four_taken, number-pins}
+pub use GateFeeds.{drives_by, drives-inverted, four_taken, nothing_drives, number-pins}

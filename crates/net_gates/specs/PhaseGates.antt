@@ -1,12 +1,13 @@
 -- What drives a phase: its gates as the code holds them, and what in the list of cell records they are made of.
 use Rattle.std.specs.Prelude.{◌+◌, ◌-◌, ◌*◌, ◌/◌, ◌%◌, ◌≤◌, ◌<◌, ◌≡◌, ◌∷◌}
-use Rattle.base.specs.{ℕ, true, false, cond, List, [], map, eqb, ltb, length, get_or, take}
-use Rattle.model.specs.{blank, pair_pins, Net, of_phase, of_pair, Gate, one_gate, two_gates}
+use Rattle.base.specs.{ℕ, cond, List, [], map, eqb, ltb, length, get_or, take}
+use Rattle.model.specs.{pair_pins, Net, of_phase, of_pair, Gate, one_gate, two_gates}
 use Rattle.model.specs.declared.Cell.{Cell}
 use Rattle.base_truth.specs.{pin_net}
 use Rattle.cells_pairs.specs.{count_in, line_cell, id_place, id_in}
 use Rattle.net_gates.specs.declared.Instance.{Instance}
 use Rattle.net_gates.specs.declared.Driver.{Driver}
+use Rattle.net_gates.specs.declared.Driver.TheVariants.{Nothing, One, Pair}
 
 -- ---- nets
 
@@ -55,17 +56,18 @@ gate_of i = record { cell = i.cell; pins = map net_of (take i.count i.nets); net
 -- the gates that a driver is
 unfoldable pub gates_of : Driver → List Gate
 unfolding gate_of
-gates_of d = cond d.there (cond d.pair (gate_of d.inner ∷ gate_of d.root ∷ []) (gate_of d.root ∷ [])) []
+gates_of Nothing = []
+gates_of (One g) = gate_of g ∷ []
+gates_of (Pair inner root) = gate_of inner ∷ gate_of root ∷ []
 
 abbrev pub FewPins : Driver → Type 0
-FewPins d = (d.inner.count ≤ 4) × (d.root.count ≤ 4)
-
-abbrev pub no_instance : Instance
-no_instance = record { cell = blank; nets = 0 ∷ 0 ∷ 0 ∷ 0 ∷ []; count = 0; net = 0 }
+FewPins Nothing = Unit {0}
+FewPins (One g) = g.count ≤ 4
+FewPins (Pair inner root) = (inner.count ≤ 4) × (root.count ≤ 4)
 
 -- no gate drives
 abbrev pub no_driver : Driver
-no_driver = record { there = false; pair = false; inner = no_instance; root = no_instance }
+no_driver = Nothing
 
 -- a driver is these gates; of no gate there is one alone
 pub record Drives (d : Driver) (ts : List Gate) : Type 0 where
@@ -75,20 +77,12 @@ pub record Drives (d : Driver) (ts : List Gate) : Type 0 where
 
 -- a listed cell that drives phase l; a pair that does
 abbrev pub one_driver : Cell → List ℕ → ℕ → ℕ → Driver
-one_driver cell nets count l = record {
-  there = true;
-  pair = false;
-  inner = no_instance;
-  root = record { cell = cell; nets = nets; count = count; net = phase_net l };
-}
+one_driver cell nets count l = One (record { cell = cell; nets = nets; count = count; net = phase_net l })
 
 abbrev pub two_driver : Cell → ℕ → Cell → List ℕ → ℕ → Driver
-two_driver root pin inner nets l = record {
-  there = true;
-  pair = true;
-  inner = record { cell = inner; nets = inner_nets nets pin; count = inner.pins; net = inside_net l };
-  root = record { cell = root; nets = root_nets nets (inside_net l) pin inner.pins; count = root.pins; net = phase_net l };
-}
+two_driver root pin inner nets l =
+    Pair (record { cell = inner; nets = inner_nets nets pin; count = inner.pins; net = inside_net l })
+    (record { cell = root; nets = root_nets nets (inside_net l) pin inner.pins; count = root.pins; net = phase_net l })
 
 -- ---- by the list of cell records
 

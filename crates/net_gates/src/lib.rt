@@ -2,15 +2,16 @@
 #![tactic(auto)]
 
 ghost use Rattle.std.specs.Prelude.{◌≡◌, ◌≤◌, ◌<◌};
-ghost use Rattle.base.specs.{[], map, get_or};
+ghost use Rattle.base.specs.{map, get_or};
 ghost use Rattle.base_truth.specs.{places_of};
-ghost use Rattle.net_gates.specs.{phase_net, four_nets, inner_nets, root_net, root_nets, no_instance, one_driver, two_driver, pair_driver};
-ghost use Rattle.net_gates.specs.{driver_by, PairReady, NumberReady, Drives};
+ghost use Rattle.net_gates.specs.{phase_net, four_nets, inner_nets, root_net, root_nets, one_driver, two_driver, pair_driver};
+ghost use Rattle.net_gates.specs.{driver_by, PairReady, NumberReady};
 
 use model::Cell;
 
 // A gate of the netlist: a listed cell, the nets of its first `count` pins in order, and its own net. A net's number is twice a phase's literal, and
 // one more for the net inside the pair that drives the phase.
+// Stays: the project's rule (no heap, fixed memory): at most four nets, in an array with their number beside it.
 #[derive(Clone, Copy)]
 pub struct Instance {
     pub cell: Cell,
@@ -19,13 +20,12 @@ pub struct Instance {
     pub net: u32,
 }
 
-// What drives a phase: one gate, the root, or two: "A pair prints as two gates". Nothing where the phase is not there.
+// What drives a phase: nothing where the phase is not there, one gate, or two, the inner and the root: "A pair prints as two gates".
 #[derive(Clone, Copy)]
-pub struct Driver {
-    pub there: bool,
-    pub pair: bool,
-    pub inner: Instance,
-    pub root: Instance,
+pub enum Driver {
+    Nothing,
+    One(Instance),
+    Pair(Instance, Instance),
 }
 
 // The phases that feed a match's four pins, as nets.
@@ -84,58 +84,17 @@ fn root_nets(nets: [u32; 4], pin: usize, n: usize, inside: u32) -> [u32; 4]
     [a, b, c, d]
 }
 
-// No gate.
-fn no_instance() -> Instance
-    ensures { result ≡ no_instance }
-{
-    let cell = Cell {
-        name: [0; 8],
-        len: 0,
-        pins: 0,
-        table: 0,
-        area: 0,
-        delays: [0; 4],
-        mins: [0; 4],
-    };
-    Instance {
-        cell,
-        nets: [0; 4],
-        count: 0,
-        net: 0,
-    }
-}
-
-pub fn no_driver() -> Driver
-    ensures { Drives result [] }
-{
-    let inner = no_instance();
-    let root = no_instance();
-    Driver {
-        there: false,
-        pair: false,
-        inner,
-        root,
-    }
-}
-
 // A listed cell that drives phase l.
 pub fn one_gate(cell: Cell, nets: [u32; 4], count: usize, l: usize) -> Driver
     requires { l < 65536 }
     ensures { result ≡ one_driver cell nets count l }
 {
-    let inner = no_instance();
-    let root = Instance {
+    Driver::One(Instance {
         cell,
         nets,
         count,
         net: 2 * l as u32,
-    };
-    Driver {
-        there: true,
-        pair: false,
-        inner,
-        root,
-    }
+    })
 }
 
 // The two gates of a pair that drives phase l.
@@ -144,7 +103,7 @@ fn two_gates(a: Cell, pin: usize, b: Cell, nets: [u32; 4], l: usize) -> Driver
     ensures { result ≡ two_driver a pin b nets l }
 {
     let inside = 2 * l as u32 + 1;
-    let n = b.pins as usize;
+    let n = usize::from(b.pins);
     let fed = inner_nets(nets, pin);
     let inner = Instance {
         cell: b,
@@ -156,15 +115,10 @@ fn two_gates(a: Cell, pin: usize, b: Cell, nets: [u32; 4], l: usize) -> Driver
     let root = Instance {
         cell: a,
         nets: feeds,
-        count: a.pins as usize,
+        count: usize::from(a.pins),
         net: 2 * l as u32,
     };
-    Driver {
-        there: true,
-        pair: true,
-        inner,
-        root,
-    }
+    Driver::Pair(inner, root)
 }
 
 // The pair of a number: its cells, and the fed pin.
@@ -184,7 +138,7 @@ pub fn gates_by(records: &[u8], k: usize, nets: [u32; 4], l: usize) -> Driver
 {
     if k < cells_pairs::count(records) {
         let cell = cells_pairs::cell_at(records, k);
-        one_gate(cell, nets, cell.pins as usize, l)
+        one_gate(cell, nets, usize::from(cell.pins), l)
     } else {
         let id = cells_pairs::pair_id_at(records, k);
         pair_gates(records, id, nets, l)

@@ -4,7 +4,7 @@ pub mod MinArrivalWords
 pub mod TimingLines
 pub mod TimingContracts
 pub use MinArrivalWords.{InverterIn, MinsOf, Retimable, after, own_at, put_min}
-unfoldable pub use MinArrivalWords.{four_at, latest_min, match_min, own_min, retimed_step, retimed_up, inverter_min}
+unfoldable pub use MinArrivalWords.{latest_min, match_min, own_min, retimed_step, retimed_up, inverter_min}
 pub use TimingLines.{line_length, line_of}
 unfoldable pub use TimingLines.{line_text, lines_from}
 pub use TimingContracts.{MatchTimable, MatchTimed, SourceTimed, VariableTimed, VariablesTimable, VariablesTimed}

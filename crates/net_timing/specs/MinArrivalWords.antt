@@ -1,6 +1,6 @@
 -- The minimum arrivals of the chosen phases, from the words and into them.
 use Rattle.std.specs.Prelude.{◌+◌, ◌*◌, ◌/◌, ◌≤◌, ◌<◌, ◌≡◌, ◌∷◌}
-use Rattle.base.specs.{ℕ, zero, suc, max, cond, List, [], leb, length, get_or, set, drop}
+use Rattle.base.specs.{ℕ, zero, suc, max, cond, List, [], leb, length, get_or, drop}
 use Rattle.model.specs.{cell_at, match_nets}
 use Rattle.model.specs.declared.Cell.{Cell}
 use Rattle.model.specs.declared.Match.{Match}
@@ -76,11 +76,6 @@ pub record Retimable (cells : List Cell) (w : List ℕ) (m : ℕ) : Type 0 where
   pub inverters : (l : ℕ) → l / 2 ≤ m → InverterIn cells (phase_at w m l).source
 
 -- ---- the table of the lowest delays, four to a cell
-
--- the table with the four of cell k
-unfoldable pub four_at : List ℕ → ℕ → List ℕ → List ℕ
-four_at xs k ds =
-    set (set (set (set xs (4 * k) (get_or ds 0 0)) (4 * k + 1) (get_or ds 1 0)) (4 * k + 2) (get_or ds 2 0)) (4 * k + 3) (get_or ds 3 0)
 
 -- the lowest delays of each cell, by number
 pub record MinsOf (cells : List Cell) (mins : List ℕ) : Type 0 where

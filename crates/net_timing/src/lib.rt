@@ -2,7 +2,7 @@
 // "The netlist is then followed by a line per output, as `# timing o0 30 35`: a low and a high arrival."
 #![tactic(auto)]
 
-ghost use Rattle.std.specs.Prelude.{◌≡◌, ◌+◌, ◌*◌, ◌/◌, ◌≤◌, ◌<◌};
+ghost use Rattle.std.specs.Prelude.{◌≡◌, ◌+◌, ◌*◌, ◌/◌, ◌≤◌};
 ghost use Rattle.base.specs.{List, length, drop};
 ghost use Rattle.model.specs.{cells_of, fed_nets};
 ghost use Rattle.model.specs.declared.Cell.{Cell};
@@ -12,7 +12,7 @@ ghost use Rattle.base_text.specs.{Wrote};
 ghost use Rattle.cells_pairs.specs.{cells_by, Coded};
 ghost use Rattle.cover_choice.specs.{PinsOf, PinsIn, OutputsIn, SlotsIn, MatchesIn};
 ghost use Rattle.net_timing.specs.{after, latest_min, inverter_min, retimed_up, InverterIn, Retimable};
-ghost use Rattle.net_timing.specs.{four_at, MinsOf, line_text, line_length, lines_from};
+ghost use Rattle.net_timing.specs.{MinsOf, line_text, line_length, lines_from};
 ghost use Rattle.net_timing.specs.{MatchTimable, MatchTimed, SourceTimed, VariableTimed, VariablesTimable, VariablesTimed};
 
 use model::{Header, Library, Match, Phase, Source};
@@ -26,7 +26,7 @@ type MinDelays = [u32; 1024];
 fn later(t: u32, d: u32) -> u32
     ensures { result ≡ after t d }
 {
-    if d <= 4294967295 - t { t + d } else { t }
+    t.checked_add(d).unwrap_or(t)
 }
 
 // "the largest of feeding arrival plus pin delay", over the nets that feed a cell under an order and a mask: from the last pin to the first. The
@@ -45,14 +45,10 @@ fn pins_min_arrival(
     ensures { result ≡ latest_min work.now m (fed_nets pins (places_of order) mask leaves) (drop at mins.now) }
 {
     let mut t: u32 = 0;
-    let mut j = pins;
-    while j > 0 {
-        j -= 1;
+    for j in (0..pins).rev() {
         let net = base_truth::pin_net(leaves, order, mask, j);
-        t = net_writer::larger(
-            later(base_words::min_arrival(work, m, net), mins[at + j]),
-            t,
-        );
+        let fed = later(base_words::min_arrival(work, m, net), mins[at + j]);
+        t = fed.max(t);
     }
     t
 }
@@ -72,7 +68,7 @@ fn match_min_arrival(
     let cut = base_words::load_cut(work, m, v, x.cut);
     let leaves = cut.leaves;
     let k = x.cell;
-    let count = pins[k] as usize;
+    let count = usize::from(pins[k]);
     pins_min_arrival(work, m, leaves, x.order, x.mask, count, mins, 4 * k)
 }
 
@@ -123,24 +119,10 @@ fn retime_variables(work: &mut [u16], pins: &[u16; 256], mins: &MinDelays, m: us
     requires { VariablesTimable work.old pins.now mins.now m n }
     ensures { VariablesTimed work.old pins.now mins.now m n work.new }
 {
-    let mut i: usize = 0;
-    while i < n {
+    for i in 0..n {
         let v = base_words::slot(work, m, i);
         retime_variable(work, pins, mins, m, v);
-        i += 1;
     }
-}
-
-// The lowest delays of cell k, put into the table.
-fn put_min_delays(mins: &mut MinDelays, k: usize, four: [u32; 4])
-    requires { k < 256 }
-    ensures { mins.new ≡ four_at mins.old k four }
-{
-    let at = 4 * k;
-    mins[at] = four[0];
-    mins[at + 1] = four[1];
-    mins[at + 2] = four[2];
-    mins[at + 3] = four[3];
 }
 
 // The lowest delays of each cell, four to a number: made once for each call, and lent to what runs for each phase.
@@ -150,10 +132,9 @@ fn min_delay_table(lib: Library, ids: &[u16]) -> MinDelays
 {
     let n = lib.n + ids.len();
     let mut mins = [0u32; 1024];
-    let mut k: usize = 0;
-    while k < n {
-        put_min_delays(&mut mins, k, cells_pairs::min_delays_of(lib, ids, k));
-        k += 1;
+    for k in 0..n {
+        let four = cells_pairs::min_delays_of(lib, ids, k);
+        mins[4 * k..4 * k + 4].copy_from_slice(&four);
     }
     mins
 }
@@ -197,13 +178,11 @@ pub fn put_lines(work: &[u16], m: usize, outputs: usize, out: &mut [u8], at: usi
     ensures { Wrote out.old out.new at result (lines_from work.now m 0 outputs) }
 {
     let mut next = at;
-    let mut i: usize = 0;
-    while i < outputs {
+    for i in 0..outputs {
         let l = base_words::output(work, m, outputs, i);
         let min_arrival = base_words::min_arrival(work, m, l);
         let p = base_words::phase(work, m, l);
         next = put_line(out, next, i as u32, min_arrival, p.arrival);
-        i += 1;
     }
     next
 }
@@ -214,13 +193,11 @@ pub fn lines_len(work: &[u16], m: usize, outputs: usize) -> usize
     ensures { (result ≡ length (lines_from work.now m 0 outputs)) × (result ≤ 43 * outputs) }
 {
     let mut len: usize = 0;
-    let mut i: usize = 0;
-    while i < outputs {
+    for i in 0..outputs {
         let l = base_words::output(work, m, outputs, i);
         let min_arrival = base_words::min_arrival(work, m, l);
         let p = base_words::phase(work, m, l);
-        len = len + line_len(i as u32, min_arrival, p.arrival);
-        i += 1;
+        len += line_len(i as u32, min_arrival, p.arrival);
     }
     len
 }

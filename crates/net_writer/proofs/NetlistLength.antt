@@ -12,9 +12,10 @@ use Rattle.base_words.specs.{output_at, phase_at, is_needed}
 use Rattle.base_text.proofs.{dec_below}
 use Rattle.net_gates.specs.declared.Instance.{Instance}
 use Rattle.net_gates.specs.declared.Driver.{Driver}
+use Rattle.net_gates.specs.declared.Driver.TheVariants.{Nothing, One, Pair}
 use Rattle.net_gates.specs.{net_of, gate_of, gates_of}
 use Rattle.net_writer.specs.declared.Tally.{Tally}
-use Rattle.net_writer.specs.declared.Measured.{Measured}
+use Rattle.model.specs.declared.Mapped.{Mapped as Measured}
 use Rattle.net_writer.specs.{net_words, pin_word, pin_part, line_of, line_length, gate_by, gate_at, gates_from, tallied, no_tally, input_net}
 use Rattle.net_writer.specs.{input_names_from, output_names_from, spaced, wire_length, wire_lines_from, latest_from, preamble_text, preamble_length}
 use Rattle.net_writer.specs.{figures_text, figures_length, all_gates, figures_in, text_in, text_length, measured_in}
@@ -175,29 +176,29 @@ module _ (w records : List ℕ) (m l : ℕ) where
   unfolding gate_at
   gate_idle e = ap (λ (b : Bool). cond b (gate_by w records m l (phase_at w m l).source) []) e
 
--- the gates of a driver, by whether it is there and a pair
-module _ (d : Driver) where
-  pub gates-two : d.there ≡ true → d.pair ≡ true → gates_of d ≡ gate_of d.inner ∷ gate_of d.root ∷ []
+-- the gates of a driver, by what it is
+module _ {d : Driver} where
+  pub gates-two : {inner root : Instance} → d ≡ Pair inner root → gates_of d ≡ gate_of inner ∷ gate_of root ∷ []
   unfolding gates_of
-  gates-two e f = λ i. cond (e i) (cond (f i) (gate_of d.inner ∷ gate_of d.root ∷ []) (gate_of d.root ∷ [])) []
+  gates-two e = ap gates_of e
 
-  pub gates-one : d.there ≡ true → d.pair ≡ false → gates_of d ≡ gate_of d.root ∷ []
+  pub gates-one : {g : Instance} → d ≡ One g → gates_of d ≡ gate_of g ∷ []
   unfolding gates_of
-  gates-one e f = λ i. cond (e i) (cond (f i) (gate_of d.inner ∷ gate_of d.root ∷ []) (gate_of d.root ∷ [])) []
+  gates-one e = ap gates_of e
 
-  pub gates-absent : d.there ≡ false → gates_of d ≡ []
+  pub gates-absent : d ≡ Nothing → gates_of d ≡ []
   unfolding gates_of
-  gates-absent e = ap (λ (b : Bool). cond b (cond d.pair (gate_of d.inner ∷ gate_of d.root ∷ []) (gate_of d.root ∷ [])) []) e
+  gates-absent e = ap gates_of e
 
-  pub lines_two : d.there ≡ true → d.pair ≡ true → each gate_line (gates_of d) ≡ gate_line (gate_of d.inner) ++ gate_line (gate_of d.root)
+  pub lines_two : {inner root : Instance} → d ≡ Pair inner root → each gate_line (gates_of d) ≡ gate_line (gate_of inner) ++ gate_line (gate_of root)
   unfolding each
-  lines_two e f = ap (each gate_line) (gates-two e f) ∙ ap (λ (bs : List ℕ). gate_line (gate_of d.inner) ++ bs) (append-nil (gate_line (gate_of d.root)))
+  lines_two {inner = inner} {root = root} e = ap (each gate_line) (gates-two e) ∙ ap (λ (bs : List ℕ). gate_line (gate_of inner) ++ bs) (append-nil (gate_line (gate_of root)))
 
-  pub lines-one : d.there ≡ true → d.pair ≡ false → each gate_line (gates_of d) ≡ gate_line (gate_of d.root)
+  pub lines-one : {g : Instance} → d ≡ One g → each gate_line (gates_of d) ≡ gate_line (gate_of g)
   unfolding each
-  lines-one e f = ap (each gate_line) (gates-one e f) ∙ append-nil (gate_line (gate_of d.root))
+  lines-one {g = g} e = ap (each gate_line) (gates-one e) ∙ append-nil (gate_line (gate_of g))
 
-  pub lines-absent : d.there ≡ false → each gate_line (gates_of d) ≡ []
+  pub lines-absent : d ≡ Nothing → each gate_line (gates_of d) ≡ []
   unfolding each
   lines-absent e = ap (each gate_line) (gates-absent e)
 

@@ -10,7 +10,7 @@ use Rattle.theory_graph.specs.AcceptedGraph.{Accepted}
 use Rattle.theory_graph.specs.{library_fits}
 use Rattle.base_words.specs.{RepresentsGraph, RepresentsOrder, RepresentsPhases, RepresentsNeeded, leaves_at}
 use Rattle.cells_pairs.specs.{pair_of_id, cells_by, Coded}
-use Rattle.net_writer.specs.declared.Measured.{Measured}
+use Rattle.model.specs.declared.Mapped.{Mapped as Measured}
 
 -- After refusals 1 to 17 none is left: the header's numbers are the graph's, the library and the graph are free of faults, the numbers of pairs are
 -- those of the library's in their order, as far as pairs are wanted, no AND has too many

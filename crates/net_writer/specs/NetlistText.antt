@@ -13,7 +13,7 @@ use Rattle.base_words.specs.{HasCapacity, HasCapacityFor, slot_at, output_at, cu
 use Rattle.cells_pairs.specs.{line_cell}
 use Rattle.net_gates.specs.{net_of, pins_by, gates_under, LineReady, NumberReady}
 use Rattle.net_writer.specs.declared.Tally.{Tally}
-use Rattle.net_writer.specs.declared.Measured.{Measured}
+use Rattle.model.specs.declared.Mapped.{Mapped as Measured}
 
 -- ---- gates
 

@@ -4,7 +4,7 @@
 #![tactic(auto)]
 
 ghost use Rattle.std.specs.Prelude.{◌≡◌, ◌∷◌, ◌+◌, ◌-◌, ◌*◌, ◌/◌, ◌≤◌, ◌<◌};
-ghost use Rattle.base.specs.{[], max, length, take};
+ghost use Rattle.base.specs.{[], length, take};
 ghost use Rattle.model.specs.{each, decimal, net_name, label, gate_line, out_name, wire_line};
 ghost use Rattle.model.specs.Graph.{Graph};
 ghost use Rattle.base_words.specs.{HasCapacity, HasCapacityFor, output_at, phase_at};
@@ -35,13 +35,6 @@ struct Tally {
     length: usize,
     gates: u32,
     area: u32,
-}
-
-// The netlist's length and "the three figures of its `# gates` line".
-#[derive(Clone, Copy)]
-pub struct Measured {
-    pub length: usize,
-    pub figures: Figures,
 }
 
 // ---- names of nets
@@ -205,10 +198,10 @@ fn driver_of(work: &[u16], records: &[u8], m: usize, l: usize, s: Source) -> Dri
     ensures { Drives result (gate_by work.now records.now m l s) }
 {
     match s {
-        Source::Input => net_gates::no_driver(),
+        Source::Input => Driver::Nothing,
         Source::Cell(x) => matched(work, records, m, l, x),
         Source::Inverter(i) => inverted(records, l, i),
-        Source::Nothing => net_gates::no_driver(),
+        Source::Nothing => Driver::Nothing,
     }
 }
 
@@ -222,7 +215,7 @@ fn driver_at(work: &[u16], records: &[u8], m: usize, l: usize) -> Driver
         let s = p.source;
         driver_of(work, records, m, l, s)
     } else {
-        net_gates::no_driver()
+        Driver::Nothing
     }
 }
 
@@ -233,11 +226,7 @@ fn is_gate(work: &[u16], m: usize, l: usize) -> bool
     requires { HasCapacity work.now m × (l / 2 ≤ m) }
     ensures { result ≡ is_gate_at work.now m l }
 {
-    if base_words::is_needed(work, m, l) {
-        base_words::makes_gate(base_words::phase(work, m, l))
-    } else {
-        false
-    }
+    base_words::is_needed(work, m, l) && base_words::makes_gate(base_words::phase(work, m, l))
 }
 
 // The first gate at or after phase l, or the end of the phases where there is none.
@@ -245,14 +234,13 @@ fn gate_from(work: &[u16], m: usize, l: usize) -> usize
     requires { HasCapacity work.now m }
     ensures { result ≡ gate_from work.now m l (2 * (m + 1) - l) }
 {
-    let mut g = l;
-    while g < 2 * (m + 1) {
+    let end = 2 * (m + 1);
+    for g in l..end {
         if is_gate(work, m, g) {
             return g;
         }
-        g += 1;
     }
-    g
+    l.max(end)
 }
 
 // The walk at the gate after: thin above `gate_from`, which takes the slice and the number.
@@ -288,16 +276,14 @@ fn put_driver(out: &mut [u8], at: usize, d: Driver) -> usize
     requires { FewPins d × (at + length (each gate_line (gates_of d)) ≤ length out.old) }
     ensures { Wrote out.old out.new at result (each gate_line (gates_of d)) }
 {
-    if d.there {
-        let root = d.root;
-        if d.pair {
-            let inner = d.inner;
+    match d {
+        Driver::Nothing => at,
+        Driver::One(g) => put_instance(out, at, g),
+        Driver::Pair(inner, root) => {
             let next = put_instance(out, at, inner);
-            return put_instance(out, next, root);
+            put_instance(out, next, root)
         }
-        return put_instance(out, at, root);
     }
-    at
 }
 
 // "become gates by ascending variable, `p` first"
@@ -308,6 +294,7 @@ fn put_gates(work: &[u16], records: &[u8], m: usize, out: &mut [u8], at: usize) 
     let end = 2 * (m + 1);
     let mut next = at;
     let mut l = gate_from(work, m, 0);
+    // Stays: the step is the way to the next gate, not one.
     while l < end {
         let d = driver_at(work, records, m, l);
         next = put_driver(out, next, d);
@@ -325,7 +312,7 @@ fn count_instance(t: Tally, g: Instance) -> Tally
     Tally {
         length: t.length + gate_len(c, nets, g.count, g.net),
         gates: t.gates + 1,
-        area: t.area + c.area as u32,
+        area: t.area + u32::from(c.area),
     }
 }
 
@@ -333,16 +320,11 @@ fn count_driver(t: Tally, d: Driver, n: usize) -> Tally
     requires { FewPins d × Bounded t n × (n < 8192) }
     ensures { (result ≡ tallied t (gates_of d)) × Bounded result (n + 1) }
 {
-    if d.there {
-        let root = d.root;
-        if d.pair {
-            let inner = d.inner;
-            let u = count_instance(t, inner);
-            return count_instance(u, root);
-        }
-        return count_instance(t, root);
+    match d {
+        Driver::Nothing => t,
+        Driver::One(g) => count_instance(t, g),
+        Driver::Pair(inner, root) => count_instance(count_instance(t, inner), root),
     }
-    t
 }
 
 // The gates counted, before a byte is written.
@@ -357,6 +339,7 @@ fn count_gates(work: &[u16], records: &[u8], m: usize) -> Tally
         area: 0,
     };
     let mut l = gate_from(work, m, 0);
+    // Stays: the step is the way to the next gate, not one.
     while l < end {
         let d = driver_at(work, records, m, l);
         t = count_driver(t, d, l);
@@ -381,12 +364,10 @@ fn put_inputs(work: &[u16], m: usize, n: usize, out: &mut [u8], at: usize) -> us
     ensures { Wrote out.old out.new at result (spaced (input_names_from work.now m 0 n)) }
 {
     let mut next = at;
-    let mut i: usize = 0;
-    while i < n {
+    for i in 0..n {
         let net = input_net(work, m, i);
         let place = base_text::put_byte(out, next, b' ');
         next = put_net(out, place, net);
-        i += 1;
     }
     next
 }
@@ -396,10 +377,8 @@ fn inputs_len(work: &[u16], m: usize, n: usize) -> usize
     ensures { (result ≡ length (spaced (input_names_from work.now m 0 n))) × (result ≤ 12 * n) }
 {
     let mut len: usize = 0;
-    let mut i: usize = 0;
-    while i < n {
-        len = len + 1 + net_len(input_net(work, m, i));
-        i += 1;
+    for i in 0..n {
+        len += 1 + net_len(input_net(work, m, i));
     }
     len
 }
@@ -425,11 +404,9 @@ fn put_outputs(n: usize, out: &mut [u8], at: usize) -> usize
     ensures { Wrote out.old out.new at result (spaced (output_names_from 0 n)) }
 {
     let mut next = at;
-    let mut i: usize = 0;
-    while i < n {
+    for i in 0..n {
         let place = base_text::put_byte(out, next, b' ');
         next = put_out(out, place, i as u32);
-        i += 1;
     }
     next
 }
@@ -439,10 +416,8 @@ fn outputs_len(n: usize) -> usize
     ensures { (result ≡ length (spaced (output_names_from 0 n))) × (result ≤ 12 * n) }
 {
     let mut len: usize = 0;
-    let mut i: usize = 0;
-    while i < n {
-        len = len + 1 + out_len(i as u32);
-        i += 1;
+    for i in 0..n {
+        len += 1 + out_len(i as u32);
     }
     len
 }
@@ -500,11 +475,9 @@ fn put_wires(work: &[u16], m: usize, outputs: usize, out: &mut [u8], at: usize) 
     ensures { Wrote out.old out.new at result (wire_lines_from work.now m 0 outputs) }
 {
     let mut next = at;
-    let mut i: usize = 0;
-    while i < outputs {
+    for i in 0..outputs {
         let net = output_net(work, m, outputs, i);
         next = put_wire(out, next, i as u32, net);
-        i += 1;
     }
     next
 }
@@ -514,10 +487,8 @@ fn wires_len(work: &[u16], m: usize, outputs: usize) -> usize
     ensures { (result ≡ length (wire_lines_from work.now m 0 outputs)) × (result ≤ 35 * outputs) }
 {
     let mut len: usize = 0;
-    let mut i: usize = 0;
-    while i < outputs {
-        len = len + wire_len(i as u32, output_net(work, m, outputs, i));
-        i += 1;
+    for i in 0..outputs {
+        len += wire_len(i as u32, output_net(work, m, outputs, i));
     }
     len
 }
@@ -547,12 +518,6 @@ fn figures_len(f: Figures) -> usize
         + 29
 }
 
-pub fn larger(a: u32, b: u32) -> u32
-    ensures { result ≡ max a b }
-{
-    if a < b { b } else { a }
-}
-
 // When output i arrives.
 fn output_arrival(work: &[u16], m: usize, outputs: usize, i: usize) -> u32
     requires { HasCapacityFor work.now m outputs × (i < outputs) × (output_at work.now m i / 2 ≤ m) }
@@ -569,17 +534,15 @@ fn latest(work: &[u16], m: usize, inputs: usize, outputs: usize) -> u32
     ensures { result ≡ latest_from work.now m 0 outputs }
 {
     let mut t: u32 = 0;
-    let mut i: usize = 0;
-    while i < outputs {
-        t = larger(t, output_arrival(work, m, outputs, i));
-        i += 1;
+    for i in 0..outputs {
+        t = t.max(output_arrival(work, m, outputs, i));
     }
     t
 }
 
 // ---- the netlist
 
-fn measure_words(work: &[u16], records: &[u8], h: Header) -> Measured
+fn measure_words(work: &[u16], records: &[u8], h: Header) -> model::Mapped
     requires { GatesWritable work.now records.now h.size × Named work.now h.size h.inputs h.outputs }
     ensures { (result ≡ measured_in work.now records.now h) × Small result }
 {
@@ -593,7 +556,7 @@ fn measure_words(work: &[u16], records: &[u8], h: Header) -> Measured
     let preamble = preamble_len(work, h.size, h.inputs, h.outputs);
     let wires = wires_len(work, h.size, h.outputs);
     let length = preamble + t.length + wires + figures_len(figures);
-    Measured { length, figures }
+    model::Mapped { length, figures }
 }
 
 fn write_words(work: &[u16], records: &[u8], h: Header, f: Figures, out: &mut [u8]) -> usize
@@ -608,7 +571,7 @@ fn write_words(work: &[u16], records: &[u8], h: Header, f: Figures, out: &mut [u
 }
 
 // The netlist's length and figures, before a byte is written.
-pub fn measure(work: &[u16], lib: Library, ids: &[u16], h: Header) -> Measured
+pub fn measure(work: &[u16], lib: Library, ids: &[u16], h: Header) -> model::Mapped
     requires { (g : Graph) × Mapped work.now lib ids.now h g }
     ensures { ((g : Graph) → Mapped work.now lib ids.now h g → result ≡ measured_for lib ids.now g) × Small result }
 {

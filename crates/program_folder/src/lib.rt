@@ -7,7 +7,6 @@ ghost use Rattle.base.specs.{length};
 ghost use Rattle.promises.specs.{Fits};
 
 use model::Answer;
-use program_files::Loaded;
 use std::rt::Files;
 
 // A netlist, at the start of its text memory, or its refusal.
@@ -15,8 +14,8 @@ pub fn show<R: Print + Eprint>(rt: &R, program: &str, a: Answer, text: &[u8])
     requires { Fits a (length text.now) }
 {
     let written = match a {
-        Answer::Mapped(n, _) => program_files::put(rt, &text[..n]),
-        Answer::Refused(number, place) => program_files::refused(rt, number, place),
+        Ok(mapped) => program_files::put(rt, &text[..mapped.length]),
+        Err(refusal) => program_files::refused(rt, refusal),
     };
     program_files::said(rt, written, program);
 }
@@ -45,12 +44,15 @@ pub fn map<R: Files + Print + Eprint>(rt: &R, program: &str, paired: bool) {
     let mut arrivals = [0u8; 65537];
     let mut work = [0u16; 32768];
     let mut text = [0u8; 65536];
-    let cells_read = program_files::load(rt, program, "cells.txt", &mut cells);
-    let Loaded::Bytes(n) = cells_read else { return };
-    let graph_read = program_files::load(rt, program, "graph.aag", &mut graph);
-    let Loaded::Bytes(m) = graph_read else { return };
-    let times_read = program_files::load(rt, program, "arrivals.txt", &mut arrivals);
-    let Loaded::Bytes(k) = times_read else { return };
+    let Ok(n) = program_files::load(rt, program, "cells.txt", &mut cells) else {
+        return
+    };
+    let Ok(m) = program_files::load(rt, program, "graph.aag", &mut graph) else {
+        return
+    };
+    let Ok(k) = program_files::load(rt, program, "arrivals.txt", &mut arrivals) else {
+        return
+    };
     map_files(
         rt,
         program,

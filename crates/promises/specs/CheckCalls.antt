@@ -1,9 +1,8 @@
 -- The call that checks an edited netlist: the whole of what `check_call::check_texts` says.
-use Rattle.std.specs.Prelude.{◌≤◌, ◌≡◌, ◌⊎◌}
+use Rattle.std.specs.Prelude.{◌≤◌, ◌≡◌, ◌⊎◌, Ok}
 use Rattle.base.specs.{ℕ, List, length, replicate}
-use Rattle.model.specs.{fault, read_edited, check_texts, result_of, result_by, CheckPromised}
-use Rattle.model.specs.declared.Checked.{Checked}
-use Rattle.model.specs.declared.Checked.TheVariants.{Accepted, Differs, Refused}
+use Rattle.model.specs.{Checked, fault, refused_with, read_edited, check_texts, result_of, result_by, CheckPromised}
+use Rattle.model.specs.declared.Comparison.TheVariants.{Equal, Differs}
 use Rattle.promises.specs.CheckRefusals.{CheckRefusals}
 
 -- a "refusal tried up to 10": 1 to 10, and of the later numbers those of library and header
@@ -15,12 +14,12 @@ pub record CheckedMemory (library graph netlist work : List ℕ) (answer : Check
   pub answers : answer ≡ check_texts library graph netlist (length work)
   pub result : result_of answer ≡ result_by (read_edited library graph netlist (length work))
   -- the number and the place are those of the refusal
-  pub refusal : (n k : ℕ) → read_edited library graph netlist (length work) ≡ fault n k → answer ≡ Refused n k
+  pub refusal : (n k : ℕ) → read_edited library graph netlist (length work) ≡ fault n k → answer ≡ refused_with n k
   -- "Work memory is unchanged by every refusal tried up to 10, and all zero after a later one and after success."
-  pub unchanged : (n k : ℕ) → answer ≡ Refused n k → UpToTen n → work_left ≡ work
-  pub zero_later : (n k : ℕ) → answer ≡ Refused n k → (¬ UpToTen n) → work_left ≡ replicate (length work) 0
-  pub zero_accepted : answer ≡ Accepted → work_left ≡ replicate (length work) 0
-  pub zero_differs : (s k : ℕ) → answer ≡ Differs s k → work_left ≡ replicate (length work) 0
+  pub unchanged : (n k : ℕ) → answer ≡ refused_with n k → UpToTen n → work_left ≡ work
+  pub zero_later : (n k : ℕ) → answer ≡ refused_with n k → (¬ UpToTen n) → work_left ≡ replicate (length work) 0
+  pub zero_accepted : answer ≡ Ok Equal → work_left ≡ replicate (length work) 0
+  pub zero_differs : (s k : ℕ) → answer ≡ Ok (Differs s k) → work_left ≡ replicate (length work) 0
 
 -- an edited netlist checked against the graph
 pub record NetlistCheck (library graph netlist work : List ℕ) (answer : Checked) (work_left : List ℕ) : Type 0 where

@@ -1,19 +1,17 @@
 -- What is promised of a call, a field for each demand and each request, by the documents' sentences in their order; and with the memory that the call was
 -- lent, the whole of what `mapper::map_texts` says.
-use Rattle.std.specs.Prelude.{◌≤◌}
+use Rattle.std.specs.Prelude.{◌≤◌, Ok, Err}
 use Rattle.base.specs.{ℕ, Bool, List, length}
-use Rattle.model.specs.{Call, call_of, map_texts, answer_of, Memory, Values, AsciiForms, Sequenced, EitherEnd, Untimed, Listed, Former}
+use Rattle.model.specs.{Answer, Call, call_of, map_texts, answer_of, Memory, Values, AsciiForms, Sequenced, EitherEnd, Untimed, Listed, Former}
 use Rattle.model.specs.{Shuffles}
-use Rattle.model.specs.declared.Answer.{Answer}
-use Rattle.model.specs.declared.Answer.TheVariants.{Mapped, Refused}
 use Rattle.promises.specs.Outcomes.{Outcomes}
 use Rattle.promises.specs.Earliest.{Earliest}
 use Rattle.promises.specs.Left.{Left}
 
 -- the netlist's length is within so many bytes
 abbrev pub Fits : Answer → ℕ → Type 0
-Fits (Mapped n f) bytes = n ≤ bytes
-Fits (Refused n k) bytes = Unit {0}
+Fits (Ok m) bytes = m.length ≤ bytes
+Fits (Err r) bytes = Unit {0}
 
 pub record Promised (c : Call) : Type 0 where
   -- every call ends "with a netlist or with the first of the .. numbered refusals that applies": each number by a condition of its own

@@ -1,6 +1,6 @@
 -- What is promised of a tally "handed on by these calls from an empty one".
 use Rattle.std.specs.Prelude.{◌+◌, ◌≤◌, ◌<◌, ◌≡◌, ◌&&◌, ◌∷◌, ◌++◌}
-use Rattle.base.specs.{ℕ, Bool, true, cond, Option, some, List, [], map, length, take, get_or}
+use Rattle.base.specs.{ℕ, Bool, true, cond, Option, Some, List, [], map, length, take, get_or}
 use Rattle.model.specs.{each, same, and_then, only, below, text, parts, fields, holds, read_library, figure, sum, mapped, Call, map_texts}
 use Rattle.model.specs.{empty_tally, in_width, count_text, report_line, cell_line}
 use Rattle.model.specs.declared.Cell.{Cell}
@@ -36,7 +36,7 @@ unfolding and_then only same text figure
 gates_line ws =
     and_then (only (same (text "area") (get_or ws 3 [])) ws) (λ _.
     and_then (figure (get_or ws 2 [])) (λ gates.
-    and_then (figure (get_or ws 4 [])) (λ area. some (record { gates = gates; area = area }))))
+    and_then (figure (get_or ws 4 [])) (λ area. Some (record { gates = gates; area = area }))))
 
 -- what a netlist's own `# gates` line says, by its words: no gate is counted for it
 unfoldable pub figures_in : List ℕ → Option GatesLine
@@ -59,7 +59,7 @@ area_sum lines = sum (map (λ (l : GatesLine). l.area) lines)
 -- "Its gates and area equal the sums of the counted netlists' `# gates` lines, and the sums over cells."
 pub record Sums (cells : List Cell) (ns : List (List ℕ)) (t : Tally) : Type 0 where
   pub lines : List GatesLine
-  pub are_lines : map figures_in ns ≡ map some lines
+  pub are_lines : map figures_in ns ≡ map Some lines
   pub gates : sum (take (length cells) t.gates) ≡ gates_sum lines
   pub areas : sum (take (length cells) t.areas) ≡ area_sum lines
   pub netlists : t.netlists ≡ length ns
@@ -80,7 +80,7 @@ pub record Grown (cells : List Cell) (t u : Tally) (gates area : ℕ) : Type 0 w
 -- a netlist that is counted adds what its own `# gates` line says
 pub record Added (cells : List Cell) (t u : Tally) (netlist : List ℕ) : Type 0 where
   pub line : GatesLine
-  pub is_line : figures_in netlist ≡ some line
+  pub is_line : figures_in netlist ≡ Some line
   pub grown : Grown cells t u line.gates line.area
 
 -- a tally that takes one netlist more: 32 places for gates and areas, as every tally of the calls has, and no cause for 28

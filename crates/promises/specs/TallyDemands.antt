@@ -1,12 +1,10 @@
 -- What is promised of a tally and of its report, by the bytes of the netlists that were counted: apart from the definitions that count and that print. A cell's
 -- gates are the gate lines that name it, its netlists those with such a line, and the report's bytes are read back, line by line and word by word.
-use Rattle.std.specs.Prelude.{◌*◌, ◌<◌, ◌≡◌, ◌&&◌, ◌∷◌, ◌++◌}
-use Rattle.base.specs.{ℕ, suc, Bool, cond, Option, some, List, [], map, eqb, ltb, length, get_or}
-use Rattle.model.specs.{same, and_then, only, keep, Line, ended_by_ten, text, parts, lines_from, fields, name_of, cell_at, figure, sum}
+use Rattle.std.specs.Prelude.{◌*◌, ◌<◌, ◌≡◌, ◌&&◌, ◌∷◌, ◌++◌, Ok, Err}
+use Rattle.base.specs.{ℕ, suc, Bool, cond, Option, Some, List, [], map, eqb, ltb, length, get_or}
+use Rattle.model.specs.{Verdict, same, and_then, only, keep, Line, ended_by_ten, text, parts, lines_from, fields, name_of, cell_at, figure, sum}
 use Rattle.model.specs.declared.Cell.{Cell}
 use Rattle.model.specs.declared.Tally.{Tally}
-use Rattle.model.specs.declared.Verdict.{Verdict}
-use Rattle.model.specs.declared.Verdict.TheVariants.{Accepted, Refused}
 use Rattle.promises.specs.Sums.{GatesLine, figures_in, gates_sum, area_sum, Sums}
 
 -- ---- the netlists' gate lines
@@ -51,8 +49,8 @@ pub record Tallied (cells : List Cell) (ns : List (List ℕ)) (t : Tally) : Type
 
 -- the netlists counted after one more was given: "A refused netlist adds nothing."
 unfoldable pub counted_with : Verdict → List ℕ → List (List ℕ) → List (List ℕ)
-counted_with Accepted netlist ns = netlist ∷ ns
-counted_with (Refused n k) netlist ns = ns
+counted_with (Ok done) netlist ns = netlist ∷ ns
+counted_with (Err r) netlist ns = ns
 
 -- ---- the report, read back
 
@@ -70,12 +68,12 @@ read_row l =
     and_then (only (ended_by_ten l && eqb (length (fields l.bytes)) 4) (fields l.bytes)) (λ ws.
     and_then (figure (get_or ws 1 [])) (λ gates.
     and_then (figure (get_or ws 2 [])) (λ area.
-    and_then (figure (get_or ws 3 [])) (λ netlists. some (record { name = get_or ws 0 []; gates = gates; area = area; netlists = netlists })))))
+    and_then (figure (get_or ws 3 [])) (λ netlists. Some (record { name = get_or ws 0 []; gates = gates; area = area; netlists = netlists })))))
 
 unfoldable pub read_rows : List Line → Option (List Row)
 unfolding and_then read_row
-read_rows [] = some []
-read_rows (l ∷ ls) = and_then (read_row l) (λ r. and_then (read_rows ls) (λ rs. some (r ∷ rs)))
+read_rows [] = Some []
+read_rows (l ∷ ls) = and_then (read_row l) (λ r. and_then (read_rows ls) (λ rs. Some (r ∷ rs)))
 
 unfoldable pub read_report : List ℕ → Option (List Row)
 unfolding read_rows lines_from
@@ -94,7 +92,7 @@ total_row lines n = record { name = text "total"; gates = gates_sum lines; area 
 -- `# gates` lines, and the sums over cells."
 pub record ReadsBack (cells : List Cell) (ns : List (List ℕ)) (report : List ℕ) : Type 0 where
   pub lines : List GatesLine
-  pub are_lines : map figures_in ns ≡ map some lines
-  pub rows : read_report report ≡ some (map (cell_row ns) cells ++ (total_row lines (length ns) ∷ []))
+  pub are_lines : map figures_in ns ≡ map Some lines
+  pub rows : read_report report ≡ Some (map (cell_row ns) cells ++ (total_row lines (length ns) ∷ []))
   pub over_gates : sum (map (gates_of ns) cells) ≡ gates_sum lines
   pub over_areas : sum (map (λ (c : Cell). gates_of ns c * c.area) cells) ≡ area_sum lines

@@ -1,19 +1,17 @@
 -- A call that writes a text into the bytes that it is lent, and the call that writes our cell text for a genlib text.
-use Rattle.std.specs.Prelude.{◌≡◌, ◌++◌}
+use Rattle.std.specs.Prelude.{◌≡◌, ◌++◌, Ok}
 use Rattle.base.specs.{ℕ, List, length, drop}
-use Rattle.model.specs.{Read, holds, fault, genlib_text, written_pair, GenlibDemand}
-use Rattle.model.specs.declared.Written.{Written}
-use Rattle.model.specs.declared.Written.TheVariants.{Length, Refused}
+use Rattle.model.specs.{Read, Written, holds, fault, refused_with, genlib_text, written_pair, GenlibDemand}
 use Rattle.promises.specs.GateRefusals.{GenlibRefusals}
 
 -- the answer, and what is left of the lent bytes; o is the text to write, or the first refusal that applies
 pub record TextWritten (o : Read (List ℕ)) (text : List ℕ) (answer : Written) (text_left : List ℕ) : Type 0 where
   -- "Success, here and for later written texts, returns 0 and the length"
-  pub success : (t : List ℕ) → o ≡ holds t → answer ≡ Length (length t)
+  pub success : (t : List ℕ) → o ≡ holds t → answer ≡ Ok (length t)
   -- the text comes first, and success "keeps the bytes after the text"
   pub written : (t : List ℕ) → o ≡ holds t → text_left ≡ t ++ drop (length t) text
   -- the number and the place are those of the refusal
-  pub refusal : (n k : ℕ) → o ≡ fault n k → answer ≡ Refused n k
+  pub refusal : (n k : ℕ) → o ≡ fault n k → answer ≡ refused_with n k
   -- "a refusal leaves it unchanged"
   pub unchanged : (n k : ℕ) → o ≡ fault n k → text_left ≡ text
   -- what the document says that such a call returns

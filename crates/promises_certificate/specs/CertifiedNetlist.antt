@@ -1,6 +1,6 @@
 -- What is promised of a netlist that is printed by a certificate, over its bytes. Nothing here says what a certificate is: it must not be believed.
 use Rattle.std.specs.Prelude.{◌≡◌}
-use Rattle.base.specs.{ℕ, Bool, true, false, some, List, [], map, length}
+use Rattle.base.specs.{ℕ, Bool, true, false, Some, List, [], map, length}
 use Rattle.model.specs.{sum, largest, GateLine, TimingLine, named, read_blif, read_figures, read_timings, NetArrivals, SameValues, WithinRanges}
 use Rattle.model.specs.Graph.{Graph}
 use Rattle.model.specs.Blif.{Blif}
@@ -18,9 +18,9 @@ pub record FiguresOf (cells : List Cell) (g : Graph) (f : Figures) (n : Blif) : 
 -- delays as ranges its `# timing` lines have the two ends of each output
 pub record Proved (ranged : Bool) (cells : List Cell) (g : Graph) (text : List ℕ) (f : Figures) : Type 0 where
   pub netlist : Blif
-  pub reads : read_blif text ≡ some netlist
+  pub reads : read_blif text ≡ Some netlist
   pub values : SameValues cells cells g f netlist
-  pub says : read_figures text ≡ some f
+  pub says : read_figures text ≡ Some f
   pub figures : FiguresOf cells g f netlist
-  pub timed : ranged ≡ true → (ts : List TimingLine) × (read_timings text ≡ some ts) × WithinRanges cells g netlist ts
-  pub untimed : ranged ≡ false → read_timings text ≡ some []
+  pub timed : ranged ≡ true → (ts : List TimingLine) × (read_timings text ≡ Some ts) × WithinRanges cells g netlist ts
+  pub untimed : ranged ≡ false → read_timings text ≡ Some []

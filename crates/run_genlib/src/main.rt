@@ -3,27 +3,13 @@
 // cases, and what must be printed by a reader of its own.
 #![tactic(auto)]
 
-use base_text::Value;
-use model::Written;
 use std::io;
 
-fn show(rt: &impl Print, number: usize, value: usize) -> io::Result<()> {
-    println!(rt; "{number} {value}")
-}
-
-fn fill(text: &mut [u8]) {
-    let mut i = 0;
-    while i < text.len() {
-        text[i] = b'.';
-        i += 1;
-    }
-}
-
 fn convert_buffer(rt: &impl Print, genlib: &[u8], text: &mut [u8]) -> io::Result<()> {
-    fill(text);
+    text.fill(b'.');
     match genlib_call::convert(genlib, text) {
-        Written::Length(n) => show(rt, 0, n)?,
-        Written::Refused(number, place) => show(rt, number, place)?,
+        Ok(n) => println!(rt; "0 {n}")?,
+        Err(refusal) => println!(rt; "{} {}", refusal.number, refusal.place)?,
     }
     program_files::put(rt, text)?;
     program_files::put(rt, b"\n")
@@ -35,8 +21,8 @@ fn convert_with(
     genlib: &[u8],
     text: &mut [u8],
 ) -> io::Result<()> {
-    if let Value::Is(n) = base_text::number_of(with_memory) {
-        let k = n as usize;
+    if let Some(n) = base_text::number_of(with_memory) {
+        let k = usize::from(n);
         if k <= text.len() {
             convert_buffer(rt, genlib, &mut text[..k])?;
         }
@@ -46,6 +32,7 @@ fn convert_with(
 
 fn each(rt: &impl Print, s: &[u8], text: &mut [u8]) -> io::Result<()> {
     let mut from = 0;
+    // Stays: the new form is no plainer, the step is a case's length, not one.
     while from < s.len() {
         let a = program_files::end(s, from);
         if a == s.len() {

@@ -3,25 +3,19 @@
 // and the lines by a reader of its own.
 #![tactic(auto)]
 
+ghost use Rattle.std.specs.Prelude.{IfOk};
 ghost use Rattle.graph_order.specs.{Fit};
 
-use model::{Header, HeaderAnswer, Verdict};
+use model::{Header, Refusal};
 use std::io;
-
-fn refused(rt: &impl Print, number: usize, place: usize) -> io::Result<()> {
-    program_files::refused(rt, number, place)
-}
 
 // Variable 0, the inputs and the ANDs, in the order of their slots.
 fn show_order(rt: &impl Print, work: &[u16], h: Header) -> io::Result<()>
     requires { Fit h work.now }
 {
     program_files::put(rt, b"placed")?;
-    let count = h.inputs + h.ands;
-    let mut i = 0;
-    while i <= count {
+    for i in 0..h.inputs + h.ands + 1 {
         program_files::number(rt, base_words::slot(work, h.size, i))?;
-        i += 1;
     }
     Ok(())
 }
@@ -30,37 +24,41 @@ fn show_outputs(rt: &impl Print, work: &[u16], h: Header) -> io::Result<()>
     requires { Fit h work.now }
 {
     program_files::put(rt, b" outputs")?;
-    let mut i = 0;
-    while i < h.outputs {
+    for i in 0..h.outputs {
         program_files::number(rt, base_words::output(work, h.size, h.outputs, i))?;
-        i += 1;
     }
     program_files::put(rt, b"\n")
 }
 
+// The graph of a text, its ANDs ordered, or what refuses it.
+fn order(text: &[u8], work: &mut [u16]) -> Result<Header, Refusal>
+    ensures { IfOk result (λ h. Fit h work.new) }
+{
+    let h = graph_reader::header(text)?;
+    if base_words::need_words(h.size, h.outputs) > work.len() {
+        return Err(Refusal {
+            number: 10,
+            place: 0,
+        });
+    }
+    graph_reader::load(text, h, work)?;
+    graph_order::order_graph(work, h)?;
+    Ok(h)
+}
+
 fn show(rt: &impl Print, text: &[u8], work: &mut [u16]) -> io::Result<()> {
-    match graph_reader::header(text) {
-        HeaderAnswer::Read(h) => {
-            if base_words::need_words(h.size, h.outputs) > work.len() {
-                return refused(rt, 10, 0);
-            }
-            match graph_reader::load(text, h, work) {
-                Verdict::Accepted => match graph_order::order_graph(work, h) {
-                    Verdict::Accepted => {
-                        show_order(rt, work, h)?;
-                        show_outputs(rt, work, h)
-                    }
-                    Verdict::Refused(number, place) => refused(rt, number, place),
-                },
-                Verdict::Refused(number, place) => refused(rt, number, place),
-            }
+    match order(text, work) {
+        Ok(h) => {
+            show_order(rt, work, h)?;
+            show_outputs(rt, work, h)
         }
-        HeaderAnswer::Refused(number, place) => refused(rt, number, place),
+        Err(r) => program_files::refused(rt, r),
     }
 }
 
 fn each(rt: &impl Print, s: &[u8], work: &mut [u16]) -> io::Result<()> {
     let mut from = 0;
+    // Stays: the new form is no plainer (the step is a text's length, not one).
     while from < s.len() {
         let end = program_files::end(s, from);
         show(rt, &s[from..end], work)?;

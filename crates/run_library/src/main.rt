@@ -3,12 +3,8 @@
 // the lines by a reader of its own.
 #![tactic(auto)]
 
-use model::{Cell, Library, Verdict};
+use model::{Cell, Library};
 use std::io;
-
-fn number(rt: &impl Print, n: u16) -> io::Result<()> {
-    program_files::number(rt, n as usize)
-}
 
 fn show_name(rt: &impl Print, name: [u8; 8], len: usize) -> io::Result<()> {
     program_files::put(rt, b" ")?;
@@ -18,62 +14,47 @@ fn show_name(rt: &impl Print, name: [u8; 8], len: usize) -> io::Result<()> {
     Ok(())
 }
 
-fn show_delays(rt: &impl Print, d: [u16; 4]) -> io::Result<()> {
-    number(rt, d[0])?;
-    number(rt, d[1])?;
-    number(rt, d[2])?;
-    number(rt, d[3])
+fn show_numbers(rt: &impl Print, numbers: &[u16]) -> io::Result<()> {
+    for n in numbers {
+        program_files::number(rt, usize::from(*n))?;
+    }
+    Ok(())
 }
 
 fn show_cell(rt: &impl Print, c: Cell) -> io::Result<()> {
-    let name = c.name;
-    show_name(rt, name, c.len)?;
-    number(rt, c.pins)?;
-    number(rt, c.table)?;
-    number(rt, c.area)?;
-    let delays = c.delays;
-    show_delays(rt, delays)?;
-    let mins = c.mins;
-    show_delays(rt, mins)
+    show_name(rt, c.name, c.len)?;
+    show_numbers(rt, &[c.pins, c.table, c.area])?;
+    show_numbers(rt, &c.delays)?;
+    show_numbers(rt, &c.mins)
 }
 
 fn show_cells(rt: &impl Print, l: Library) -> io::Result<()> {
-    let n = cells_reader::count(l);
-    program_files::number(rt, n)?;
-    let mut i = 0;
-    while i < 32 {
-        if i < n {
-            show_cell(rt, cells_reader::cell_at(l, i))?;
-        }
-        i += 1;
+    program_files::number(rt, l.n)?;
+    for c in l.cells.iter().take(l.n) {
+        show_cell(rt, *c)?;
     }
     Ok(())
 }
 
 fn show(rt: &impl Print, text: &[u8]) -> io::Result<()> {
-    let a = cells_reader::read(text);
-    let v = a.verdict;
-    match v {
-        Verdict::Accepted => {
-            if cells_reader::is_ranged(text) {
-                program_files::put(rt, b"ranged")?;
+    match cells_reader::read(text) {
+        Ok(l) => {
+            let word = if cells_reader::is_ranged(text) {
+                "ranged"
             } else {
-                program_files::put(rt, b"read")?;
-            }
-            let l = a.library;
+                "read"
+            };
+            print!(rt; "{word}")?;
             show_cells(rt, l)?;
             program_files::put(rt, b"\n")
         }
-        Verdict::Refused(number, place) => program_files::refused(rt, number, place),
+        Err(refusal) => program_files::refused(rt, refusal),
     }
 }
 
 fn each(rt: &impl Print, s: &[u8]) -> io::Result<()> {
-    let mut from = 0;
-    while from < s.len() {
-        let end = program_files::end(s, from);
-        show(rt, &s[from..end])?;
-        from = end + 1;
+    for text in s.split_inclusive(|b| *b == 0) {
+        show(rt, text.strip_suffix(&[0]).unwrap_or(text))?;
     }
     Ok(())
 }

@@ -3,22 +3,8 @@
 // cases and what must be printed (tests/other/src/bin/cases.rs).
 #![tactic(auto)]
 
-ghost use Rattle.std.specs.Prelude.{◌≤◌};
-
-use base_text::{Cursor, Number};
-use model::Answer;
+use base_text::Cursor;
 use std::io;
-
-fn show(
-    rt: &impl Print,
-    number: usize,
-    value: usize,
-    gates: u32,
-    area: u32,
-    arrival: u32,
-) -> io::Result<()> {
-    println!(rt; "{number} {value} {gates} {area} {arrival} ")
-}
 
 fn map_buffers(
     rt: &impl Print,
@@ -29,25 +15,34 @@ fn map_buffers(
     text: &mut [u8],
 ) -> io::Result<()> {
     match mapper::map_texts(cells, graph, arrivals, false, work, text) {
-        Answer::Mapped(n, f) => {
-            show(rt, 0, n, f.gates, f.area, f.arrival)?;
-            if n <= text.len() {
-                program_files::put(rt, &text[..n])?;
+        Ok(m) => {
+            let f = m.figures;
+            println!(rt; "0 {} {} {} {} ", m.length, f.gates, f.area, f.arrival)?;
+            if m.length <= text.len() {
+                program_files::put(rt, &text[..m.length])?;
             }
             Ok(())
         }
-        Answer::Refused(number, place) => show(rt, number, place, 0, 0, 0),
+        Err(refusal) => println!(rt; "{} {} 0 0 0 ", refusal.number, refusal.place),
     }
 }
 
-// 16 a + b, for one number is at most 65,535; never more than there is.
-fn buffer_length(a: u16, b: u16, most: usize) -> usize
-    ensures { result ≤ most }
-{
-    let n = a as usize * 16 + b as usize;
-    if n < most { n } else { most }
+// 16 a + b, for one number is at most 65,535.
+fn buffer_length(a: u16, b: u16) -> usize {
+    usize::from(a) * 16 + usize::from(b)
 }
 
+// The words and the bytes to lend.
+fn buffer_lengths(sizes: &[u8]) -> Option<(usize, usize)> {
+    let start = Cursor { at: 0 };
+    let (a, c) = start.number_then(sizes, b' ')?;
+    let (b, c) = c.number_then(sizes, b' ')?;
+    let (d, c) = c.number_then(sizes, b' ')?;
+    let (e, _) = c.number(sizes)?;
+    Some((buffer_length(a, b), buffer_length(d, e)))
+}
+
+// Never more is lent than there is.
 fn map_with(
     rt: &impl Print,
     sizes: &[u8],
@@ -57,23 +52,17 @@ fn map_with(
     work: &mut [u16],
     text: &mut [u8],
 ) -> io::Result<()> {
-    let c = Cursor { at: 0 };
-    if let Number::Value(a, c1) = c.number_then(sizes, 32) {
-        if let Number::Value(b, c2) = c1.number_then(sizes, 32) {
-            if let Number::Value(d, c3) = c2.number_then(sizes, 32) {
-                if let Number::Value(e, _) = c3.number(sizes) {
-                    let n = buffer_length(a, b, work.len());
-                    let m = buffer_length(d, e, text.len());
-                    map_buffers(rt, cells, graph, arrivals, &mut work[..n], &mut text[..m])?;
-                }
-            }
-        }
-    }
-    Ok(())
+    let Some((words, bytes)) = buffer_lengths(sizes) else {
+        return Ok(());
+    };
+    let n = words.min(work.len());
+    let m = bytes.min(text.len());
+    map_buffers(rt, cells, graph, arrivals, &mut work[..n], &mut text[..m])
 }
 
 fn each(rt: &impl Print, s: &[u8], work: &mut [u16], text: &mut [u8]) -> io::Result<()> {
     let mut from = 0;
+    // Stays: the step is the length of four texts, not one, and a case whose last text no byte 0 ends is none.
     while from < s.len() {
         let a = program_files::end(s, from);
         let b = program_files::end(s, a + 1);

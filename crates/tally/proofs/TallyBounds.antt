@@ -1,8 +1,8 @@
 -- A report is within the memory lent to it, and a file's name within its sixteen bytes.
+use Rattle.std.specs.Prelude.{Ok}
 use Rattle.base.specs.{ℕ, ◌≤◌, ◌<◌, arith, ◌≡◌, refl, subst, List, leb, length, leb_yes}
 use Rattle.model.specs.{decimal, Read, holds, fault, next, unless, read_library, written_answer, in_width, report_text, report_of}
 use Rattle.model.specs.declared.Tally.{Tally}
-use Rattle.model.specs.declared.Written.TheVariants.{Length}
 use Rattle.theory_text.proofs.{holds-once, unless_out, next_out}
 use Rattle.base_text.proofs.{dec_below}
 
@@ -15,11 +15,11 @@ held_fits t library bytes r e =
     let d = unless_out (leb (length (report_text b.0 t)) bytes) 18 (length (report_text b.0 t)) (holds (report_text b.0 t)) r c.1 in
     subst (λ (x : List ℕ). length x ≤ bytes) (holds-once d.1) (leb_yes d.0)
 
-pub report-within : (t : Tally) (library : List ℕ) (bytes n : ℕ) → Length n ≡ written_answer (report_of t library bytes) → n ≤ bytes
+pub report-within : (t : Tally) (library : List ℕ) (bytes n : ℕ) → Ok n ≡ written_answer (report_of t library bytes) → n ≤ bytes
 unfolding written_answer
 report-within t library bytes n e = go (report_of t library bytes) refl e
   where
-    go : (o : Read (List ℕ)) → report_of t library bytes ≡ o → Length n ≡ written_answer o → n ≤ bytes
+    go : (o : Read (List ℕ)) → report_of t library bytes ≡ o → Ok n ≡ written_answer o → n ≤ bytes
     go (holds r) p q = let z : n ≡ length r = cc in omega (arith, held_fits t library bytes r p)
     go (fault m k) p q = let z : ◌≡◌ {A = ℕ} 0 1 = cc in absurd (omega arith)
 

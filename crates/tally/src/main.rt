@@ -5,78 +5,46 @@
 
 ghost use Rattle.std.specs.Prelude.{◌≡◌};
 ghost use Rattle.base.specs.{length};
+ghost use Rattle.program_files.specs.{Found_in};
 
-use model::{Tally, Verdict, Written};
-use program_files::{Found, Loaded};
+use model::Tally;
+use program_files::Unreadable;
 use std::rt::Files;
 
-// What the next name led to: a netlist, counted or refused; the end of the netlists; or a file that cannot be read.
-#[derive(Clone, Copy)]
-pub enum NextNetlist {
-    Counted,
-    End,
-    Unreadable,
-}
-
-// The tally so far beside it.
-#[derive(Clone, Copy)]
-pub struct Next {
-    pub found: NextNetlist,
-    pub tally: Tally,
-}
-
-fn led_to(found: NextNetlist, tally: Tally) -> Next {
-    Next { found, tally }
-}
-
-// A netlist, or its refusal in its place.
-fn count_one(rt: &(impl Print + Eprint), cells: &[u8], netlist: &[u8], t: Tally) -> Tally {
-    let r = tally_counting::count(t, cells, netlist);
-    let verdict = r.verdict;
-    if let Verdict::Refused(number, place) = verdict {
-        program_files::said(rt, program_files::refused(rt, number, place), "tally");
-    }
-    r.tally
-}
-
-fn count_file<R: Files + Print + Eprint>(
-    rt: &R,
-    path: &str,
-    cells: &[u8],
-    buf: &mut [u8],
-    t: Tally,
-) -> Next
-    requires { length buf.old ≡ 65537 }
-{
-    match program_files::find(rt, "tally", path, buf) {
-        Found::Bytes(n) => led_to(NextNetlist::Counted, count_one(rt, cells, &buf[..n], t)),
-        Found::Absent => led_to(NextNetlist::End, t),
-        Found::Unreadable => led_to(NextNetlist::Unreadable, t),
-    }
-}
-
 // `1.blif` and so on.
+// Stays: the project's rule, no heap: `format!` would make a String.
 fn file_name(k: u32, name: &mut [u8; 16]) -> &str {
     let at = base_text::put_number(name, 0, k);
     let end = base_text::put_bytes(name, at, b".blif");
     str::from_utf8(&name[..end]).unwrap()
 }
 
-fn count_next<R: Files + Print + Eprint>(
+// Netlist number k, at the buffer's start.
+fn find_netlist<R: Files + Eprint>(
     rt: &R,
     k: u32,
-    cells: &[u8],
     buf: &mut [u8],
-    t: Tally,
-) -> Next
+) -> Result<Option<usize>, Unreadable>
     requires { length buf.old ≡ 65537 }
+    ensures { Found_in result buf.new }
 {
     let mut name = [0u8; 16];
-    count_file(rt, file_name(k, &mut name), cells, buf, t)
+    program_files::find(rt, "tally", file_name(k, &mut name), buf)
+}
+
+// A netlist, or its refusal in its place.
+fn count_one(rt: &(impl Print + Eprint), cells: &[u8], netlist: &[u8], t: &mut Tally) {
+    if let Err(refusal) = tally_counting::count(t, cells, netlist) {
+        program_files::said(rt, program_files::refused(rt, refusal), "tally");
+    }
 }
 
 // Where a netlist cannot be read, which `find` has said, the count is none: it would leave out that netlist and those behind it.
-fn count_all<R: Files + Print + Eprint>(rt: &R, cells: &[u8], buf: &mut [u8]) -> Next
+fn count_all<R: Files + Print + Eprint>(
+    rt: &R,
+    cells: &[u8],
+    buf: &mut [u8],
+) -> Result<Tally, Unreadable>
     requires { length buf.old ≡ 65537 }
 {
     let mut t = Tally {
@@ -85,44 +53,35 @@ fn count_all<R: Files + Print + Eprint>(rt: &R, cells: &[u8], buf: &mut [u8]) ->
         occurs: [0; 32],
         netlists: 0,
     };
-    let mut k: u32 = 1;
-    while k < 1000000 {
-        let next = count_next(rt, k, cells, buf, t);
-        let found = next.found;
-        let NextNetlist::Counted = found else {
-            return next;
+    for k in 1..1000000 {
+        let Some(n) = find_netlist(rt, k, buf)? else {
+            return Ok(t);
         };
-        t = next.tally;
-        k += 1;
+        count_one(rt, cells, &buf[..n], &mut t);
     }
-    led_to(NextNetlist::End, t)
+    Ok(t)
 }
 
 // It lends 65,536 bytes.
 fn show(rt: &(impl Print + Eprint), t: Tally, cells: &[u8], text: &mut [u8])
     requires { length text.old ≡ 65536 }
 {
-    match tally_report::report(t, cells, text) {
-        Written::Length(n) => program_files::said(rt, program_files::put(rt, &text[..n]), "tally"),
-        Written::Refused(number, place) => {
-            program_files::said(rt, program_files::refused(rt, number, place), "tally");
-        }
-    }
+    let written = match tally_report::report(t, cells, text) {
+        Ok(n) => program_files::put(rt, &text[..n]),
+        Err(refusal) => program_files::refused(rt, refusal),
+    };
+    program_files::said(rt, written, "tally");
 }
 
 fn main(rt: HostRuntime) {
     let mut cells = [0u8; 65537];
     let mut buf = [0u8; 65537];
     let mut text = [0u8; 65536];
-    let cells_read = program_files::load(&rt, "tally", "cells.txt", &mut cells);
-    let Loaded::Bytes(n) = cells_read else {
-        return;
+    let Ok(n) = program_files::load(&rt, "tally", "cells.txt", &mut cells) else {
+        return
     };
-    let all = count_all(&rt, &cells[..n], &mut buf);
-    let found = all.found;
-    let NextNetlist::End = found else {
-        return;
+    let Ok(t) = count_all(&rt, &cells[..n], &mut buf) else {
+        return
     };
-    let t = all.tally;
     show(&rt, t, &cells[..n], &mut text);
 }

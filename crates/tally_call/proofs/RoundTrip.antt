@@ -1,11 +1,9 @@
 -- A tally put into numbers is read out of them, and what the calls promise of the numbers.
+use Rattle.std.specs.Prelude.{Ok}
 use Rattle.base.specs.{ℕ, arith, ◌≡◌, refl, sym, ap, ap₂, ◌∙◌, subst, List, [], ◌∷◌, length, take, drop, replicate, take-append_seam}
-use Rattle.model.specs.{Read, holds, fault, written_answer, written_after, read_library, empty_tally, count_text, report_of}
+use Rattle.model.specs.{Read, holds, fault, refused_with, written_answer, written_after, read_library, empty_tally, count_text, report_of, Written}
 use Rattle.model.specs.declared.Cell.{Cell}
 use Rattle.model.specs.declared.Tally.{Tally}
-use Rattle.model.specs.declared.Written.{Written}
-use Rattle.model.specs.declared.Written.TheVariants.{Length}
-use Rattle.model.specs.declared.Verdict.TheVariants.{Accepted}
 use Rattle.promises.specs.TallyDemands.{Tallied, counted_with, ReadsBack}
 use Rattle.theory_tally.proofs.{tallied-none, tallied-more, reads-back}
 use Rattle.base_words.specs.{put_at}
@@ -13,7 +11,6 @@ use Rattle.base_words.proofs.{length-put, part-put, part_apart, word-put}
 use Rattle.promises.specs.{tally_of, CountSums, ReportSums}
 use Rattle.tally_call.specs.{stored}
 use Rattle.tally_call.proofs.TallyColumns.{tally_is, only_97}
-use Rattle.model.specs.declared.Verdict.TheVariants as verdict
 
 -- 97 zeros are "an empty one"
 from-zeros : tally_of (replicate 97 0) ≡ empty_tally
@@ -63,21 +60,21 @@ zeros-tallied library cells e = subst (Tallied cells []) (sym from-zeros) (talli
 
 -- ---- the calls
 
-pub count-sums : (library netlist before after : List ℕ) (u : Tally) → count_text (tally_of before) library netlist ≡ holds u → after ≡ stored before u → CountSums library netlist before after Accepted
+pub count-sums : (library netlist before after : List ℕ) (u : Tally) → count_text (tally_of before) library netlist ≡ holds u → after ≡ stored before u → CountSums library netlist before after (Ok tt)
 unfolding counted_with
 count-sums library netlist before after u is put cells e ns h =
     let r = tallied-more library cells e ns (tally_of before) u netlist h is in
     subst (Tallied cells (netlist ∷ ns)) (sym (ap tally_of put ∙ round_trip before u (only_97 before library netlist u is) r.gates_long r.areas_long r.occurs_long)) r
 
-pub refused-sums : (library netlist before : List ℕ) (n k : ℕ) → CountSums library netlist before before (verdict.Refused n k)
+pub refused-sums : (library netlist before : List ℕ) (n k : ℕ) → CountSums library netlist before before (refused_with n k)
 unfolding counted_with
 refused-sums library netlist before n k cells e ns h = h
 
-taken : (n : ℕ) (r memory after : List ℕ) → written_answer (holds r) ≡ Length n → after ≡ written_after (holds r) memory → take n after ≡ r
+taken : (n : ℕ) (r memory after : List ℕ) → written_answer (holds r) ≡ Ok n → after ≡ written_after (holds r) memory → take n after ≡ r
 unfolding written_answer written_after
 taken n r memory after q b = let z : length r ≡ n = cc in ap₂ (λ (k : ℕ) (x : List ℕ). take k x) (sym z) b ∙ take-append_seam r (drop (length r) memory)
 
-never : (m k n : ℕ) → written_answer (fault m k) ≡ Length n → ⊥
+never : (m k n : ℕ) → written_answer (fault m k) ≡ Ok n → ⊥
 unfolding written_answer
 never m k n q = let z : ◌≡◌ {A = ℕ} 0 1 = cc in absurd (omega arith)
 
@@ -85,6 +82,6 @@ pub report-sums : (library tally memory after : List ℕ) (w : Written) → w �
     → after ≡ written_after (report_of (tally_of tally) library (length memory)) memory → ReportSums library tally after w
 report-sums library tally memory after w answer bytes cells e ns h n is = go (report_of (tally_of tally) library (length memory)) refl (sym answer ∙ is) bytes
   where
-    go : (o : Read (List ℕ)) → report_of (tally_of tally) library (length memory) ≡ o → written_answer o ≡ Length n → after ≡ written_after o memory → ReadsBack cells ns (take n after)
+    go : (o : Read (List ℕ)) → report_of (tally_of tally) library (length memory) ≡ o → written_answer o ≡ Ok n → after ≡ written_after o memory → ReadsBack cells ns (take n after)
     go (holds r) p q b = subst (ReadsBack cells ns) (sym (taken n r memory after q b)) (reads-back library cells e ns (tally_of tally) (length memory) r h p)
     go (fault m k) p q b = absurd (never m k n q)

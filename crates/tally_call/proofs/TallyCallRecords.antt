@@ -1,9 +1,10 @@
 -- What the calls promise of the numbers, from what they store and answer.
+use Rattle.std.specs.Prelude.{Ok}
+use Rattle.model.specs.{Written, refused_with}
 use Rattle.base.specs.{ℕ, ◌*◌, arith, ◌≡◌, refl, sym, ap, ap₂, ◌∙◌, subst, List, ltb, length, drop, length-take-le, length-drop, eq-eqb}
 use Rattle.model.specs.{Read, holds, fault, verdict_of, written_answer, written_after, read_library, cell_at, times, one, counted, count_text, report_of}
+use Rattle.model.specs.declared.Refusal.{Refusal}
 use Rattle.model.specs.declared.Tally.{Tally}
-use Rattle.model.specs.declared.Verdict.TheVariants.{Accepted, Refused}
-use Rattle.model.specs.declared.Written.{Written}
 use Rattle.model.proofs.{verdict-refusal}
 use Rattle.promises.specs.{tally_of, NetlistCount, TallyReport}
 use Rattle.promises.specs.Sums.{Grown}
@@ -12,7 +13,6 @@ use Rattle.theory_tally.proofs.{added-length, counted_by_lem, count-numbered, re
 use Rattle.tally_call.specs.{stored}
 use Rattle.tally_call.proofs.TallyColumns.{only_97}
 use Rattle.tally_call.proofs.RoundTrip.{stored-long, round_trip, zeros-tallied, count-sums, refused-sums, report-sums}
-use Rattle.model.specs.declared.Written.TheVariants as written
 
 -- ---- a tally of 97 numbers, and one netlist more
 
@@ -47,15 +47,17 @@ held-once p q = cc
 never_both : {A : Type 0} {a : A} {n k : ℕ} {o : Read A} → o ≡ holds a → o ≡ fault n k → ⊥
 never_both p q = let z : ◌≡◌ {A = ℕ} 0 1 = cc in omega arith
 
-unwritten : (o : Read (List ℕ)) (n k : ℕ) → written_answer o ≡ written.Refused n k → o ≡ fault n k
+unwritten : (o : Read (List ℕ)) (n k : ℕ) → written_answer o ≡ refused_with n k → o ≡ fault n k
 unfolding written_answer
 unwritten (holds u) n k e = let z : ◌≡◌ {A = ℕ} 0 1 = cc in absurd (omega arith)
-unwritten (fault m j) n k e = ap₂ fault (cc) (cc)
+unwritten (fault m j) n k e =
+    let z : ◌≡◌ {A = Refusal} (record { number = m; place = j }) (record { number = n; place = k }) = cc in
+    ap (λ (r : Refusal). fault r.number r.place) z
 
 -- ---- the calls
 
 module _ (library netlist before : List ℕ) where
-  pub was_stored : (after : List ℕ) (u : Tally) → count_text (tally_of before) library netlist ≡ holds u → after ≡ stored before u → NetlistCount library netlist before Accepted after
+  pub was_stored : (after : List ℕ) (u : Tally) → count_text (tally_of before) library netlist ≡ holds u → after ≡ stored before u → NetlistCount library netlist before (Ok tt) after
   unfolding verdict_of
   was_stored after u is put =
       let long = only_97 before library netlist u is in let w = counted-wide (tally_of before) library netlist u is (tally_wide before long) in
@@ -65,7 +67,7 @@ module _ (library netlist before : List ℕ) where
         counted = λ v e. (ap length put ∙ stored-long before u long w.gates w.areas w.occurs, back ∙ held-once is e);
         refusal = λ n k e. absurd (never_both is e);
         unchanged = λ n k e. absurd (never_both is e);
-        returns = verdict-refusal Accepted (count_text (tally_of before) library netlist) (sym (ap verdict_of is));
+        returns = verdict-refusal (Ok tt) (count_text (tally_of before) library netlist) (sym (ap verdict_of is));
         refusals = count_exactly (tally_of before) library netlist;
         sums = count-sums library netlist before after u is put;
         empty = zeros-tallied library;
@@ -74,14 +76,14 @@ module _ (library netlist before : List ℕ) where
             (refl, subst (λ (x : Tally). Grown cells (tally_of before) x f.gates f.area) (held-once (subst (λ (x : List ℕ). count_text (tally_of before) x netlist ≡ holds p.0) same p.1) is ∙ sym back) p.2);
       }
 
-  pub was_kept : (n k : ℕ) → count_text (tally_of before) library netlist ≡ fault n k → NetlistCount library netlist before (Refused n k) before
+  pub was_kept : (n k : ℕ) → count_text (tally_of before) library netlist ≡ fault n k → NetlistCount library netlist before (refused_with n k) before
   unfolding verdict_of
   was_kept n k is = record {
     success = λ v e. absurd (never_both e is);
     counted = λ v e. absurd (never_both e is);
-    refusal = λ m j e. (ap₂ Refused (cc) (cc), (count-numbered (tally_of before) library netlist).has m j e);
+    refusal = λ m j e. (ap₂ refused_with (cc) (cc), (count-numbered (tally_of before) library netlist).has m j e);
     unchanged = λ m j e. refl;
-    returns = verdict-refusal (Refused n k) (count_text (tally_of before) library netlist) (sym (ap verdict_of is));
+    returns = verdict-refusal (refused_with n k) (count_text (tally_of before) library netlist) (sym (ap verdict_of is));
     refusals = count_exactly (tally_of before) library netlist;
     sums = refused-sums library netlist before n k;
     empty = zeros-tallied library;

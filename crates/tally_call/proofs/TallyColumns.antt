@@ -1,35 +1,15 @@
 -- The numbers of a tally, column by column, and what a call leaves of them.
-use Rattle.base.specs.{ℕ, ◌+◌, ◌≤◌, ◌<◌, arith, ◌≡◌, refl, sym, ap, ap₂, ◌∙◌, Bool, true, false, List, [], ◌∷◌, ◌++◌, append-nil, eqb}
-use Rattle.base.specs.{length, take, drop, get_or, set, length-drop, get_or-drop, length-take-le, eq-eqb, ne_eqb, eqb-true}
-use Rattle.model.specs.{Read, holds, fault, count_text, counted_answer}
+use Rattle.std.specs.Prelude.{Ok, Err}
+use Rattle.base.specs.{ℕ, arith, ◌≡◌, refl, sym, ap, ap₂, ◌∙◌, Bool, true, false, List, [], ◌∷◌, eqb}
+use Rattle.base.specs.{length, take, drop, get_or, set, eq-eqb, ne_eqb, eqb-true}
+use Rattle.model.specs.{Read, holds, fault, count_text, refused_with, verdict_of, tally_after}
 use Rattle.model.specs.declared.Tally.{Tally}
-use Rattle.model.specs.declared.Counted.{Counted}
-use Rattle.model.specs.declared.Verdict.TheVariants.{Accepted, Refused}
+use Rattle.model.specs.declared.Refusal.{Refusal}
 use Rattle.theory_tally.proofs.{counted_by_lem}
-use Rattle.base_words.specs.{put_at, zeros}
-use Rattle.base_words.proofs.{put_taken, put_one, length-put}
-use Rattle.base_text.proofs.{put_front}
+use Rattle.base_words.specs.{put_at}
+use Rattle.base_words.proofs.{put_one, length-put}
 use Rattle.promises.specs.{overfull, tally_of}
 use Rattle.tally_call.specs.{stored}
-
--- ---- a column
-
-pub column_step : (s : List ℕ) (from i : ℕ) (xs : List ℕ) → from + 32 ≤ length s → i < 32 → xs ≡ put_at (zeros 32) 0 (take i (drop from s))
-    → set xs i (get_or s (from + i) 0) ≡ put_at (zeros 32) 0 (take (i + 1) (drop from s))
-column_step s from i xs h k e =
-    let z : 0 + i ≡ i = omega arith in
-    ap₂ (λ (x : List ℕ) (v : ℕ). set x i v) e (sym (get_or-drop from s i 0))
-    ∙ ap (λ (j : ℕ). set (put_at (zeros 32) 0 (take i (drop from s))) j (get_or (drop from s) i 0)) (sym z)
-    ∙ put_taken (zeros 32) 0 (drop from s) i (let q : length (zeros 32) ≡ 32 = refl in omega arith) (omega (arith, length-drop from s))
-
-pub column_end : (s : List ℕ) (from i : ℕ) (xs : List ℕ) → from + 32 ≤ length s → i ≡ 32 → xs ≡ put_at (zeros 32) 0 (take i (drop from s)) → xs ≡ take 32 (drop from s)
-column_end s from i xs h k e =
-    let n : length (take 32 (drop from s)) ≡ 32 = length-take-le 32 (drop from s) (omega (arith, length-drop from s)) in
-    e
-    ∙ ap (λ (j : ℕ). put_at (zeros 32) 0 (take j (drop from s))) k
-    ∙ put_front (zeros 32) (take 32 (drop from s))
-    ∙ ap (λ (j : ℕ). take 32 (drop from s) ++ drop j (zeros 32)) n
-    ∙ append-nil (take 32 (drop from s))
 
 -- ---- the tally
 
@@ -57,22 +37,25 @@ stored_is s t n lg la lo a b c ea eb ec =
 
 -- ---- the answer of a call
 
-module _ (t : Tally) (o : Read Tally) (r : Counted) (is : r ≡ counted_answer t o) where
-  pub was_counted : r.verdict ≡ Accepted → o ≡ holds r.tally
-  unfolding counted_answer
-  was_counted e = go o refl is
+module _ (t : Tally) (o : Read Tally) where
+  pub was_counted : verdict_of o ≡ Ok tt → o ≡ holds (tally_after t o)
+  unfolding verdict_of tally_after
+  was_counted e = go o refl
     where
-      go : (q : Read Tally) → o ≡ q → r ≡ counted_answer t q → o ≡ holds r.tally
-      go (holds u) p h = p ∙ ap holds (sym (ap (λ (x : Counted). x.tally) h))
-      go (fault n k) p h = let z : Refused n k ≡ Accepted = sym (ap (λ (x : Counted). x.verdict) h) ∙ e in let y : ◌≡◌ {A = ℕ} 0 1 = cc in absurd (omega arith)
+      go : (q : Read Tally) → o ≡ q → o ≡ holds (tally_after t o)
+      go (holds u) p = p ∙ ap holds (sym (ap (tally_after t) p))
+      go (fault n k) p = let z : refused_with n k ≡ Ok tt = sym (ap verdict_of p) ∙ e in let y : ◌≡◌ {A = ℕ} 0 1 = cc in absurd (omega arith)
 
-  pub was_refused : (n k : ℕ) → r.verdict ≡ Refused n k → o ≡ fault n k
-  unfolding counted_answer
-  was_refused n k e = go o refl is
+  pub was_refused : (r : Refusal) → verdict_of o ≡ Err r → o ≡ fault r.number r.place
+  unfolding verdict_of
+  was_refused r e = go o refl
     where
-      go : (q : Read Tally) → o ≡ q → r ≡ counted_answer t q → o ≡ fault n k
-      go (holds u) p h = let z : Accepted ≡ Refused n k = sym (ap (λ (x : Counted). x.verdict) h) ∙ e in let y : ◌≡◌ {A = ℕ} 0 1 = cc in absurd (omega arith)
-      go (fault m j) p h = let z : Refused m j ≡ Refused n k = sym (ap (λ (x : Counted). x.verdict) h) ∙ e in p ∙ ap₂ fault (cc) (cc)
+      go : (q : Read Tally) → o ≡ q → o ≡ fault r.number r.place
+      go (holds u) p = let z : Ok tt ≡ Err r = sym (ap verdict_of p) ∙ e in let y : ◌≡◌ {A = ℕ} 0 1 = cc in absurd (omega arith)
+      go (fault m j) p =
+          let z : refused_with m j ≡ Err r = sym (ap verdict_of p) ∙ e in
+          let y : record { number = m; place = j } ≡ r = cc in
+          p ∙ ap (λ (x : Refusal). fault x.number x.place) y
 
 never_full : (library netlist : List ℕ) (u : Tally) → count_text overfull library netlist ≡ holds u → ⊥
 never_full library netlist u e = (counted_by_lem overfull library netlist u e).not_full

@@ -8,7 +8,7 @@ ghost use Rattle.promises.specs.{NetlistCount, TallyReport, overfull, tally_of};
 ghost use Rattle.base_words.specs.{put_at};
 ghost use Rattle.tally_call.specs.{stored};
 
-use model::{Tally, Verdict, Written};
+use model::{Refusal, Tally};
 
 // The 32 numbers from a place on.
 fn column(s: &[u64], from: usize) -> [u64; 32]
@@ -16,11 +16,7 @@ fn column(s: &[u64], from: usize) -> [u64; 32]
     ensures { result ≡ take 32 (drop from s.now) }
 {
     let mut xs = [0u64; 32];
-    let mut i = 0;
-    while i < 32 {
-        xs[i] = s[from + i];
-        i += 1;
-    }
+    xs.copy_from_slice(&s[from..from + 32]);
     xs
 }
 
@@ -57,11 +53,7 @@ fn put_column(out: &mut [u64], at: usize, xs: [u64; 32])
     requires { at + 32 ≤ length out.old }
     ensures { (out.new ≡ put_at out.old at xs) × (length xs ≡ 32) }
 {
-    let mut i = 0;
-    while i < 32 {
-        out[at + i] = xs[i];
-        i += 1;
-    }
+    out[at..at + 32].copy_from_slice(&xs);
 }
 
 fn store(out: &mut [u64], t: Tally)
@@ -78,24 +70,17 @@ fn store(out: &mut [u64], t: Tally)
 }
 
 // A netlist counted into a lent tally: a refusal leaves it was.
-pub fn count(cells: &[u8], netlist: &[u8], tally: &mut [u64]) -> Verdict
+pub fn count(cells: &[u8], netlist: &[u8], tally: &mut [u64]) -> Result<(), Refusal>
     ensures { NetlistCount cells.now netlist.now tally.old result tally.new }
 {
-    let t = load(tally);
-    let r = tally_counting::count(t, cells, netlist);
-    let verdict = r.verdict;
-    let u = r.tally;
-    match verdict {
-        Verdict::Accepted => {
-            store(tally, u);
-            Verdict::Accepted
-        }
-        Verdict::Refused(number, place) => Verdict::Refused(number, place),
-    }
+    let mut t = load(tally);
+    tally_counting::count(&mut t, cells, netlist)?;
+    store(tally, t);
+    Ok(())
 }
 
 // The report of a lent tally.
-pub fn report(cells: &[u8], tally: &[u64], text: &mut [u8]) -> Written
+pub fn report(cells: &[u8], tally: &[u64], text: &mut [u8]) -> Result<usize, Refusal>
     ensures { TallyReport cells.now tally.now text.old result text.new }
 {
     tally_report::report(load(tally), cells, text)

@@ -1,44 +1,47 @@
 -- The answers of counting and of a report, refusal by refusal, and the library that was read.
+use Rattle.std.specs.Prelude.{Ok, Err, Result}
+use Rattle.model.specs.declared.Refusal.{Refusal}
 use Rattle.base.specs.{ℕ, zero, suc, ◌+◌, ◌-◌, ◌*◌, ◌≤◌, ◌<◌, arith, ◌≡◌, refl, sym, ap, ap₂, ◌∙◌, subst, Bool, true, false, List, [], ◌∷◌}
 use Rattle.base.specs.{◌++◌, leb, ltb, length, get_or, replicate, length-append, take-append_seam, lt-ltb, le-ltb, le-leb, lt-leb}
-use Rattle.model.specs.{one, Read, holds, fault, next, unless, no_cell, blank, cell_at, cells_of, library_of, library_answer, read_library}
-use Rattle.model.specs.{is_ranged, in_width, read_counted, times, add_each, counted, count_text, counted_answer}
+use Rattle.model.specs.{one, Read, holds, fault, next, unless, no_cell, blank, cell_at, cells_of, library_of, library_answer, read_library, refused_with}
+use Rattle.model.specs.{is_ranged, in_width, read_counted, times, add_each, counted, count_text, verdict_of, tally_after}
 use Rattle.model.specs.declared.Cell.{Cell}
 use Rattle.model.specs.declared.Library.{Library}
-use Rattle.model.specs.declared.LibraryAnswer.{LibraryAnswer}
 use Rattle.model.specs.declared.Tally.{Tally}
-use Rattle.model.specs.declared.Verdict.TheVariants.{Accepted, Refused}
 use Rattle.theory_graph.proofs.{get_or_in}
 use Rattle.theory_text.proofs.{library-few, library-written}
 use Rattle.base_text.proofs.{and-false}
 use Rattle.tally_lines.specs.{Listed}
 use Rattle.tally_counting.specs.declared.Counts.{Counts}
-use Rattle.tally_counting.specs.{gates_at, areas_at, occurs_at, add_up_to, counted_by, Wide, Blank, Whole, count_read}
+use Rattle.tally_counting.specs.{gates_at, areas_at, occurs_at, add_up_to, counted_by, Wide, Blank, Whole, count_read, Handed}
 use Rattle.tally_counting.proofs.CountPositions.{add-all, add_same}
 
 -- ---- the library
 
-module _ (o : Read (List Cell)) (a : LibraryAnswer) (is : a ≡ library_answer o) where
-  pub record Accepts : Type 0 where
+module _ (o : Read (List Cell)) (a : Result Library Refusal) (is : a ≡ library_answer o) where
+  pub record Accepts (lib : Library) : Type 0 where
     pub cells : List Cell
     pub is_read : o ≡ holds cells
-    pub is_library : a.library ≡ library_of cells
+    pub is_library : lib ≡ library_of cells
 
-  pub accepted : a.verdict ≡ Accepted → Accepts
+  pub accepted : (lib : Library) → a ≡ Ok lib → Accepts lib
   unfolding library_answer
-  accepted e = go o refl is
+  accepted lib e = go o refl is
     where
-      go : (r : Read (List Cell)) → o ≡ r → a ≡ library_answer r → Accepts
-      go (holds cs) q p = record { cells = cs; is_read = q; is_library = ap (λ (x : LibraryAnswer). x.library) p }
-      go (fault n k) q p = let z : Refused n k ≡ Accepted = sym (ap (λ (x : LibraryAnswer). x.verdict) p) ∙ e in let y : ◌≡◌ {A = ℕ} 0 1 = cc in absurd (omega arith)
+      go : (r : Read (List Cell)) → o ≡ r → a ≡ library_answer r → Accepts lib
+      go (holds cs) q p = let z : Ok lib ≡ Ok (library_of cs) = sym e ∙ p in record { cells = cs; is_read = q; is_library = cc }
+      go (fault n k) q p = let z : refused_with n k ≡ Ok lib = sym p ∙ e in let y : ◌≡◌ {A = ℕ} 0 1 = cc in absurd (omega arith)
 
-  pub refused-back : (n k : ℕ) → a.verdict ≡ Refused n k → o ≡ fault n k
+  pub refused-back : (r : Refusal) → a ≡ Err r → o ≡ fault r.number r.place
   unfolding library_answer
-  refused-back n k e = go o refl is
+  refused-back r e = go o refl is
     where
-      go : (r : Read (List Cell)) → o ≡ r → a ≡ library_answer r → o ≡ fault n k
-      go (holds cs) q p = let z : Accepted ≡ Refused n k = sym (ap (λ (x : LibraryAnswer). x.verdict) p) ∙ e in let y : ◌≡◌ {A = ℕ} 0 1 = cc in absurd (omega arith)
-      go (fault m j) q p = let z : Refused m j ≡ Refused n k = sym (ap (λ (x : LibraryAnswer). x.verdict) p) ∙ e in q ∙ ap₂ fault (cc) (cc)
+      go : (x : Read (List Cell)) → o ≡ x → a ≡ library_answer x → o ≡ fault r.number r.place
+      go (holds cs) q p = let z : Ok (library_of cs) ≡ Err r = sym p ∙ e in let y : ◌≡◌ {A = ℕ} 0 1 = cc in absurd (omega arith)
+      go (fault m j) q p =
+          let z : refused_with m j ≡ Err r = sym p ∙ e in
+          let y : record { number = m; place = j } ≡ r = cc in
+          q ∙ ap (λ (x : Refusal). fault x.number x.place) y
 
 length-blanks : (n : ℕ) → length (replicate n blank) ≡ n
 length-blanks zero = refl
@@ -76,6 +79,12 @@ module _ (library : List ℕ) (cs : List Cell) (e : read_library library ≡ hol
   unfolding library_of cell_at cells_of
   blanks i h = area-at cs (32 - length cs) i ∙ ap (λ (x : List Cell). (get_or x i no_cell).area) (sym (take-append_seam cs (replicate (32 - length cs) blank)))
 
+-- ---- "A refused netlist adds nothing."
+
+pub nothing_added : (t : Tally) {o : Read Tally} {n k : ℕ} → o ≡ fault n k → Handed t o (refused_with n k) t
+unfolding verdict_of tally_after
+nothing_added t e = record { answers = sym (ap verdict_of e); hands_on = sym (ap (tally_after t) e) }
+
 -- ---- 28 and 29
 
 module _ (t : Tally) (ranged : Bool) (cells : List Cell) (s : List ℕ) where
@@ -109,18 +118,20 @@ module _ (t : Tally) (ranged : Bool) (l : Library) (b : Blank l) (s : List ℕ) 
   all_of : (f h : ℕ → ℕ) (ns : List ℕ) → length ns ≡ 32 → ((i : ℕ) → i < 32 → f i ≡ h i) → add_up_to 32 f 0 ns ≡ add_each h 0 ns
   all_of f h ns long e = add-all f 32 ns long ∙ add_same f h ns long e
 
-  tally_is : counted_by t l c ≡ record { verdict = Accepted; tally = counted (cells_of l) n.used t }
+  tally_is : counted_by t l c ≡ counted (cells_of l) n.used t
   unfolding counted
   tally_is =
-      ap₂ (λ (g a : List ℕ). record { verdict = Accepted; tally = record { gates = g; areas = a; occurs = add_up_to 32 (occurs_at c) 0 t.occurs; netlists = t.netlists + 1 } })
+      ap₂ (λ (g a : List ℕ). record { gates = g; areas = a; occurs = add_up_to 32 (occurs_at c) 0 t.occurs; netlists = t.netlists + 1 })
       (all_of (gates_at c) (λ i. times i n.used) t.gates wide.gates_long counts_are)
       (all_of (areas_at l c) (λ i. times i n.used * (cell_at (cells_of l) i).area) t.areas wide.areas_long areas_are)
-      ∙ ap (λ (o : List ℕ). record { verdict = Accepted; tally = record { gates = add_each (λ i. times i n.used) 0 t.gates; areas = add_each (λ i. times i n.used * (cell_at (cells_of l) i).area) 0 t.areas; occurs = o; netlists = t.netlists + 1 } })
+      ∙ ap (λ (o : List ℕ). record { gates = add_each (λ i. times i n.used) 0 t.gates; areas = add_each (λ i. times i n.used * (cell_at (cells_of l) i).area) 0 t.areas; occurs = o; netlists = t.netlists + 1 })
       (all_of (occurs_at c) (λ i. one (ltb 0 (times i n.used))) t.occurs wide.occurs_long occurs_are)
 
-  pub count-whole : t.netlists < 64 → in_width t ≡ true → counted_by t l c ≡ counted_answer t (count_read t ranged (cells_of l) s)
-  unfolding counted_answer
-  count-whole h w = tally_is ∙ sym (ap (counted_answer t) (count-holds t ranged (cells_of l) s h w n.used n.is_read))
+  pub count-whole : t.netlists < 64 → in_width t ≡ true → Handed t (count_read t ranged (cells_of l) s) (Ok tt) (counted_by t l c)
+  unfolding verdict_of tally_after
+  count-whole h w =
+      let e = count-holds t ranged (cells_of l) s h w n.used n.is_read in
+      record { answers = sym (ap verdict_of e); hands_on = tally_is ∙ sym (ap (tally_after t) e) }
 
 -- ---- 1 and the library's
 

@@ -3,21 +3,13 @@
 --     tally_step, tally_low   the same of the three figures
 --     add-all, add_same       all places, as the crate model adds them
 use Rattle.base.specs.{ℕ, zero, suc, ◌+◌, ◌*◌, ◌^◌, ◌≤◌, ◌<◌, mul-le-mul, le_of_lt, add-one, arith, ◌≡◌, refl, sym, ap, ap₂, ◌∙◌, Bool}
-use Rattle.base.specs.{true, false, List, [], ◌∷◌, leb, ltb, length, get_or, set, lt-ltb, le-ltb, leb-true}
+use Rattle.base.specs.{true, false, List, [], ◌∷◌, leb, length, get_or, set, leb-true}
 use Rattle.model.specs.{one, all, no_cell, in_width, add_each}
 use Rattle.model.specs.declared.Library.{Library}
 use Rattle.model.specs.declared.Tally.{Tally}
 use Rattle.base_text.proofs.{and_left, and_right}
 use Rattle.tally_counting.specs.declared.Counts.{Counts}
 use Rattle.tally_counting.specs.{add_up_to, gates_at, areas_at, occurs_at, added_up_to, added_at, Wide}
-
-pub some-occurs : (n : ℕ) → 0 < n → 1 ≡ one (ltb 0 n)
-unfolding one
-some-occurs n h = sym (rw (lt-ltb 0 n h))
-
-pub none-occurs : (n : ℕ) → n ≤ 0 → 0 ≡ one (ltb 0 n)
-unfolding one
-none-occurs n h = sym (rw (le-ltb 0 n h))
 
 pub occurs-low : (b : Bool) → one b ≤ 1
 unfolding one

@@ -1,18 +1,19 @@
 -- Lines that are expected:
 --     expected-yes, expected_no, expected_out        one line, by what stands at a place
---     expected-then, expected_append, next-next one after the other
---     wires-.., timings-..            as many as there are outputs
---     behind-is                       all that is expected behind the gates
-use Rattle.base.specs.{ℕ, zero, suc, ◌+◌, ◌-◌, ◌≤◌, ◌<◌, add-one, arith, ◌≡◌, refl, sym, ap, ◌∙◌, Bool, true, false, cond, ◌&&◌, List, []}
+--     reached, stopped                what a reader of lines answers
+--     next-next, then_on, then_off    one after the other
+--     wires_.., times_..              as many as there are outputs
+--     behind_is                       the end behind all that is expected
+use Rattle.std.specs.Prelude.{Result, Ok, Err}
+use Rattle.base.specs.{ℕ, zero, suc, ◌+◌, ◌-◌, ◌≤◌, ◌<◌, add-one, arith, ◌≡◌, refl, sym, ap, subst, ◌∙◌, Bool, true, false, cond, ◌&&◌, List, []}
 use Rattle.base.specs.{◌∷◌, ◌++◌, map, ltb, length, take, drop, get_or, length-drop, drop-drop, get_or-drop, eq-eqb, ne_eqb}
-use Rattle.model.specs.{each, same, from, below, Line, ended_by_ten, text, fields, Read, holds, fault, next, unless, is_wire, is_figures}
-use Rattle.model.specs.{is_timing, expected_lines, nothing_left, wire_pairs, timings, behind_gates, outputs_of}
+use Rattle.model.specs.{each, same, from, below, Line, ended_by_ten, text, fields, Read, holds, fault, next, unless, is_wire}
+use Rattle.model.specs.{is_timing, expected_lines, nothing_left, wire_pairs, timings, outputs_of}
 use Rattle.base_text.specs.declared.Span.{Span}
 use Rattle.base_text.specs.{line_at, past_line, span_at}
 use Rattle.base_text.proofs.{lines_none, span_out, span-from, span_fits, span-long, span-next, span-contents}
 use Rattle.genlib_groups.proofs.{bounded}
-use Rattle.tally_counting.specs.declared.Reached.{Reached}
-use Rattle.tally_counting.specs.{lines_of, pick_read, read_in}
+use Rattle.tally_counting.specs.{lines_of, place_in, read_in}
 
 -- ---- one line
 
@@ -100,30 +101,14 @@ part-short n k s = omega (arith, take_le n (drop k s), length-drop k s)
 
 -- ---- what is read so far
 
-module _ (s : List ℕ) (r : Reached) (f : List Line → Read (List Line)) where
-  pub read-on : r.ok ≡ true → next (read_in s r) f ≡ f (lines_of s r.at)
-  unfolding next
-  read-on e = rw e
+module _ (s : List ℕ) {r : Result ℕ ℕ} {o : Read (List Line)} (is : read_in s r ≡ o) (fits : place_in r ≤ length s) (k : ℕ) where
+  -- the lines from the next place on
+  pub reached : r ≡ Ok k → (holds (lines_of s k) ≡ o) × (k ≤ length s)
+  reached e = (sym (ap (read_in s) e) ∙ is, subst (λ (x : Result ℕ ℕ). place_in x ≤ length s) e fits)
 
-  pub read_off : r.ok ≡ false → next (read_in s r) f ≡ read_in s r
-  unfolding next
-  read_off e = rw e
-
-pub end-yes : (s : List ℕ) (r : Reached) → length s ≤ r.at → read_in s r ≡ next (read_in s r) nothing_left
-unfolding next nothing_left
-end-yes s r h = go r.ok
-  where
-    go : (t : Bool) → pick_read t (holds (lines_of s r.at)) (fault 29 r.at) ≡ next (pick_read t (holds (lines_of s r.at)) (fault 29 r.at)) nothing_left
-    go true = rw (lines_none s r.at h)
-    go false = refl
-
-pub end_no : (s : List ℕ) (r : Reached) → r.at < length s → fault 29 r.at ≡ next (read_in s r) nothing_left
-unfolding next nothing_left
-end_no s r h = go r.ok
-  where
-    go : (t : Bool) → fault 29 r.at ≡ next (pick_read t (holds (lines_of s r.at)) (fault 29 r.at)) nothing_left
-    go true = sym (rw (bounded s r.at h (span_at s r.at) refl).lines (ap (fault 29) (line-offset s r.at)))
-    go false = refl
+  -- 29 at the line
+  pub stopped : r ≡ Err k → (fault 29 k ≡ o) × (k ≤ length s)
+  stopped e = (sym (ap (read_in s) e) ∙ is, subst (λ (x : Result ℕ ℕ). place_in x ≤ length s) e fits)
 
 -- ---- the third line
 
@@ -167,16 +152,6 @@ unfolding next
 next-next (holds a) f g = refl
 next-next (fault n k) f g = refl
 
-next-same : {A B : Type 0} (r : Read A) (f g : A → Read B) → ((a : A) → f a ≡ g a) → next r f ≡ next r g
-unfolding next
-next-same (holds a) f g h = h a
-next-same (fault n k) f g h = refl
-
-next-holds : {A : Type 0} (r : Read A) → next r holds ≡ r
-unfolding next
-next-holds (holds a) = refl
-next-holds (fault n k) = refl
-
 unless-next : {A B : Type 0} (t : Bool) (n k : ℕ) (r : Read A) (f : A → Read B) → unless t n k (next r f) ≡ next (unless t n k r) f
 unfolding unless next
 unless-next true n k r f = refl
@@ -189,20 +164,18 @@ expected_append end (p ∷ ps) qs [] = refl
 expected_append end (p ∷ ps) qs (l ∷ ls) =
     ap (unless (ended_by_ten l && p l.bytes) 29 l.offset) (expected_append end ps qs ls) ∙ unless-next (ended_by_ten l && p l.bytes) 29 l.offset (expected_lines end ps ls) (expected_lines end qs)
 
-pub expected-three : (end : ℕ) (ls : List Line) (p q t : List ℕ → Bool) (a b c : Read (List Line)) → a ≡ expected_lines end (p ∷ []) ls → b ≡ next a (expected_lines end (q ∷ []))
-    → c ≡ next b (expected_lines end (t ∷ [])) → c ≡ expected_lines end (p ∷ q ∷ t ∷ []) ls
-expected-three end ls p q t a b c ea eb ec =
-    ec
-    ∙ ap (λ (x : Read (List Line)). next x (expected_lines end (t ∷ []))) (eb ∙ ap (λ (x : Read (List Line)). next x (expected_lines end (q ∷ []))) ea ∙ sym (expected_append end (p ∷ []) (q ∷ []) ls))
-    ∙ sym (expected_append end (p ∷ q ∷ []) (t ∷ []) ls)
+-- what stands behind lines that were read
+pub past_on : (end : ℕ) (ps qs : List (List ℕ → Bool)) (ls ms : List Line) → holds ms ≡ expected_lines end ps ls → expected_lines end (ps ++ qs) ls ≡ expected_lines end qs ms
+unfolding next
+past_on end ps qs ls ms e = expected_append end ps qs ls ∙ ap (λ (x : Read (List Line)). next x (expected_lines end qs)) (sym e)
 
--- a reading with what is expected next
-pub expected-more : (end : ℕ) (r : Read (List Line)) (ps qs : List (List ℕ → Bool)) → next (next r (expected_lines end ps)) (expected_lines end qs) ≡ next r (expected_lines end (ps ++ qs))
-expected-more end r ps qs = next-next r (expected_lines end ps) (expected_lines end qs) ∙ next-same r _ _ (λ ls. sym (expected_append end ps qs ls))
+pub then_on : (end : ℕ) (ps qs : List (List ℕ → Bool)) (ls ms : List Line) {o : Read (List Line)} → holds ms ≡ expected_lines end ps ls → o ≡ expected_lines end qs ms → o ≡ expected_lines end (ps ++ qs) ls
+then_on end ps qs ls ms e f = f ∙ sym (past_on end ps qs ls ms e)
 
-pub expected-none : (end : ℕ) (r : Read (List Line)) → next r (expected_lines end []) ≡ r
-unfolding expected_lines
-expected-none end r = next-holds r
+-- nothing is read behind a line at fault
+pub then_off : (end : ℕ) (ps qs : List (List ℕ → Bool)) (ls : List Line) {k : ℕ} → fault 29 k ≡ expected_lines end ps ls → fault 29 k ≡ expected_lines end (ps ++ qs) ls
+unfolding next
+then_off end ps qs ls e = ap (λ (x : Read (List Line)). next x (expected_lines end qs)) e ∙ sym (expected_append end ps qs ls)
 
 -- ---- as many as there are outputs
 
@@ -220,52 +193,44 @@ pairs_from k n = each (λ (_ : ℕ). is_wire ∷ same (text "1 1") ∷ []) (from
 abbrev pub times_from : ℕ → ℕ → List (List ℕ → Bool)
 times_from k n = map (λ (_ : ℕ). is_timing) (from k n)
 
-module _ (end : ℕ) (r : Read (List Line)) where
-  pub wires-first : (outs : ℕ) → next r (expected_lines end (wire_pairs outs)) ≡ next r (expected_lines end (pairs_from 0 (outs - 0)))
-  unfolding wire_pairs below
-  wires-first outs = let z : outs - 0 ≡ outs = omega arith in rw z
+pub wires_all : (outs : ℕ) → wire_pairs outs ≡ pairs_from 0 (outs - 0)
+unfolding wire_pairs below
+wires_all outs = let z : outs - 0 ≡ outs = omega arith in rw z
 
-  pub wires-end : (k outs : ℕ) → outs ≤ k → next r (expected_lines end (pairs_from k (outs - k))) ≡ r
-  unfolding each from
-  wires-end k outs h = let z : outs - k ≡ 0 = omega arith in rw z (expected-none end r)
+pub wires_more : (k outs : ℕ) → k < outs → pairs_from k (outs - k) ≡ (is_wire ∷ same (text "1 1") ∷ []) ++ pairs_from (k + 1) (outs - (k + 1))
+unfolding each from
+wires_more k outs h = let z : outs - k ≡ suc (outs - (k + 1)) = omega arith in rw (z, add-one k)
 
-  pub wires-step : (k outs : ℕ) (q u : Read (List Line)) → k < outs → q ≡ next r (expected_lines end (is_wire ∷ [])) → u ≡ next q (expected_lines end (same (text "1 1") ∷ []))
-      → next r (expected_lines end (pairs_from k (outs - k))) ≡ next u (expected_lines end (pairs_from (k + 1) (outs - (k + 1))))
-  unfolding each from
-  wires-step k outs q u h e f =
-      let z : outs - k ≡ suc (outs - (k + 1)) = omega arith in
-      rw (z, add-one k)
-      (sym (ap (λ (x : Read (List Line)). next x (expected_lines end (pairs_from (suc k) (outs - suc k)))) (f ∙ ap (λ (x : Read (List Line)). next x (expected_lines end (same (text "1 1") ∷ []))) e ∙ expected-more end r (is_wire ∷ []) (same (text "1 1") ∷ []))
-      ∙ expected-more end r (is_wire ∷ same (text "1 1") ∷ []) (pairs_from (suc k) (outs - suc k))))
+pub wires_none : (k outs : ℕ) → outs ≤ k → pairs_from k (outs - k) ≡ []
+unfolding each from
+wires_none k outs h = let z : outs - k ≡ 0 = omega arith in rw z
 
-  pub timings-first : (ranged : Bool) (outs n : ℕ) → n ≡ cond ranged outs 0 → next r (expected_lines end (timings ranged outs)) ≡ next r (expected_lines end (times_from 0 (n - 0)))
-  unfolding timings below from
-  timings-first true outs n e = let z : n - 0 ≡ outs = omega arith in rw z
-  timings-first false outs n e = let z : n - 0 ≡ 0 = omega arith in rw z
+pub times_all : (ranged : Bool) (outs n : ℕ) → n ≡ cond ranged outs 0 → timings ranged outs ≡ times_from 0 (n - 0)
+unfolding timings below from
+times_all true outs n e = let z : n - 0 ≡ outs = omega arith in rw z
+times_all false outs n e = let z : n - 0 ≡ 0 = omega arith in rw z
 
-  pub timings-end : (k n : ℕ) → n ≤ k → next r (expected_lines end (times_from k (n - k))) ≡ r
-  unfolding from
-  timings-end k n h = let z : n - k ≡ 0 = omega arith in rw z (expected-none end r)
+pub times_more : (k n : ℕ) → k < n → times_from k (n - k) ≡ (is_timing ∷ []) ++ times_from (k + 1) (n - (k + 1))
+unfolding from
+times_more k n h = let z : n - k ≡ suc (n - (k + 1)) = omega arith in rw (z, add-one k)
 
-  pub timings-step : (k n : ℕ) (q : Read (List Line)) → k < n → q ≡ next r (expected_lines end (is_timing ∷ []))
-      → next r (expected_lines end (times_from k (n - k))) ≡ next q (expected_lines end (times_from (k + 1) (n - (k + 1))))
-  unfolding from
-  timings-step k n q h e =
-      let z : n - k ≡ suc (n - (k + 1)) = omega arith in
-      rw (z, add-one k)
-      (sym (ap (λ (x : Read (List Line)). next x (expected_lines end (times_from (suc k) (n - suc k)))) e ∙ expected-more end r (is_timing ∷ []) (times_from (suc k) (n - suc k))))
+pub times_none : (k n : ℕ) → n ≤ k → times_from k (n - k) ≡ []
+unfolding from
+times_none k n h = let z : n - k ≡ 0 = omega arith in rw z
 
 -- ---- behind the gates
 
-pub behind-is : (end : ℕ) (r a b c d e : Read (List Line)) (ranged : Bool) (outs gates area : ℕ) → a ≡ next r (expected_lines end (wire_pairs outs)) → b ≡ next a (expected_lines end (same (text ".end") ∷ []))
-    → c ≡ next b (expected_lines end (is_figures gates area ∷ [])) → d ≡ next c (expected_lines end (timings ranged outs)) → e ≡ next d nothing_left
-    → e ≡ next (next r (expected_lines end (behind_gates ranged outs gates area))) nothing_left
-unfolding behind_gates
-behind-is end r a b c d e ranged outs gates area pa pb pc pd pe =
-    pe ∙ ap (λ (x : Read (List Line)). next x nothing_left)
-    (pd ∙ ap (λ (x : Read (List Line)). next x (expected_lines end (timings ranged outs)))
-    (pc ∙ ap (λ (x : Read (List Line)). next x (expected_lines end (is_figures gates area ∷ [])))
-    (pb ∙ ap (λ (x : Read (List Line)). next x (expected_lines end (same (text ".end") ∷ []))) pa ∙ expected-more end r (wire_pairs outs) (same (text ".end") ∷ []))
-    ∙ expected-more end r (wire_pairs outs ++ (same (text ".end") ∷ [])) (is_figures gates area ∷ []))
-    ∙ expected-more end r ((wire_pairs outs ++ (same (text ".end") ∷ [])) ++ (is_figures gates area ∷ [])) (timings ranged outs)
-    ∙ ap (λ (ps : List (List ℕ → Bool)). next r (expected_lines end ps)) (simp mathlib.Core.List.append_assoc))
+-- the text's end behind all that is expected
+pub end-yes : (s : List ℕ) (at : ℕ) {o : Read (List Line)} → length s ≤ at → holds (lines_of s at) ≡ o → holds (lines_of s at) ≡ next o nothing_left
+unfolding next nothing_left
+end-yes s at h e = let z : holds (lines_of s at) ≡ nothing_left (lines_of s at) = rw (lines_none s at h) in z ∙ ap (λ (x : Read (List Line)). next x nothing_left) e
+
+pub end_no : (s : List ℕ) (at : ℕ) {o : Read (List Line)} → at < length s → holds (lines_of s at) ≡ o → fault 29 at ≡ next o nothing_left
+unfolding next nothing_left
+end_no s at h e =
+    let z : fault 29 at ≡ nothing_left (lines_of s at) = sym (rw (bounded s at h (span_at s at) refl).lines (ap (fault 29) (line-offset s at))) in
+    z ∙ ap (λ (x : Read (List Line)). next x nothing_left) e
+
+pub end_off : (k : ℕ) {o : Read (List Line)} → fault 29 k ≡ o → fault 29 k ≡ next o nothing_left
+unfolding next
+end_off k e = ap (λ (x : Read (List Line)). next x nothing_left) e

@@ -2,7 +2,7 @@
 --     gate-none, gate-line            the line at a place, by what the reader met
 --     Passing, passing, stopping      what a gate line and another line leave of the lines
 --     SoFar, so-far-..                the counts, gate by gate
-use Rattle.base.specs.{ℕ, zero, suc, ◌+◌, ◌-◌, ◌*◌, ◌≤◌, ◌<◌, arith, ◌≡◌, refl, sym, ap, ◌∙◌, Bool, true, false, cond, Option, none, some}
+use Rattle.base.specs.{ℕ, zero, suc, ◌+◌, ◌-◌, ◌*◌, ◌≤◌, ◌<◌, arith, ◌≡◌, refl, sym, ap, ◌∙◌, Bool, true, false, cond, Option, None, Some}
 use Rattle.base.specs.{List, [], ◌∷◌, eqb, length, take, drop, get_or, set, replicate, length-set, get_or-set_same, get_or-set_other, eqb-true}
 use Rattle.base.specs.{eqb-false}
 use Rattle.model.specs.{Line, ended_by_ten, fields, no_cell, cell_at, cells_of, of_form, gate_form, gate_of, sum, gate_in, gates_in, after_gates}
@@ -12,12 +12,9 @@ use Rattle.model.specs.declared.Library.{Library}
 use Rattle.base_text.specs.declared.Span.{Span}
 use Rattle.base_text.specs.{line_at, past_line, span_at}
 use Rattle.base_text.proofs.{span-long}
-use Rattle.tally_lines.specs.declared.Which.{Which}
-use Rattle.tally_lines.specs.declared.Which.TheVariants.{Line as Found, Nothing}
-use Rattle.tally_lines.specs.{which_of, Listed}
+use Rattle.tally_lines.specs.{Listed}
 use Rattle.tally_lines.proofs.{cells_count, cells_at}
 use Rattle.tally_counting.specs.declared.Counts.{Counts}
-use Rattle.tally_counting.specs.declared.Gate.TheVariants.{Is, Other}
 use Rattle.tally_counting.specs.{lines_of, gate_or, gate_at, no_gates, with_gate, Counted}
 use Rattle.tally_counting.proofs.ExpectedNetlistLines.{Ten, ten-line, NotTen, missing, other, not-ten}
 
@@ -32,54 +29,42 @@ module _ (l : Library) (s : List ℕ) (at : ℕ) where
   unfolding gate_in
   in_ten e = rw e
 
-  pub gate-none : ended_by_ten (line_at s at) ≡ false → Other ≡ gate_at l s at
+  pub gate-none : ended_by_ten (line_at s at) ≡ false → None ≡ gate_at l s at
   unfolding gate_in
-  gate-none e = sym (gate_by_lem none (rw e))
+  gate-none e = sym (gate_by_lem None (rw e))
 
-  module _ (p : Span) (t : Ten s at p) (r : Which) (is : r ≡ which_of (gate_of 0 (cells_of l) (take (p.stop - at) (drop at s)))) where
+  module _ (p : Span) (t : Ten s at p) where
     found : (o : Option ℕ) → gate_of 0 (cells_of l) (take (p.stop - at) (drop at s)) ≡ o → gate_in (cells_of l) (line_at s at) ≡ o
     found o e = in_ten t.ends ∙ ap (gate_of 0 (cells_of l)) (sym t.bytes) ∙ e
 
-    line_out : (o : Option ℕ) (k : ℕ) → which_of o ≡ Found k → o ≡ some k
-    line_out none k e = let z : ◌≡◌ {A = ℕ} 0 1 = cc in absurd (omega arith)
-    line_out (some i) k e = cc
-
-    nothing_out : (o : Option ℕ) → which_of o ≡ Nothing → o ≡ none
-    nothing_out none e = refl
-    nothing_out (some i) e = let z : ◌≡◌ {A = ℕ} 0 1 = cc in absurd (omega arith)
-
-    pub gate-line : (k : ℕ) → r ≡ Found k → Is k p.next ≡ gate_at l s at
-    gate-line k e =
-        sym (gate_by_lem (some k) (found (some k) (line_out (gate_of 0 (cells_of l) (take (p.stop - at) (drop at s))) k (sym is ∙ e))) ∙ ap (Is k) (sym t.past))
-
-    pub gate_other : r ≡ Nothing → Other ≡ gate_at l s at
-    gate_other e = sym (gate_by_lem none (found none (nothing_out (gate_of 0 (cells_of l) (take (p.stop - at) (drop at s))) (sym is ∙ e))))
+    pub gate-line : (o : Option ℕ) → o ≡ gate_of 0 (cells_of l) (take (p.stop - at) (drop at s)) → gate_or o p.next ≡ gate_at l s at
+    gate-line o is = sym (gate_by_lem o (found o (sym is)) ∙ ap (gate_or o) (sym t.past))
 
 -- ---- the lines behind it
 
-gate-below : (k : ℕ) (cells : List Cell) (w : List ℕ) (i : ℕ) → gate_of k cells w ≡ some i → i < k + length cells
+gate-below : (k : ℕ) (cells : List Cell) (w : List ℕ) (i : ℕ) → gate_of k cells w ≡ Some i → i < k + length cells
 unfolding gate_of
 gate-below k [] w i e = let z : ◌≡◌ {A = ℕ} 0 1 = cc in absurd (omega arith)
 gate-below k (c ∷ cs) w i e = go (of_form (gate_form c) (fields w)) e (gate-below (suc k) cs w i)
   where
-    go : (b : Bool) → cond b (some k) (gate_of (suc k) cs w) ≡ some i → (gate_of (suc k) cs w ≡ some i → i < suc k + length cs) → i < k + suc (length cs)
+    go : (b : Bool) → cond b (Some k) (gate_of (suc k) cs w) ≡ Some i → (gate_of (suc k) cs w ≡ Some i → i < suc k + length cs) → i < k + suc (length cs)
     go true q later = let z : k ≡ i = cc in omega arith
     go false q later = let z : i < suc k + length cs = later q in omega arith
 
 -- the lines from one on, by what it is
 module _ (cells : List Cell) (l : Line) (ls : List Line) where
-  gates-some : (k : ℕ) → gate_in cells l ≡ some k → (gates_in cells (l ∷ ls) ≡ k ∷ gates_in cells ls) × (after_gates cells (l ∷ ls) ≡ after_gates cells ls)
+  gates-some : (k : ℕ) → gate_in cells l ≡ Some k → (gates_in cells (l ∷ ls) ≡ k ∷ gates_in cells ls) × (after_gates cells (l ∷ ls) ≡ after_gates cells ls)
   unfolding gates_in after_gates
   gates-some k e = (
-    ap (λ (o : Option ℕ). elim o [ some i ↦ i ∷ gates_in cells ls | none ↦ [] ]) e,
-    ap (λ (o : Option ℕ). elim o [ some i ↦ after_gates cells ls | none ↦ l ∷ ls ]) e,
+    ap (λ (o : Option ℕ). elim o [ Some i ↦ i ∷ gates_in cells ls | None ↦ [] ]) e,
+    ap (λ (o : Option ℕ). elim o [ Some i ↦ after_gates cells ls | None ↦ l ∷ ls ]) e,
   )
 
-  gates-none : gate_in cells l ≡ none → (gates_in cells (l ∷ ls) ≡ []) × (after_gates cells (l ∷ ls) ≡ l ∷ ls)
+  gates-none : gate_in cells l ≡ None → (gates_in cells (l ∷ ls) ≡ []) × (after_gates cells (l ∷ ls) ≡ l ∷ ls)
   unfolding gates_in after_gates
   gates-none e = (
-    ap (λ (o : Option ℕ). elim o [ some i ↦ i ∷ gates_in cells ls | none ↦ [] ]) e,
-    ap (λ (o : Option ℕ). elim o [ some i ↦ after_gates cells ls | none ↦ l ∷ ls ]) e,
+    ap (λ (o : Option ℕ). elim o [ Some i ↦ i ∷ gates_in cells ls | None ↦ [] ]) e,
+    ap (λ (o : Option ℕ). elim o [ Some i ↦ after_gates cells ls | None ↦ l ∷ ls ]) e,
   )
 
 -- what a gate line says of the lines
@@ -91,19 +76,21 @@ pub record Passing (l : Library) (s : List ℕ) (at k next : ℕ) : Type 0 where
   pub listed : k < length (cells_of l)
 
 module _ (l : Library) (s : List ℕ) (at : ℕ) (fits : at ≤ length s) where
-  is_out : (o : Option ℕ) (k next : ℕ) → gate_or o (past_line s at) ≡ Is k next → (o ≡ some k) × (past_line s at ≡ next)
-  is_out none k next e = let z : ◌≡◌ {A = ℕ} 0 1 = cc in absurd (omega arith)
-  is_out (some i) k next e = (cc, cc)
+  is_out : (o : Option ℕ) (k next : ℕ) → gate_or o (past_line s at) ≡ Some (k, next) → (o ≡ Some k) × (past_line s at ≡ next)
+  is_out None k next e = let z : ◌≡◌ {A = ℕ} 0 1 = cc in absurd (omega arith)
+  is_out (Some i) k next e =
+      let z : ◌≡◌ {A = ℕ × ℕ} (i, past_line s at) (k, next) = cc in
+      (ap Some (ap (λ (x : ℕ × ℕ). x.0) z), ap (λ (x : ℕ × ℕ). x.1) z)
 
-  other_out : (o : Option ℕ) → gate_or o (past_line s at) ≡ Other → o ≡ none
-  other_out none e = refl
-  other_out (some i) e = let z : ◌≡◌ {A = ℕ} 0 1 = cc in absurd (omega arith)
+  other_out : (o : Option ℕ) → gate_or o (past_line s at) ≡ None → o ≡ None
+  other_out None e = refl
+  other_out (Some i) e = let z : ◌≡◌ {A = ℕ} 0 1 = cc in absurd (omega arith)
 
-  ended_out : (t : Bool) (k : ℕ) (o : Option ℕ) → cond t o none ≡ some k → (t ≡ true) × (o ≡ some k)
+  ended_out : (t : Bool) (k : ℕ) (o : Option ℕ) → cond t o None ≡ Some k → (t ≡ true) × (o ≡ Some k)
   ended_out true k o e = (refl, e)
   ended_out false k o e = let z : ◌≡◌ {A = ℕ} 0 1 = cc in absurd (omega arith)
 
-  pub passing : (k next : ℕ) → gate_at l s at ≡ Is k next → Passing l s at k next
+  pub passing : (k next : ℕ) → gate_at l s at ≡ Some (k, next) → Passing l s at k next
   unfolding gate_at gate_in
   passing k next e =
       let o = is_out (gate_in (cells_of l) (line_at s at)) k next e in
@@ -119,11 +106,11 @@ module _ (l : Library) (s : List ℕ) (at : ℕ) (fits : at ≤ length s) where
         listed = omega (arith, gate-below 0 (cells_of l) (line_at s at).bytes k b.1);
       }
 
-  pub stopping : gate_at l s at ≡ Other → (gates_in (cells_of l) (lines_of s at) ≡ []) × (after_gates (cells_of l) (lines_of s at) ≡ lines_of s at)
+  pub stopping : gate_at l s at ≡ None → (gates_in (cells_of l) (lines_of s at) ≡ []) × (after_gates (cells_of l) (lines_of s at) ≡ lines_of s at)
   unfolding gate_at gates_in after_gates
   stopping e = go (not-ten s at fits (span_at s at) refl)
     where
-      o : gate_in (cells_of l) (line_at s at) ≡ none
+      o : gate_in (cells_of l) (line_at s at) ≡ None
       o = other_out (gate_in (cells_of l) (line_at s at)) e
 
       go : NotTen s at fits (span_at s at) refl → (gates_in (cells_of l) (lines_of s at) ≡ []) × (after_gates (cells_of l) (lines_of s at) ≡ lines_of s at)
@@ -172,7 +159,7 @@ so_far-first l s from h = record {
   each = λ i q. omega (arith, zero-at 32 i);
 }
 
-pub so_far_last : (l : Library) (s : List ℕ) (from : ℕ) (c : Counts) → length s ≤ 65536 → SoFar l s from c → gate_at l s c.at ≡ Other → Counted l s from c
+pub so_far_last : (l : Library) (s : List ℕ) (from : ℕ) (c : Counts) → length s ≤ 65536 → SoFar l s from c → gate_at l s c.at ≡ None → Counted l s from c
 so_far_last l s from c short f e =
     let z = stopping l s c.at f.inside e in
     record {
@@ -185,7 +172,7 @@ so_far_last l s from c short f e =
       few = omega (arith, f.few, f.inside);
     }
 
-module _ (l : Library) (ready : Listed l) (s : List ℕ) (from : ℕ) (c : Counts) (f : SoFar l s from c) (k next : ℕ) (e : gate_at l s c.at ≡ Is k next) where
+module _ (l : Library) (ready : Listed l) (s : List ℕ) (from : ℕ) (c : Counts) (f : SoFar l s from c) (k next : ℕ) (e : gate_at l s c.at ≡ Some (k, next)) where
   step : Passing l s c.at k next
   step = passing l s c.at f.inside k next e
 

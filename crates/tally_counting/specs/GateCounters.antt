@@ -1,21 +1,19 @@
 -- The gates of a netlist, counted by cell.
 use Rattle.std.specs.Prelude.{◌+◌, ◌≤◌, ◌<◌, ◌≡◌}
-use Rattle.base.specs.{ℕ, Option, none, some, List, length, get_or, set, replicate}
+use Rattle.base.specs.{ℕ, Option, None, Some, List, length, get_or, set, replicate}
 use Rattle.model.specs.{cells_of, gate_in, gates_in, after_gates, area_of, times}
 use Rattle.model.specs.declared.Library.{Library}
 use Rattle.base_text.specs.{line_at, past_line}
 use Rattle.tally_counting.specs.declared.Counts.{Counts}
-use Rattle.tally_counting.specs.declared.Gate.{Gate}
-use Rattle.tally_counting.specs.declared.Gate.TheVariants.{Is, Other}
 use Rattle.tally_counting.specs.ReachedLines.{lines_of}
 
 -- the cell of a gate line that was found, with the place of the next line
-abbrev pub gate_or : Option ℕ → ℕ → Gate
-gate_or none next = Other
-gate_or (some k) next = Is k next
+abbrev pub gate_or : Option ℕ → ℕ → Option (ℕ × ℕ)
+gate_or None next = None
+gate_or (Some k) next = Some (k, next)
 
 -- the line at a place
-unfoldable pub gate_at : Library → List ℕ → ℕ → Gate
+unfoldable pub gate_at : Library → List ℕ → ℕ → Option (ℕ × ℕ)
 unfolding gate_in cells_of
 gate_at l s at = gate_or (gate_in (cells_of l) (line_at s at)) (past_line s at)
 

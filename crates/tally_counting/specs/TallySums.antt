@@ -4,8 +4,6 @@ use Rattle.base.specs.{ℕ, zero, suc, List, [], ltb, length, get_or, set}
 use Rattle.model.specs.{one, no_cell, cell_at, cells_of}
 use Rattle.model.specs.declared.Library.{Library}
 use Rattle.model.specs.declared.Tally.{Tally}
-use Rattle.model.specs.declared.Counted.{Counted}
-use Rattle.model.specs.declared.Verdict.TheVariants.{Accepted}
 use Rattle.tally_counting.specs.declared.Counts.{Counts}
 
 -- the first n places with what f adds to them, from place k on
@@ -34,15 +32,12 @@ added_up_to n l c t = record {
 }
 
 -- a netlist's counts in all places, and one netlist more
-abbrev pub counted_by : Tally → Library → Counts → Counted
+abbrev pub counted_by : Tally → Library → Counts → Tally
 counted_by t l c = record {
-  verdict = Accepted;
-  tally = record {
-    gates = add_up_to 32 (gates_at c) 0 t.gates;
-    areas = add_up_to 32 (areas_at l c) 0 t.areas;
-    occurs = add_up_to 32 (occurs_at c) 0 t.occurs;
-    netlists = t.netlists + 1;
-  };
+  gates = add_up_to 32 (gates_at c) 0 t.gates;
+  areas = add_up_to 32 (areas_at l c) 0 t.areas;
+  occurs = add_up_to 32 (occurs_at c) 0 t.occurs;
+  netlists = t.netlists + 1;
 }
 
 -- past the listed cells there is no area

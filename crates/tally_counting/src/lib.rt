@@ -4,14 +4,13 @@
 
 ghost use Rattle.std.specs.Prelude.{◌≡◌, ◌∷◌, ◌+◌, ◌*◌, ◌^◌, ◌≤◌, ◌<◌};
 ghost use Rattle.base.specs.{true, [], ℕ, leb, ltb, length, get_or};
-ghost use Rattle.model.specs.{one, all, fault, next, refusal_of, verdict_refusal, cells_of, in_width, expected_lines, nothing_left, preamble, wire_pairs};
-ghost use Rattle.model.specs.{timings, behind_gates, outputs_of, count_text, counted_answer};
+ghost use Rattle.model.specs.{one, all, next, refusal_of, verdict_of, verdict_refusal, cells_of, in_width, expected_lines, nothing_left, preamble};
+ghost use Rattle.model.specs.{wire_pairs, timings, behind_gates, outputs_of, count_text, tally_after};
 ghost use Rattle.tally_lines.specs.{Listed};
-ghost use Rattle.tally_counting.specs.{form_test, lines_of, read_in, gate_at, no_gates, with_gate, Counted as CountedFrom, added_at};
-ghost use Rattle.tally_counting.specs.{added_up_to, counted_by, Wide, Blank, NetlistRead, count_read};
+ghost use Rattle.tally_counting.specs.{form_test, lines_of, read_in, place_in, gate_at, no_gates, with_gate, Counted as CountedFrom, added_at};
+ghost use Rattle.tally_counting.specs.{added_up_to, counted_by, Wide, Blank, NetlistRead, count_read, Handed};
 
-use model::{Counted, Library, LibraryAnswer, Tally, Verdict};
-use tally_lines::Which;
+use model::{Library, Refusal, Tally};
 
 // A kind of line that is expected.
 #[derive(Clone, Copy)]
@@ -24,20 +23,6 @@ pub enum Form {
     End,
     Figures(u32, u32),
     Timing,
-}
-
-// Where the next line begins, or where the line at fault does.
-#[derive(Clone, Copy)]
-pub struct Reached {
-    pub ok: bool,
-    pub at: usize,
-}
-
-// The cell of a gate line and where the next line begins, or another line.
-#[derive(Clone, Copy)]
-pub enum Gate {
-    Is(usize, usize),
-    Other,
 }
 
 // The gates of each cell, all gates, their area, and where the lines behind them begin.
@@ -68,33 +53,29 @@ fn has_form(w: &[u8], form: Form) -> bool
     }
 }
 
-// One line that is expected behind lines that were read.
-fn expected_line(s: &[u8], r: Reached, form: Form) -> Reached
-    requires { (r.at ≤ length s.now) × (length s.now ≤ 65536) }
-    ensures { (read_in s.now result ≡ next (read_in s.now r) (expected_lines (length s.now) (form_test form ∷ []))) ×
-        (result.at ≤ length s.now) }
+// One line that is expected at a place: where the next line begins, or where the line at fault does.
+fn expected_line(s: &[u8], at: usize, form: Form) -> Result<usize, usize>
+    requires { (at ≤ length s.now) × (length s.now ≤ 65536) }
+    ensures { (read_in s.now result ≡ expected_lines (length s.now) (form_test form ∷ []) (lines_of s.now at)) ×
+        (place_in result ≤ length s.now) }
 {
-    if !r.ok {
-        return r;
-    }
-    let at = r.at;
     let l = base_text::line(s, at);
     let stop = l.stop;
     let next = l.next;
     if next != stop + 1 || !has_form(&s[at..stop], form) {
-        return Reached { ok: false, at };
+        return Err(at);
     }
-    Reached { ok: true, at: next }
+    Ok(next)
 }
 
 // The first three lines.
-fn read_preamble(s: &[u8]) -> Reached
+fn read_preamble(s: &[u8]) -> Result<usize, usize>
     requires { length s.now ≤ 65536 }
     ensures { (read_in s.now result ≡ expected_lines (length s.now) preamble (lines_of s.now 0)) ×
-        (result.at ≤ length s.now) }
+        (place_in result ≤ length s.now) }
 {
-    let a = expected_line(s, Reached { ok: true, at: 0 }, Form::Model);
-    let b = expected_line(s, a, Form::Inputs);
+    let a = expected_line(s, 0, Form::Model)?;
+    let b = expected_line(s, a, Form::Inputs)?;
     expected_line(s, b, Form::Outputs)
 }
 
@@ -114,58 +95,60 @@ fn outputs(s: &[u8]) -> usize
 }
 
 // "each gets `.names` with its net and its own name, then `1 1`", for so many outputs.
-fn read_wires(s: &[u8], from: Reached, outs: usize) -> Reached
-    requires { (from.at ≤ length s.now) × (length s.now ≤ 65536) }
-    ensures { (read_in s.now result ≡ next (read_in s.now from) (expected_lines (length s.now) (wire_pairs outs))) ×
-        (result.at ≤ length s.now) }
+fn read_wires(s: &[u8], from: usize, outs: usize) -> Result<usize, usize>
+    requires { (from ≤ length s.now) × (length s.now ≤ 65536) }
+    ensures { (read_in s.now result ≡ expected_lines (length s.now) (wire_pairs outs) (lines_of s.now from)) ×
+        (place_in result ≤ length s.now) }
 {
-    let mut r = from;
-    let mut k = 0;
-    while k < outs {
-        r = expected_line(s, r, Form::Wire);
-        r = expected_line(s, r, Form::One);
-        k += 1;
+    let mut at = from;
+    for k in 0..outs {
+        let second = expected_line(s, at, Form::Wire)?;
+        at = expected_line(s, second, Form::One)?;
     }
-    r
+    Ok(at)
 }
 
 // A timing line for each output, where the library gives delays as a range.
-fn read_timings(s: &[u8], from: Reached, ranged: bool, outs: usize) -> Reached
-    requires { (from.at ≤ length s.now) × (length s.now ≤ 65536) }
-    ensures { (read_in s.now result ≡ next (read_in s.now from) (expected_lines (length s.now) (timings ranged outs))) ×
-        (result.at ≤ length s.now) }
+fn read_timings(s: &[u8], from: usize, ranged: bool, outs: usize) -> Result<usize, usize>
+    requires { (from ≤ length s.now) × (length s.now ≤ 65536) }
+    ensures { (read_in s.now result ≡ expected_lines (length s.now) (timings ranged outs) (lines_of s.now from)) ×
+        (place_in result ≤ length s.now) }
 {
     let n = if ranged { outs } else { 0 };
-    let mut r = from;
-    let mut k = 0;
-    while k < n {
-        r = expected_line(s, r, Form::Timing);
-        k += 1;
+    let mut at = from;
+    for k in 0..n {
+        at = expected_line(s, at, Form::Timing)?;
     }
-    r
+    Ok(at)
 }
 
 // What is expected behind the gates, up to the text's end.
-fn read_behind(s: &[u8], at: usize, ranged: bool, outs: usize, gates: u32, area: u32) -> Reached
+fn read_behind(
+    s: &[u8],
+    at: usize,
+    ranged: bool,
+    outs: usize,
+    gates: u32,
+    area: u32,
+) -> Result<usize, usize>
     requires { (at ≤ length s.now) × (length s.now ≤ 65536) }
     ensures { (read_in s.now result ≡ next (expected_lines (length s.now) (behind_gates ranged outs gates area)
-        (lines_of s.now at)) nothing_left) × (result.at ≤ length s.now) }
+        (lines_of s.now at)) nothing_left) × (place_in result ≤ length s.now) }
 {
-    let a = read_wires(s, Reached { ok: true, at }, outs);
-    let b = expected_line(s, a, Form::End);
-    let c = expected_line(s, b, Form::Figures(gates, area));
-    let d = read_timings(s, c, ranged, outs);
-    let at = d.at;
-    if s.len() <= at {
-        return d;
+    let a = read_wires(s, at, outs)?;
+    let b = expected_line(s, a, Form::End)?;
+    let c = expected_line(s, b, Form::Figures(gates, area))?;
+    let end = read_timings(s, c, ranged, outs)?;
+    if end < s.len() {
+        return Err(end);
     }
-    Reached { ok: false, at }
+    Ok(end)
 }
 
 // ---- gates
 
-// The line at a place as a gate's.
-fn gate_at(s: &[u8], at: usize, lib: Library) -> Gate
+// The line at a place as a gate's: its cell and where the next line begins.
+fn gate_at(s: &[u8], at: usize, lib: Library) -> Option<(usize, usize)>
     requires { (at ≤ length s.now) × (length s.now ≤ 65536) × Listed lib }
     ensures { result ≡ gate_at lib s.now at }
 {
@@ -173,19 +156,10 @@ fn gate_at(s: &[u8], at: usize, lib: Library) -> Gate
     let stop = l.stop;
     let next = l.next;
     if next != stop + 1 {
-        return Gate::Other;
+        return None;
     }
-    match tally_lines::gate_of(&s[at..stop], lib) {
-        Which::Line(k) => Gate::Is(k, next),
-        Which::Nothing => Gate::Other,
-    }
-}
-
-// An area as it is summed.
-fn widen(x: u16) -> u32
-    ensures { (result ≡ x) × (result < 65536) }
-{
-    x as u32
+    let k = tally_lines::gate_of(&s[at..stop], lib)?;
+    Some((k, next))
 }
 
 fn no_gates(at: usize) -> Counts
@@ -199,13 +173,13 @@ fn no_gates(at: usize) -> Counts
     }
 }
 
-fn add_gate(mut c: Counts, k: usize, area: u32, next: usize) -> Counts
-    requires { (k < 32) × (get_or c.n k 0 < 65536) × (c.gates < 65536) × (c.area + area < 4294967296) }
-    ensures { result ≡ with_gate c k area next }
+fn add_gate(mut c: Counts, k: usize, area: u16, next: usize) -> Counts
+    requires { (k < 32) × (get_or c.n k 0 < 65536) × (c.gates < 65536) × (c.area + 65535 < 4294967296) }
+    ensures { (result ≡ with_gate c k area next) × (area < 65536) }
 {
-    c.n[k] = c.n[k] + 1;
-    c.gates = c.gates + 1;
-    c.area = c.area + area;
+    c.n[k] += 1;
+    c.gates += 1;
+    c.area += u32::from(area);
     c.at = next;
     c
 }
@@ -216,173 +190,115 @@ fn read_gates(s: &[u8], from: usize, lib: Library) -> Counts
     ensures { CountedFrom lib s.now from result }
 {
     let mut c = no_gates(from);
-    loop {
-        match gate_at(s, c.at, lib) {
-            Gate::Is(k, next) => {
-                let cell = lib.cells[k];
-                c = add_gate(c, k, widen(cell.area), next);
-            }
-            Gate::Other => {
-                return c;
-            }
-        }
+    while let Some((k, next)) = gate_at(s, c.at, lib) {
+        let cell = lib.cells[k];
+        c = add_gate(c, k, cell.area, next);
     }
-}
-
-// A netlist's counts, and where it was read up to: its end, or the line at fault.
-#[derive(Clone, Copy)]
-pub struct Netlist {
-    pub ok: bool,
-    pub at: usize,
-    pub counts: Counts,
+    c
 }
 
 // A netlist's gates by cell: "29 when a line isn't of the kind and form mapping prints there .., names no listed cell, or gives a gate count or
 // area that isn't that of the gates above it, at the line's offset".
-fn read_netlist(s: &[u8], lib: Library, ranged: bool) -> Netlist
+fn read_netlist(s: &[u8], lib: Library, ranged: bool) -> Result<Counts, usize>
     requires { (length s.now ≤ 65536) × Listed lib }
     ensures { NetlistRead ranged lib s.now result }
 {
-    let f = read_preamble(s);
-    if !f.ok {
-        let counts = no_gates(0);
-        return Netlist {
-            ok: false,
-            at: f.at,
-            counts,
-        };
-    }
-    let counts = read_gates(s, f.at, lib);
+    let at = read_preamble(s)?;
+    let counts = read_gates(s, at, lib);
     let outs = outputs(s);
-    let r = read_behind(s, counts.at, ranged, outs, counts.gates, counts.area);
-    Netlist {
-        ok: r.ok,
-        at: r.at,
-        counts,
-    }
+    read_behind(s, counts.at, ranged, outs, counts.gates, counts.area)?;
+    Ok(counts)
 }
 
 // ---- the tally
 
 // Whether a cell occurs.
-fn occurs(n: u64) -> u64
+fn occurs(n: u32) -> u64
     ensures { result ≡ one (ltb 0 n) }
 {
-    if n > 0 { 1 } else { 0 }
-}
-
-// As they are summed.
-fn widen_sum(x: u32) -> u64
-    ensures { (result ≡ x) × (result < 4294967296) }
-{
-    x as u64
+    u64::from(n > 0)
 }
 
 // So many gates of this area at a place.
-fn add_place(mut t: Tally, i: usize, n: u64, area: u64) -> Tally
-    requires { (i < 32) × (n < 4294967296) × (area < 65536) × (get_or t.gates i 0 ≤ 2 ^ 40) × (get_or t.areas i 0 ≤ 2 ^ 40) ×
-        (get_or t.occurs i 0 ≤ 2 ^ 40) }
-    ensures { result ≡ added_at t i n area }
+fn add_place(t: &mut Tally, i: usize, n: u32, area: u16)
+    requires { (i < 32) × (get_or t.old.gates i 0 ≤ 2 ^ 40) × (get_or t.old.areas i 0 ≤ 2 ^ 40) × (get_or t.old.occurs i 0 ≤ 2 ^ 40) }
+    ensures { t.new ≡ added_at t.old i n area }
 {
-    t.gates[i] = t.gates[i] + n;
-    t.areas[i] = t.areas[i] + n * area;
-    t.occurs[i] = t.occurs[i] + occurs(n);
-    t
+    t.gates[i] += u64::from(n);
+    t.areas[i] += u64::from(n) * u64::from(area);
+    t.occurs[i] += occurs(n);
 }
 
 // A netlist's counts at all places.
-fn add_counts(from: Tally, lib: Library, c: Counts) -> Tally
-    requires { Wide from }
-    ensures { result ≡ added_up_to 32 lib c from }
+fn add_counts(t: &mut Tally, lib: Library, c: Counts)
+    requires { Wide t.old }
+    ensures { t.new ≡ added_up_to 32 lib c t.old }
 {
-    let mut t = from;
-    let mut i = 0;
-    while i < 32 {
+    for i in 0..32 {
         let cell = lib.cells[i];
-        t = add_place(t, i, widen_sum(c.n[i]), widen_sum(widen(cell.area)));
-        i += 1;
+        add_place(t, i, c.n[i], cell.area);
     }
-    t
 }
 
 // No figure "exceeds 2^40".
 fn all_small(xs: [u64; 32]) -> bool
     ensures { (result ≡ all (λ (n : ℕ). leb n (2 ^ 40)) xs) × (length xs ≡ 32) }
 {
-    let mut i = 0;
-    while i < 32 {
-        if xs[i] > 1099511627776 {
-            return false;
-        }
-        i += 1;
-    }
-    true
+    xs.iter().all(|x| *x <= 1099511627776)
 }
 
 pub fn in_width(t: Tally) -> bool
     ensures { (result ≡ in_width t) × (result ≡ true → Wide t) }
 {
-    let gates = t.gates;
-    let areas = t.areas;
-    let occurs = t.occurs;
-    all_small(gates) && (all_small(areas) && (all_small(occurs) && t.netlists <= 1099511627776))
-}
-
-// "A refused netlist adds nothing."
-fn refused(t: Tally, number: usize, place: usize) -> Counted
-    ensures { result ≡ counted_answer t (fault number place) }
-{
-    Counted {
-        verdict: Verdict::Refused(number, place),
-        tally: t,
-    }
+    all_small(t.gates)
+        && (all_small(t.areas) && (all_small(t.occurs) && t.netlists <= 1099511627776))
 }
 
 // One netlist more.
-fn counted(mut t: Tally, lib: Library, c: Counts) -> Counted
-    requires { Wide t × (t.netlists < 64) }
-    ensures { result ≡ counted_by t lib c }
+fn add_netlist(t: &mut Tally, lib: Library, c: Counts)
+    requires { Wide t.old × (t.old.netlists < 64) }
+    ensures { t.new ≡ counted_by t.old lib c }
 {
-    let n = t.netlists;
-    t = add_counts(t, lib, c);
-    t.netlists = n + 1;
-    Counted {
-        verdict: Verdict::Accepted,
-        tally: t,
-    }
+    add_counts(t, lib, c);
+    t.netlists += 1;
 }
 
-// A netlist by a library that was read: 28, then 29.
-fn count_in(t: Tally, lib: Library, ranged: bool, s: &[u8]) -> Counted
+// A netlist by a library that was read: 28, then 29. "A refused netlist adds nothing."
+fn count_in(t: &mut Tally, lib: Library, ranged: bool, s: &[u8]) -> Result<(), Refusal>
     requires { (length s.now ≤ 65536) × Listed lib × Blank lib }
-    ensures { result ≡ counted_answer t (count_read t ranged (cells_of lib) s.now) }
+    ensures { Handed t.old (count_read t.old ranged (cells_of lib) s.now) result t.new }
 {
-    if t.netlists >= 64 || !in_width(t) {
-        return refused(t, 28, 64);
+    if t.netlists >= 64 || !in_width(*t) {
+        return Err(Refusal {
+            number: 28,
+            place: 64,
+        });
     }
-    let n = read_netlist(s, lib, ranged);
-    let counts = n.counts;
-    if n.ok {
-        counted(t, lib, counts)
-    } else {
-        refused(t, 29, n.at)
+    match read_netlist(s, lib, ranged) {
+        Ok(counts) => {
+            add_netlist(t, lib, counts);
+            Ok(())
+        }
+        Err(at) => Err(Refusal {
+            number: 29,
+            place: at,
+        }),
     }
 }
 
 // The tally with one netlist more, or the first refusal and the tally as it was: 1, the library's, "28 when 64 netlists are counted already or .. a tally
 // figure exceeds 2^40", 29.
-pub fn count(t: Tally, cells: &[u8], netlist: &[u8]) -> Counted
-    ensures answer { result ≡ counted_answer t (count_text t cells.now netlist.now) }
-    ensures refusal { verdict_refusal result.verdict ≡ refusal_of (count_text t cells.now netlist.now) }
+pub fn count(t: &mut Tally, cells: &[u8], netlist: &[u8]) -> Result<(), Refusal>
+    ensures answer { result ≡ verdict_of (count_text t.old cells.now netlist.now) }
+    ensures handed_on { t.new ≡ tally_after t.old (count_text t.old cells.now netlist.now) }
+    ensures refusal { verdict_refusal result ≡ refusal_of (count_text t.old cells.now netlist.now) }
 {
     if cells.len() > 65536 || netlist.len() > 65536 {
-        return refused(t, 1, 0);
+        return Err(Refusal {
+            number: 1,
+            place: 0,
+        });
     }
-    let a = cells_reader::read(cells);
-    let verdict = a.verdict;
-    let lib = a.library;
-    match verdict {
-        Verdict::Accepted => count_in(t, lib, cells_reader::is_ranged(cells), netlist),
-        Verdict::Refused(number, place) => refused(t, number, place),
-    }
+    let lib = cells_reader::read(cells)?;
+    count_in(t, lib, cells_reader::is_ranged(cells), netlist)
 }

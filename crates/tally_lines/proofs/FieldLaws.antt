@@ -5,6 +5,7 @@
 use Rattle.base.specs.{ℕ, suc, ◌+◌, ◌-◌, ◌≤◌, ◌<◌, add-one, arith, ◌≡◌, refl, sym, ap, ◌∙◌, Bool, true, false, not, cond, List, [], ◌∷◌, ◌++◌, eqb}
 use Rattle.base.specs.{length, take, drop, get_or, drop_of_length-le, length-append, length-drop, drop-cons, drop-drop, take_all}
 use Rattle.base.specs.{take-append_seam, drop-append-add, eq-eqb, ne_eqb, eqb-true, le-leb, lt-leb}
+use Rattle.std.specs.List.{filter}
 use Rattle.model.specs.{fields, split, onto, span}
 use Rattle.base_text.specs.{no_space, span_end}
 use Rattle.tally_lines.specs.{fields_at, field_at, field_end}
@@ -56,16 +57,10 @@ module _ (w : List ℕ) (at : ℕ) (h : at < length w) where
     unfolding split
     space = here ∙ rw (eq-eqb (get_or w at 0) 32 e)
 
-    pub count-space : length (fields (drop at w)) ≡ length (fields (drop (at + 1) w)) + 1
-    count-space = ap length space ∙ sym (add-one (length (fields (drop (at + 1) w))))
-
   module _ (n : get_or w at 0 ≡ 32 → ⊥) where
     other : fields (drop at w) ≡ onto (get_or w at 0) (fields (drop (at + 1) w))
     unfolding split
     other = here ∙ rw (ne_eqb (get_or w at 0) 32 n)
-
-    pub count-step : length (fields (drop at w)) ≡ length (fields (drop (at + 1) w))
-    count-step = ap length other ∙ onto-count (get_or w at 0) (fields (drop (at + 1) w)) (some_field (drop (at + 1) w))
 
 module _ (w : List ℕ) (at : ℕ) (h : length w ≤ at) where
   nothing : fields (drop at w) ≡ [] ∷ []
@@ -147,3 +142,16 @@ module _ (w : List ℕ) (at : ℕ) (h : at ≤ length w) where
 pub field_from : (w : List ℕ) (at : ℕ) → at ≤ field_end w at
 unfolding field_end
 field_from w at = omega arith
+
+-- ---- all fields
+
+-- a field ends at each space, and the last at the line's end
+pub spaces-count : (w : List ℕ) → length (fields w) ≡ length (filter (λ (b : ℕ). eqb b 32) w) + 1
+unfolding fields
+spaces-count [] = refl
+spaces-count (b ∷ w) = go (eqb b 32) (spaces-count w)
+  where
+    go : (t : Bool) → length (fields w) ≡ length (filter (λ (x : ℕ). eqb x 32) w) + 1
+        → length (split t b (fields w)) ≡ length (cond t (b ∷ filter (λ (x : ℕ). eqb x 32) w) (filter (λ (x : ℕ). eqb x 32) w)) + 1
+    go true e = unfold split in omega (arith, e)
+    go false e = unfold split in onto-count b (fields w) (omega (arith, e)) ∙ e

@@ -1,5 +1,5 @@
 -- The cell of a gate line, from the library's first line on, and the steps over its pins.
-use Rattle.base.specs.{ℕ, suc, ◌+◌, ◌-◌, ◌≤◌, ◌<◌, add-one, arith, ◌≡◌, refl, sym, ap, ◌∙◌, Bool, true, false, cond, ◌&&◌, none, some, List}
+use Rattle.base.specs.{ℕ, suc, ◌+◌, ◌-◌, ◌≤◌, ◌<◌, add-one, arith, ◌≡◌, refl, sym, ap, ◌∙◌, Bool, true, false, cond, ◌&&◌, None, Some, List}
 use Rattle.base.specs.{[], ◌∷◌, map, length, take, drop, get_or, drop_of_length-le, drop-cons, length-take-le, get_or-take}
 use Rattle.model.specs.{same, from, below, text, fields, name_of, no_cell, cells_of, is_bound, of_form, gate_form, gate_of}
 use Rattle.model.specs.declared.Cell.{Cell}
@@ -21,16 +21,16 @@ module _ (l : Library) (long : length l.cells ≡ 32) (few : l.n ≤ 32) where
 
 -- ---- from line to line
 
-pub gate-end : (i : ℕ) (cells : List Cell) (w : List ℕ) → length cells ≤ i → gate_of i (drop i cells) w ≡ none
+pub gate-end : (i : ℕ) (cells : List Cell) (w : List ℕ) → length cells ≤ i → gate_of i (drop i cells) w ≡ None
 unfolding gate_of
 gate-end i cells w h = rw (drop_of_length-le cells h)
 
 module _ (i : ℕ) (cells : List Cell) (w : List ℕ) (h : i < length cells) where
-  gate_by_lem : gate_of i (drop i cells) w ≡ cond (of_form (gate_form (get_or cells i no_cell)) (fields w)) (some i) (gate_of (i + 1) (drop (i + 1) cells) w)
+  gate_by_lem : gate_of i (drop i cells) w ≡ cond (of_form (gate_form (get_or cells i no_cell)) (fields w)) (Some i) (gate_of (i + 1) (drop (i + 1) cells) w)
   unfolding gate_of
   gate_by_lem = rw (add-one i, drop-cons cells i no_cell h)
 
-  pub gate-here : of_form (gate_form (get_or cells i no_cell)) (fields w) ≡ true → gate_of i (drop i cells) w ≡ some i
+  pub gate-here : of_form (gate_form (get_or cells i no_cell)) (fields w) ≡ true → gate_of i (drop i cells) w ≡ Some i
   gate-here e = gate_by_lem ∙ rw e
 
   pub gate-later : of_form (gate_form (get_or cells i no_cell)) (fields w) ≡ false → gate_of i (drop i cells) w ≡ gate_of (i + 1) (drop (i + 1) cells) w
@@ -56,7 +56,7 @@ module _ (w : List ℕ) where
       go (off h e s) = absurd (omega arith)
       go (out h s) = absurd (omega arith)
 
-  pub gate_never : (k : ℕ) (cells : List Cell) → length w + 1 < step_at (same (46 ∷ 103 ∷ 97 ∷ 116 ∷ 101 ∷ [])) w 0 → gate_of k cells w ≡ none
+  pub gate_never : (k : ℕ) (cells : List Cell) → length w + 1 < step_at (same (46 ∷ 103 ∷ 97 ∷ 116 ∷ 101 ∷ [])) w 0 → gate_of k cells w ≡ None
   unfolding gate_of gate_word
   gate_never k [] g = refl
   gate_never k (c ∷ cs) g = rw (gate-first c ∙ go (led (same gate_word) w 0)) (gate_never (suc k) cs g)

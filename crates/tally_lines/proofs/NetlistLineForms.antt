@@ -1,10 +1,10 @@
 -- The form of a line by steps over its fields:
 --     step_past, step_takes, step_fails     a step, by the test of the field's bytes
 --     step-low, step-on                     where it leads
---     form_yes, form_no                     the line has the form just where the steps lead one past its length
+--     form_is, line-is                      the line has the form just where the steps lead one past its length
 --     labels_step, labels-end, ..           the same of a list of names
 use Rattle.base.specs.{ℕ, ◌+◌, ◌-◌, ◌≤◌, ◌<◌, arith, ◌≡◌, refl, sym, ap, ◌∙◌, Bool, true, false, ◌&&◌, List, [], ◌∷◌, ◌++◌, eqb, leb}
-use Rattle.base.specs.{length, take, drop, eq-eqb, ne_eqb, le-leb, lt-leb, leb-true, leb-false}
+use Rattle.base.specs.{length, take, drop, eq-eqb, ne_eqb, le-leb, lt-leb, leb-true, leb-false, eqb-true, eqb-false}
 use Rattle.model.specs.{all, same, fields, is_label, of_form, of_list, is_name_list}
 use Rattle.tally_lines.specs.{pick_n, fields_at, field_at, field_end, step_at, steps_at}
 use Rattle.tally_lines.proofs.FieldLaws.{fields-past, fields_in, field_part, field_fits, field_next, field_from}
@@ -121,25 +121,16 @@ form_at_lem (p ∷ ps) w at b = go (form_at_lem ps w (step_at p w at) (step-low 
 
 -- from a place that is at most one past the line
 module _ (ps : List (List ℕ → Bool)) (w : List ℕ) (at : ℕ) (h : at ≤ length w + 1) (r : ℕ) (is : r ≡ steps_at ps w at) where
-  form_is : of_form ps (fields_at w at) ≡ eqb r (length w + 1)
-  form_is = sym (going w at (of_form ps (fields_at w at)) h) ∙ form_at_lem ps w at (omega arith) ∙ ap (λ (k : ℕ). eqb k (length w + 1)) (sym is)
-
-  pub form_yes : r ≡ length w + 1 → true ≡ of_form ps (fields_at w at)
-  form_yes e = sym (form_is ∙ eq-eqb r (length w + 1) e)
-
-  pub form_no : (r ≡ length w + 1 → ⊥) → false ≡ of_form ps (fields_at w at)
-  form_no n = sym (form_is ∙ ne_eqb r (length w + 1) n)
+  pub form_is : eqb r (length w + 1) ≡ of_form ps (fields_at w at)
+  form_is = sym (sym (going w at (of_form ps (fields_at w at)) h) ∙ form_at_lem ps w at (omega arith) ∙ ap (λ (k : ℕ). eqb k (length w + 1)) (sym is))
 
 -- from the line's start
 pub from_start : (w : List ℕ) → fields_at w 0 ≡ fields w
 from_start w = fields_in w 0 (omega arith)
 
 module _ (ps : List (List ℕ → Bool)) (w : List ℕ) (r : ℕ) (is : r ≡ steps_at ps w 0) where
-  pub line-yes : r ≡ length w + 1 → true ≡ of_form ps (fields w)
-  line-yes e = form_yes ps w 0 (omega arith) r is e ∙ ap (of_form ps) (from_start w)
-
-  pub line_no : (r ≡ length w + 1 → ⊥) → false ≡ of_form ps (fields w)
-  line_no n = form_no ps w 0 (omega arith) r is n ∙ ap (of_form ps) (from_start w)
+  pub line-is : eqb r (length w + 1) ≡ of_form ps (fields w)
+  line-is = form_is ps w 0 (omega arith) r is ∙ ap (of_form ps) (from_start w)
 
 -- ---- a list of names
 
@@ -164,15 +155,23 @@ module _ (p : List ℕ → Bool) (w : List ℕ) where
           going w at (all p (fields_at w at)) (omega arith) ∙ rw (field_next w at h, e) (sym (gone w (step_at p w at) (all p (fields_at w (step_at p w at))) (omega arith)))
       go (out h s) = absurd (omega arith)
 
-  pub labels_yes : (at : ℕ) → at ≡ length w + 1 → true ≡ Labels at
+  labels_yes : (at : ℕ) → at ≡ length w + 1 → true ≡ Labels at
   unfolding all
   labels_yes at h = sym (going w at (all p (fields_at w at)) (omega arith) ∙ rw (fields-past w at (omega arith)))
 
-  pub labels_no : (at : ℕ) → length w < at → (at ≡ length w + 1 → ⊥) → false ≡ Labels at
+  labels_no : (at : ℕ) → length w < at → (at ≡ length w + 1 → ⊥) → false ≡ Labels at
   labels_no at h n = sym (gone w at (all p (fields_at w at)) (let z : length w + 1 < at = more at (length w) h n in z))
     where
       more : (a b : ℕ) → b < a → (a ≡ b + 1 → ⊥) → b + 1 < a
       more a b x y = omega arith
+
+  -- where the loop stops
+  pub labels_end : (at : ℕ) → length w < at → eqb at (length w + 1) ≡ Labels at
+  labels_end at h = go (eqb at (length w + 1)) refl
+    where
+      go : (t : Bool) → eqb at (length w + 1) ≡ t → t ≡ Labels at
+      go true e = labels_yes at (eqb-true at (length w + 1) e)
+      go false e = labels_no at h (eqb-false at (length w + 1) e)
 
 -- the keyword, and the names
 module _ (keyword : List ℕ) (b : ℕ) (w : List ℕ) where

@@ -3,5 +3,5 @@ pub mod FieldSteps
 pub mod LineKinds
 pub use FieldSteps.{pick_n}
 unfoldable pub use FieldSteps.{field_at, field_end, fields_at, step_at, steps_at}
-pub use LineKinds.{Listed, which_of}
+pub use LineKinds.{Listed}
 unfoldable pub use LineKinds.{kind_test}

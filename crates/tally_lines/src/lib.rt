@@ -7,26 +7,20 @@ ghost use Rattle.std.specs.Prelude.{◌≡◌, ◌+◌, ◌-◌, ◌≤◌};
 ghost use Rattle.base.specs.{map, ℕ, length, drop};
 ghost use Rattle.model.specs.{all, same, below, decimal, fields, cells_of, are_digits, is_label, is_phase_net, is_inner_net, is_gate_net};
 ghost use Rattle.model.specs.{is_bound, of_form, is_name_list, gate_form, gate_of, is_wire, is_figures, is_timing};
-ghost use Rattle.tally_lines.specs.{fields_at, step_at, steps_at, kind_test, which_of, Listed};
+ghost use Rattle.tally_lines.specs.{fields_at, step_at, steps_at, kind_test, Listed};
 
 use base_text::Class;
 use model::{Cell, Library};
 
-// A kind of field: digits, a letter and digits, a net of an output's line, a pin or output of this letter with its net, this number.
+// A kind of field: this word, digits, a letter and digits, a net of an output's line, a pin or output of this letter with its net, this number.
 #[derive(Clone, Copy)]
-pub enum Kind {
+pub enum Kind<'a> {
+    Word(&'a [u8]),
     Digits,
     Label(u8),
     Net,
     Bound(u8),
     Number(u32),
-}
-
-// The library's line of the cell that a gate line is of.
-#[derive(Clone, Copy)]
-pub enum Which {
-    Line(usize),
-    Nothing,
 }
 
 // ---- one field
@@ -81,9 +75,10 @@ pub fn is_number(w: &[u8], n: u32) -> bool
 }
 
 pub fn is_kind(w: &[u8], kind: Kind) -> bool
-    ensures { result ≡ kind_test kind w.now }
+    ensures { result ≡ kind_test kind.entry w.now }
 {
     match kind {
+        Kind::Word(k) => base_text::same_bytes(k, w),
         Kind::Digits => are_digits(w),
         Kind::Label(b) => is_label(w, b),
         Kind::Net => is_phase_net(w),
@@ -99,17 +94,13 @@ pub fn word(w: &[u8], at: usize, k: &[u8]) -> usize
     requires { length w.now ≤ 65536 }
     ensures { result ≡ step_at (same k.now) w.now at }
 {
-    let end = base_text::span_end(w, at, Class::Field);
-    if at > w.len() || !base_text::same_bytes(k, &w[at..end]) {
-        return w.len() + 2;
-    }
-    end + 1
+    field(w, at, Kind::Word(k))
 }
 
 // Past a field of this kind.
 pub fn field(w: &[u8], at: usize, kind: Kind) -> usize
     requires { length w.now ≤ 65536 }
-    ensures { result ≡ step_at (kind_test kind) w.now at }
+    ensures { result ≡ step_at (kind_test kind.entry) w.now at }
 {
     let end = base_text::span_end(w, at, Class::Field);
     if at > w.len() || !is_kind(&w[at..end], kind) {
@@ -128,7 +119,7 @@ pub fn is_wire(w: &[u8]) -> bool
     let a = word(w, 0, b".names");
     let b = field(w, a, Kind::Net);
     let c = field(w, b, Kind::Label(b'o'));
-    if c == w.len() + 1 { true } else { false }
+    c == w.len() + 1
 }
 
 // `# timing o0 30 35`.
@@ -141,7 +132,7 @@ pub fn is_timing(w: &[u8]) -> bool
     let c = field(w, b, Kind::Label(b'o'));
     let d = field(w, c, Kind::Digits);
     let e = field(w, d, Kind::Digits);
-    if e == w.len() + 1 { true } else { false }
+    e == w.len() + 1
 }
 
 // `# gates 2 area 3 arrival 30`, with this gate count and this area.
@@ -156,7 +147,7 @@ pub fn is_figures(w: &[u8], gates: u32, area: u32) -> bool
     let e = field(w, d, Kind::Number(area));
     let f = word(w, e, b"arrival");
     let g = field(w, f, Kind::Digits);
-    if g == w.len() + 1 { true } else { false }
+    g == w.len() + 1
 }
 
 // Each field from a place on is a letter and digits.
@@ -165,10 +156,11 @@ fn all_labels(w: &[u8], from: usize, b: u8) -> bool
     ensures { result ≡ all (is_label b) (fields_at w.now from) }
 {
     let mut at = from;
+    // Stays: a step is a field's length, not one.
     while at <= w.len() {
         at = field(w, at, Kind::Label(b));
     }
-    if at == w.len() + 1 { true } else { false }
+    at == w.len() + 1
 }
 
 // `.inputs p1 p2`, `.outputs o0`: "With no names the second or third line is the keyword alone."
@@ -187,15 +179,7 @@ pub fn is_name_list(w: &[u8], keyword: &[u8], b: u8) -> bool
 pub fn names_in(w: &[u8]) -> usize
     ensures { result ≡ length (fields w.now) - 1 }
 {
-    let mut n = 0;
-    let mut i = 0;
-    while i < w.len() {
-        if w[i] == 32 {
-            n += 1;
-        }
-        i += 1;
-    }
-    n
+    w.iter().filter(|b| **b == b' ').count()
 }
 
 // ---- gate lines
@@ -206,10 +190,8 @@ fn pins(w: &[u8], from: usize, n: u16) -> usize
     ensures { result ≡ steps_at (map (λ (j : ℕ). is_bound (65 + j)) (below n)) w.now from }
 {
     let mut at = from;
-    let mut j: u16 = 0;
-    while j < n {
-        at = field(w, at, Kind::Bound(65 + j as u8));
-        j += 1;
+    for j in 0..n {
+        at = field(w, at, Kind::Bound(b'A' + j as u8));
     }
     at
 }
@@ -219,31 +201,26 @@ fn is_gate(w: &[u8], at: usize, c: Cell) -> bool
     requires { (length w.now ≤ 65536) × (at ≤ length w.now + 1) × (c.pins ≤ 4) }
     ensures { result ≡ of_form (drop 1 (gate_form c)) (fields_at w.now at) }
 {
-    let name = c.name;
-    let len = if c.len < 8 { c.len } else { 8 };
-    let a = word(w, at, &name[..len]);
+    let a = word(w, at, &c.name[..c.len.min(8)]);
     let b = pins(w, a, c.pins);
     let o = field(w, b, Kind::Bound(b'O'));
-    if o == w.len() + 1 { true } else { false }
+    o == w.len() + 1
 }
 
 // The listed cell that a line is a gate of.
-pub fn gate_of(w: &[u8], lib: Library) -> Which
+pub fn gate_of(w: &[u8], lib: Library) -> Option<usize>
     requires { (length w.now ≤ 65536) × Listed lib }
-    ensures { result ≡ which_of (gate_of 0 (cells_of lib) w.now) }
+    ensures { result ≡ gate_of 0 (cells_of lib) w.now }
 {
     let at = word(w, 0, b".gate");
     if at > w.len() + 1 {
-        return Which::Nothing;
+        return None;
     }
-    let n = lib.n;
-    let mut i = 0;
-    while i < n {
+    for i in 0..lib.n {
         let c = lib.cells[i];
         if is_gate(w, at, c) {
-            return Which::Line(i);
+            return Some(i);
         }
-        i += 1;
     }
-    Which::Nothing
+    None
 }

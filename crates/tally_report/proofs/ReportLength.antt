@@ -1,11 +1,11 @@
 -- The page that a report is written on, and the answers, refusal by refusal.
+use Rattle.std.specs.Prelude.{Ok}
 use Rattle.base.specs.{ℕ, ◌^◌, ◌≤◌, ◌<◌, arith, ◌≡◌, sym, ap, ◌∙◌, subst, true, false, ◌&&◌, List, leb, length, take, drop, get_or}
 use Rattle.base.specs.{take-append_seam, le-leb, lt-leb, leb-true}
-use Rattle.model.specs.{all, Read, holds, fault, next, unless, no_cell, cells_of, library_of, read_library, written_answer, written_after}
+use Rattle.model.specs.{all, Read, holds, fault, next, unless, no_cell, cells_of, library_of, read_library, written_answer, written_after, refused_with}
 use Rattle.model.specs.{in_width, report_text, report_of}
 use Rattle.model.specs.declared.Cell.{Cell}
 use Rattle.model.specs.declared.Tally.{Tally}
-use Rattle.model.specs.declared.Written.TheVariants.{Length, Refused}
 use Rattle.theory_graph.proofs.{get_or_in}
 use Rattle.theory_text.proofs.{library-written}
 use Rattle.base_words.specs.{put_at}
@@ -38,19 +38,19 @@ module _ (r memory : List ℕ) where
   fit-yes h = rw (le-leb (length r) (length memory) h)
 
   pub too_short : (end : ℕ) → end ≡ length r → length memory < end
-      → (Refused 18 end ≡ written_answer (fitting r (length memory))) × (memory ≡ written_after (fitting r (length memory)) memory)
+      → (refused_with 18 end ≡ written_answer (fitting r (length memory))) × (memory ≡ written_after (fitting r (length memory)) memory)
   unfolding written_answer written_after
-  too_short end e h = let f = fit_no (omega arith) in (sym (ap written_answer f ∙ ap (Refused 18) (sym e)), sym (ap (λ (x : Read (List ℕ)). written_after x memory) f))
+  too_short end e h = let f = fit_no (omega arith) in (sym (ap written_answer f ∙ ap (refused_with 18) (sym e)), sym (ap (λ (x : Read (List ℕ)). written_after x memory) f))
 
   pub fits : (end : ℕ) (after : List ℕ) → end ≡ length r → end ≤ length memory → after ≡ put_at memory 0 r
-      → (Length end ≡ written_answer (fitting r (length memory))) × (after ≡ written_after (fitting r (length memory)) memory)
+      → (Ok end ≡ written_answer (fitting r (length memory))) × (after ≡ written_after (fitting r (length memory)) memory)
   unfolding written_answer written_after
   fits end after e h w =
-      let f = fit-yes (omega arith) in (sym (ap written_answer f ∙ ap Length (sym e)), w ∙ put_front memory r ∙ sym (ap (λ (x : Read (List ℕ)). written_after x memory) f))
+      let f = fit-yes (omega arith) in (sym (ap written_answer f ∙ ap Ok (sym e)), w ∙ put_front memory r ∙ sym (ap (λ (x : Read (List ℕ)). written_after x memory) f))
 
 -- ---- a refusal leaves the memory
 
-pub refuses : (o : Read (List ℕ)) (n k : ℕ) (memory : List ℕ) → o ≡ fault n k → (Refused n k ≡ written_answer o) × (memory ≡ written_after o memory)
+pub refuses : (o : Read (List ℕ)) (n k : ℕ) (memory : List ℕ) → o ≡ fault n k → (refused_with n k ≡ written_answer o) × (memory ≡ written_after o memory)
 unfolding written_answer written_after
 refuses o n k memory e = (sym (ap written_answer e), sym (ap (λ (x : Read (List ℕ)). written_after x memory) e))
 

@@ -1,8 +1,7 @@
 -- What is answered and left of the lent bytes.
 use Rattle.std.specs.Prelude.{◌≡◌}
 use Rattle.base.specs.{List, ℕ}
-use Rattle.model.specs.{written_answer, written_pair, written_by, written_after, Read}
-use Rattle.model.specs.declared.Written.{Written}
+use Rattle.model.specs.{written_answer, written_pair, written_by, written_after, Read, Written}
 
 -- a text written, or the refusal
 abbrev pub TextLeft : Read (List ℕ) → List ℕ → Written → List ℕ → Type 0

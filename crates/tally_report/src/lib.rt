@@ -14,7 +14,7 @@ ghost use Rattle.tally_counting.specs.{Wide};
 ghost use Rattle.tally_report.specs.{cell_lines, figure_text, fitting};
 ghost use Rattle.tally_report.specs.{TextLeft, TextReturned};
 
-use model::{Cell, Library, Tally, Verdict, Written};
+use model::{Cell, Library, Refusal, Tally};
 
 // ---- figures
 
@@ -60,10 +60,8 @@ fn sum_of(xs: [u64; 32], n: usize) -> u64
     ensures { result ≡ sum (take n xs) }
 {
     let mut total: u64 = 0;
-    let mut i = 0;
-    while i < n {
-        total = total + xs[i];
-        i += 1;
+    for i in 0..n {
+        total += xs[i];
     }
     total
 }
@@ -94,12 +92,9 @@ fn put_cells(out: &mut [u8], lib: Library, t: Tally) -> usize
     requires { Listed lib × (length (cell_lines lib t 0 lib.n) ≤ length out.old) }
     ensures { Wrote out.old out.new 0 result (cell_lines lib t 0 lib.n) }
 {
-    let n = lib.n;
     let mut at = 0;
-    let mut i = 0;
-    while i < n {
+    for i in 0..lib.n {
         at = put_cell(out, at, lib, t, i);
-        i += 1;
     }
     at
 }
@@ -126,38 +121,39 @@ fn put_report(out: &mut [u8], lib: Library, t: Tally) -> usize
 }
 
 // The report by a library that was read, where it fits.
-fn report_in(t: Tally, lib: Library, text: &mut [u8]) -> Written
+fn report_in(t: Tally, lib: Library, text: &mut [u8]) -> Result<usize, Refusal>
     requires { Listed lib × Wide t × (length (report_text (cells_of lib) t) ≤ 2048) }
     ensures { TextLeft (fitting (report_text (cells_of lib) t) (length text.old)) text.old result text.new }
 {
     let mut page = [0u8; 2048];
     let end = put_report(&mut page, lib, t);
     if text.len() < end {
-        return Written::Refused(18, end);
+        return Err(Refusal {
+            number: 18,
+            place: end,
+        });
     }
     base_text::put(text, 0, &page[..end]);
-    Written::Length(end)
+    Ok(end)
 }
 
 // The report of a tally, or the first refusal: 1, the library's, 28 where "a tally figure exceeds 2^40", and 18 for "the report's memory". A
 // refusal leaves the memory as it was; success keeps the bytes after the text.
-pub fn report(t: Tally, cells: &[u8], text: &mut [u8]) -> Written
+pub fn report(t: Tally, cells: &[u8], text: &mut [u8]) -> Result<usize, Refusal>
     ensures { TextReturned (report_of t cells.now (length text.old)) text.old result text.new }
 {
     if cells.len() > 65536 {
-        return Written::Refused(1, 0);
+        return Err(Refusal {
+            number: 1,
+            place: 0,
+        });
     }
-    let a = cells_reader::read(cells);
-    let verdict = a.verdict;
-    let lib = a.library;
-    match verdict {
-        Verdict::Accepted => {
-            if tally_counting::in_width(t) {
-                report_in(t, lib, text)
-            } else {
-                Written::Refused(28, 64)
-            }
-        }
-        Verdict::Refused(number, place) => Written::Refused(number, place),
+    let lib = cells_reader::read(cells)?;
+    if !tally_counting::in_width(t) {
+        return Err(Refusal {
+            number: 28,
+            place: 64,
+        });
     }
+    report_in(t, lib, text)
 }

@@ -1,7 +1,6 @@
 -- What a call that writes a text answers and leaves of the lent bytes is what `TextWritten` says.
 use Rattle.base.specs.{◌≡◌, ap, ◌∙◌, List, ℕ}
-use Rattle.model.specs.{Read, written_answer, written_pair, written_after}
-use Rattle.model.specs.declared.Written.{Written}
+use Rattle.model.specs.{Read, Written, written_answer, written_pair, written_after}
 use Rattle.promises.specs.{TextWritten}
 
 pub text-written : (o : Read (List ℕ)) (text : List ℕ) (answer : Written) (text_left : List ℕ) → answer ≡ written_answer o → text_left ≡ written_after o text → TextWritten o text answer text_left

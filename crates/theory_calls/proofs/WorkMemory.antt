@@ -1,8 +1,8 @@
 -- What a check answers and leaves of work memory is what `CheckedMemory` says.
+use Rattle.std.specs.Prelude.{Ok}
 use Rattle.base.specs.{ℕ, ◌≡◌, refl, sym, ap, ◌∙◌, ◌⊎◌, inl, inr, Bool, true, false, cond, ◌||◌, List, eqb, leb, length, replicate, le-leb, leb-true, eq-eqb, eqb-true}
-use Rattle.model.specs.{tried_early, check_read, check_texts, checked_work, CheckMemory}
-use Rattle.model.specs.declared.Checked.{Checked}
-use Rattle.model.specs.declared.Checked.TheVariants.{Accepted, Differs, Refused}
+use Rattle.model.specs.{Checked, refused_with, tried_early, check_read, check_texts, checked_work, CheckMemory}
+use Rattle.model.specs.declared.Comparison.TheVariants.{Equal, Differs}
 use Rattle.promises.specs.{UpToTen, CheckedMemory}
 
 -- ---- which refusals are tried up to 10
@@ -59,8 +59,8 @@ module _ (library graph netlist work : List ℕ) (a : Checked) (y : List ℕ) (m
     answers = m.answers;
     result = m.result;
     refusal = λ n k e. m.answers ∙ ap check_read e;
-    unchanged = λ n k e u. left (Refused n k) e ∙ ap (λ (b : Bool). cond b work (replicate (length work) 0)) (early n u);
-    zero_later = λ n k e u. left (Refused n k) e ∙ ap (λ (b : Bool). cond b work (replicate (length work) 0)) (input_arrival n u);
-    zero_accepted = λ e. left Accepted e;
-    zero_differs = λ s k e. left (Differs s k) e;
+    unchanged = λ n k e u. left (refused_with n k) e ∙ ap (λ (b : Bool). cond b work (replicate (length work) 0)) (early n u);
+    zero_later = λ n k e u. left (refused_with n k) e ∙ ap (λ (b : Bool). cond b work (replicate (length work) 0)) (input_arrival n u);
+    zero_accepted = λ e. left (Ok Equal) e;
+    zero_differs = λ s k e. left (Ok (Differs s k)) e;
   }

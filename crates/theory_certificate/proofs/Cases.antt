@@ -1,5 +1,5 @@
 -- Computed examples: the joined netlist of gt_w2.st with the library array, as a certificate. It runs and has the output's literal; with one wrong word it does not.
-use Rattle.base.specs.{ℕ, Option, none, some, List, [], ◌∷◌, ◌++◌, ◌≡◌, refl}
+use Rattle.base.specs.{ℕ, Option, None, Some, List, [], ◌∷◌, ◌++◌, ◌≡◌, refl}
 use Rattle.model.specs.{And, and_then, any, bit, cell_at, flip, latest, literal, negated, one, only, row_of, tabulate, value, var_of, largest, sum}
 use Rattle.model.specs.Graph.{Graph}
 use Rattle.model.specs.declared.Cell.{Cell}
@@ -61,8 +61,8 @@ capacity = record { facts = 10; equals = 0; gates = 6 }
 -- the figures, where the certificate is accepted
 answer : Option Outcome → List ℕ
 unfolding figures_by largest sum cell_at cells cell
-answer none = []
-answer (some o) = (figures_by cells o).gates ∷ (figures_by cells o).area ∷ (figures_by cells o).arrival ∷ []
+answer None = []
+answer (Some o) = (figures_by cells o).gates ∷ (figures_by cells o).area ∷ (figures_by cells o).arrival ∷ []
 
 validated : List Move → List ℕ
 unfolding answer cells cell gt an capacity certify run move at lit_table and_at gate_at feed_rows fed_at feed_pins feed_tables feed_arrivals gate_row gate_table block_vars leaf_table phased conj push push_var push_net push_fact push_equal with_gate made_of same_row row pin_nets out_row out_rows start started with_input no_made and_then only any var_of negated literal tabulate bit one flip value row_of latest cell_at

@@ -1,6 +1,6 @@
 -- The `# timing` lines of a certificate's netlist: "Every choice of pin delays, each within its range and fixed separately per gate, puts the output within these
 -- two, and each end is reached by some choice".
-use Rattle.base.specs.{ℕ, suc, ◌≤◌, le_refl, le_trans, le_of_eq, arith, ◌≡◌, refl, sym, ◌∙◌, ap, subst, inl, inr, ⊎_elim, Bool, true, false, cond, some}
+use Rattle.base.specs.{ℕ, suc, ◌≤◌, le_refl, le_trans, le_of_eq, arith, ◌≡◌, refl, sym, ◌∙◌, ap, subst, inl, inr, ⊎_elim, Bool, true, false, cond, Some}
 use Rattle.base.specs.{List, [], ◌∷◌, ◌++◌, map, Memᴰ, Memᴰ-head, Memᴰ-tail, Memᴰ-not-nil, Memᴰ-cast, head-eq_of_cons-eq, tail-eq_of_cons-eq, T}
 use Rattle.base.specs.{length, get_or}
 use Rattle.model.specs.{from, below, same, latest, literal, no_lower, no_cell, label, net_name, out_name, netlist_text, timing_lines, GraphValues, GateLine, TimingLine}
@@ -128,7 +128,7 @@ module _ {nets : ℕ} {capacity : HasCapacity} {cells : List Cell} {g : Graph} {
       (certified_times k fit (high_delays k fit)).1 (certified_times k fit (low_delays k fit)).1
 
   -- the printed text says these lines
-  pub says-times : read_timings (netlist_text (wired g (out_nets o)) (gates_of cells o) (figures_by cells o) ++ timed_lines 0 o.outs) ≡ some lines
+  pub says-times : read_timings (netlist_text (wired g (out_nets o)) (gates_of cells o) (figures_by cells o) ++ timed_lines 0 o.outs) ≡ Some lines
   says-times = ap (λ (t : List ℕ). read_timings (netlist_text (wired g (out_nets o)) (gates_of cells o) (figures_by cells o) ++ t)) (timed-lines low high 0 o.outs rows-timed)
       ∙ timings-back (wired g (out_nets o)) (gates_of cells o) (figures_by cells o) low high (named-gates k fit)
 

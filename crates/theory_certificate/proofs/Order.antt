@@ -1,5 +1,5 @@
 -- The gates of a certificate stand in order: each pin's net is an input's or was driven before, and no net is driven twice.
-use Rattle.base.specs.{ℕ, zero, suc, arith, ◌≡◌, refl, sym, ◌∙◌, ap, subst, ◌⊎◌, inl, inr, ⊎_elim, false, some, List, [], ◌∷◌, ◌++◌, map, Memᴰ}
+use Rattle.base.specs.{ℕ, zero, suc, arith, ◌≡◌, refl, sym, ◌∙◌, ap, subst, ◌⊎◌, inl, inr, ⊎_elim, false, Some, List, [], ◌∷◌, ◌++◌, map, Memᴰ}
 use Rattle.base.specs.{Memᴰ-head, Memᴰ-tail, Memᴰ-not-nil, Memᴰ-append_cases, Memᴰ-eq_of_singleton, Memᴰ-append_left, Memᴰ-append_right}
 use Rattle.base.specs.{Memᴰ-cast, append_assoc, append-nil, get_or, set}
 use Rattle.model.specs.{literal, cell_at}
@@ -137,7 +137,7 @@ module _ (cells : List Cell) (g : Graph) (names : List ℕ) where
   })
   step-built s t b (folded e l a m h same q) = subst Is q (record { order = b.order; nets = b.nets; facts = b.facts; marks = b.marks })
 
-  run-built : (capacity : HasCapacity) (ms : List Move) (s t : State) → Is s → run capacity cells g s ms ≡ some t → Is t
+  run-built : (capacity : HasCapacity) (ms : List Move) (s t : State) → Is s → run capacity cells g s ms ≡ Some t → Is t
   unfolding run
   run-built capacity [] s t b e = subst Is (some-once e) b
   run-built capacity (k ∷ ms) s t b e =
@@ -153,7 +153,7 @@ record Begun (names : List ℕ) (s : State) : Type 0 where
   facts : (e : Row) → Memᴰ e s.facts → Memᴰ e.a names
   marks : (n : ℕ) → Memᴰ n names → ¬ (get_or s.driven n 1 ≡ 0)
 
-started-begun : (capacity : HasCapacity) (input_arrival : ℕ → ℕ) (us names : List ℕ) (s t : State) → Begun names s → started capacity input_arrival s us ≡ some t → Begun (names ++ map (literal false) us) t
+started-begun : (capacity : HasCapacity) (input_arrival : ℕ → ℕ) (us names : List ℕ) (s t : State) → Begun names s → started capacity input_arrival s us ≡ Some t → Begun (names ++ map (literal false) us) t
 unfolding started row
 started-begun capacity input_arrival [] names s t b e = subst (λ (ns : List ℕ). Begun ns t) (sym (append-nil names)) (subst (Begun names) (some-once e) b)
 started-begun capacity input_arrival (u ∷ us) names s t b e =

@@ -1,7 +1,7 @@
 -- Demand 2 of a certificate, over the bytes: the text that is printed of it, read by BLIF's rules with the listed cells' tables, has values, and any such values
 -- give every output the value that the graph gives it, for every assignment of the inputs. Nothing is asked of the graph's size, of the number of gates or of
 -- who made the certificate.
-use Rattle.base.specs.{ℕ, arith, ◌≡◌, sym, ◌∙◌, ap, ap₂, subst, Bool, false, some, List, [], ◌∷◌, ◌++◌, map, Memᴰ, Memᴰ-head, Memᴰ-tail}
+use Rattle.base.specs.{ℕ, arith, ◌≡◌, sym, ◌∙◌, ap, ap₂, subst, Bool, false, Some, List, [], ◌∷◌, ◌++◌, map, Memᴰ, Memᴰ-head, Memᴰ-tail}
 use Rattle.base.specs.{head-eq_of_cons-eq, tail-eq_of_cons-eq, T, length-take}
 use Rattle.model.specs.{flip, value, row_of, is_name, name_of, no_cell, cell_at, latest, literal, literal_value, GraphValues, Gate, of_phase, label, net_name}
 use Rattle.model.specs.{netlist_text, Wire, GateLine, read_blif, drives, fed_by, named, NetValues, Delays, NetTimes}
@@ -51,7 +51,7 @@ module _ {nets : ℕ} {capacity : HasCapacity} {cells : List Cell} {g : Graph} {
   pub named-gates : (x : Gate) → Memᴰ x (gates_of cells o) → T (is_name (name_of x.cell))
   named-gates x m = let q = map_out (gate_of cells) o.gates m in subst (λ (y : Gate). T (is_name (name_of y.cell))) (sym q.2) (bound q.0 q.1).is_named
 
-  pub reads : (f : Figures) (behind : List ℕ) → read_blif (netlist_text (wired g (out_nets o)) (gates_of cells o) f ++ behind) ≡ some (netlist_of cells g o)
+  pub reads : (f : Figures) (behind : List ℕ) → read_blif (netlist_text (wired g (out_nets o)) (gates_of cells o) f ++ behind) ≡ Some (netlist_of cells g o)
   reads f behind = read_back (wired g (out_nets o)) (gates_of cells o) f behind named-gates
 
   -- what holds of a gate's line by a rule of lines holds of the gate

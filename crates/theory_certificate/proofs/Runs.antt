@@ -1,5 +1,5 @@
 -- All moves of a certificate: its gates are of listed cells, and each output's net has the output's value and its own arrivals.
-use Rattle.base.specs.{ℕ, ◌<◌, arith, ◌≡◌, refl, sym, ◌∙◌, ap, ap₂, subst, Bool, false, ◌&&◌, some, List, [], ◌∷◌, ◌++◌, map, Memᴰ, Memᴰ-head}
+use Rattle.base.specs.{ℕ, ◌<◌, arith, ◌≡◌, refl, sym, ◌∙◌, ap, ap₂, subst, Bool, false, ◌&&◌, Some, List, [], ◌∷◌, ◌++◌, map, Memᴰ, Memᴰ-head}
 use Rattle.base.specs.{Memᴰ-tail, ⊎_elim, Memᴰ-not-nil, Memᴰ-append_cases, Memᴰ-eq_of_singleton, Memᴰ-append_left, eqb, leb, eqb→eq}
 use Rattle.base.specs.{length, get_or, set, and_yes}
 use Rattle.model.specs.{and_then, only, literal, literal_value, GraphValues}
@@ -50,14 +50,14 @@ gains_listed cells s t (gate y h e) so x m =
 -- ---- all moves
 
 module _ (capacity : HasCapacity) (cells : List Cell) (g : Graph) where
-  run-kept : (ms : List Move) (s t : State) → run capacity cells g s ms ≡ some t → (x : Made) → Memᴰ x s.gates → Memᴰ x t.gates
+  run-kept : (ms : List Move) (s t : State) → run capacity cells g s ms ≡ Some t → (x : Made) → Memᴰ x s.gates → Memᴰ x t.gates
   unfolding run
   run-kept [] s t e x m = subst (λ (y : State). Memᴰ x y.gates) (some-once e) m
   run-kept (k ∷ ms) s t e x m =
       let o = then_out (move capacity cells g s k) (λ y. run capacity cells g y ms) t e in
       run-kept ms o.0 t o.2 x (gains_kept cells s o.0 (step_gains cells g s o.0 (move_step capacity cells g s o.0 k o.1)) x m)
 
-  pub run-listed : (ms : List Move) (s t : State) → run capacity cells g s ms ≡ some t → ((x : Made) → Memᴰ x s.gates → Listed cells x)
+  pub run-listed : (ms : List Move) (s t : State) → run capacity cells g s ms ≡ Some t → ((x : Made) → Memᴰ x s.gates → Listed cells x)
       → (x : Made) → Memᴰ x t.gates → Listed cells x
   unfolding run
   run-listed [] s t e so x m = so x (subst (λ (y : State). Memᴰ x y.gates) (sym (some-once e)) m)
@@ -66,7 +66,7 @@ module _ (capacity : HasCapacity) (cells : List Cell) (g : Graph) where
       run-listed ms o.0 t o.2 (gains_listed cells s o.0 (step_gains cells g s o.0 (move_step capacity cells g s o.0 k o.1)) so) x m
 
   run-right : (assignment v : ℕ → Bool) → GraphValues g assignment v → (w : ℕ → Bool) (high low : ℕ → ℕ) (ms : List Move) (s t : State) → Right v w high low s
-      → run capacity cells g s ms ≡ some t → ((x : Made) → Memᴰ x t.gates → Obeys cells w high low x) → Right v w high low t
+      → run capacity cells g s ms ≡ Some t → ((x : Made) → Memᴰ x t.gates → Obeys cells w high low x) → Right v w high low t
   unfolding run
   run-right assignment v is_value w high low [] s t so e rules = subst (Right v w high low) (some-once e) so
   run-right assignment v is_value w high low (k ∷ ms) s t so e rules =
@@ -87,7 +87,7 @@ input_state input_arrival s u = record {
   driven = set s.driven (literal false u) 1;
 }
 
-pub input-step : (capacity : HasCapacity) (input_arrival : ℕ → ℕ) (s : State) (u : ℕ) (t : State) → with_input capacity input_arrival s u ≡ some t
+pub input-step : (capacity : HasCapacity) (input_arrival : ℕ → ℕ) (s : State) (u : ℕ) (t : State) → with_input capacity input_arrival s u ≡ Some t
     → (get_or s.driven (literal false u) 1 ≡ 0) × (input_state input_arrival s u ≡ t)
 unfolding with_input
 input-step capacity input_arrival s u t q =
@@ -107,7 +107,7 @@ pub record Given (v w : ℕ → Bool) (input_arrival high low : ℕ → ℕ) (u 
   pub lowest : input_arrival u ≡ low (literal false u)
 
 module _ (capacity : HasCapacity) (input_arrival : ℕ → ℕ) (v w : ℕ → Bool) (high low : ℕ → ℕ) where
-  started-right : (us : List ℕ) (s t : State) → started capacity input_arrival s us ≡ some t → ((u : ℕ) → Memᴰ u us → Given v w input_arrival high low u)
+  started-right : (us : List ℕ) (s t : State) → started capacity input_arrival s us ≡ Some t → ((u : ℕ) → Memᴰ u us → Given v w input_arrival high low u)
       → Right v w high low s → Right v w high low t
   unfolding started row
   started-right [] s t e h so = subst (Right v w high low) (some-once e) so
@@ -126,7 +126,7 @@ module _ (capacity : HasCapacity) (input_arrival : ℕ → ℕ) (v w : ℕ → B
         equals = so.equals;
       }
 
-started-gates : (capacity : HasCapacity) (input_arrival : ℕ → ℕ) (us : List ℕ) (s t : State) → started capacity input_arrival s us ≡ some t → s.gates ≡ t.gates
+started-gates : (capacity : HasCapacity) (input_arrival : ℕ → ℕ) (us : List ℕ) (s t : State) → started capacity input_arrival s us ≡ Some t → s.gates ≡ t.gates
 unfolding started
 started-gates capacity input_arrival [] s t e = ap gates_of (some-once e)
 started-gates capacity input_arrival (u ∷ us) s t e =
@@ -139,14 +139,14 @@ pub record OutRows (facts : List Row) (ls : List ℕ) (es : List Row) : Type 0 w
   pub known : (e : Row) → Memᴰ e es → Memᴰ e facts
   pub are : map (λ (e : Row). e.b) es ≡ ls
 
-pub out_rows_lem : (facts : List Row) (is ls : List ℕ) (es : List Row) → out_rows facts is ls ≡ some es → OutRows facts ls es
+pub out_rows_lem : (facts : List Row) (is ls : List ℕ) (es : List Row) → out_rows facts is ls ≡ Some es → OutRows facts ls es
 unfolding out_rows out_row
 out_rows_lem facts [] [] es e = subst (OutRows facts []) (some-once e) (record { known = λ x m. absurd (Memᴰ-not-nil m); are = refl })
 out_rows_lem facts [] (l ∷ ls) es e = absurd (let z : ◌≡◌ {A = ℕ} 0 1 = cc in omega arith)
 out_rows_lem facts (i ∷ is) [] es e = absurd (let z : ◌≡◌ {A = ℕ} 0 1 = cc in omega arith)
 out_rows_lem facts (i ∷ is) (l ∷ ls) es e =
-    let o = then_out (out_row facts i l) (λ x. and_then (out_rows facts is ls) (λ xs. some (x ∷ xs))) es e in
-    let p = then_out (out_rows facts is ls) (λ xs. some (o.0 ∷ xs)) es o.2 in
+    let o = then_out (out_row facts i l) (λ x. and_then (out_rows facts is ls) (λ xs. Some (x ∷ xs))) es e in
+    let p = then_out (out_rows facts is ls) (λ xs. Some (o.0 ∷ xs)) es o.2 in
     let q = then_out (at facts i) (λ x. only (eqb x.b l) x) o.0 o.1 in
     let h = only_out (eqb q.0.b l) q.0 o.0 q.2 in
     let rest = out_rows_lem facts is ls p.0 p.1 in
@@ -165,18 +165,18 @@ out_rows_lem facts (i ∷ is) (l ∷ ls) es e =
 pub record Certified (nets : ℕ) (capacity : HasCapacity) (cells : List Cell) (g : Graph) (ms : List Move) (is : List ℕ) (o : Outcome) : Type 0 where
   pub first : State
   pub last : State
-  pub starts : started capacity g.input_arrival (start nets) g.inputs ≡ some first
-  pub runs : run capacity cells g first ms ≡ some last
+  pub starts : started capacity g.input_arrival (start nets) g.inputs ≡ Some first
+  pub runs : run capacity cells g first ms ≡ Some last
   pub outs : OutRows last.facts g.outputs o.outs
   pub gates : last.gates ≡ o.gates
 
-pub certified : (nets : ℕ) (capacity : HasCapacity) (cells : List Cell) (g : Graph) (ms : List Move) (is : List ℕ) (o : Outcome) → certify nets capacity cells g ms is ≡ some o
+pub certified : (nets : ℕ) (capacity : HasCapacity) (cells : List Cell) (g : Graph) (ms : List Move) (is : List ℕ) (o : Outcome) → certify nets capacity cells g ms is ≡ Some o
     → Certified nets capacity cells g ms is o
 unfolding certify
 certified nets capacity cells g ms is o e =
-    let a = then_out (started capacity g.input_arrival (start nets) g.inputs) (λ s. and_then (run capacity cells g s ms) (λ t. and_then (out_rows t.facts is g.outputs) (λ es. some (record { gates = t.gates; outs = es })))) o e in
-    let b = then_out (run capacity cells g a.0 ms) (λ t. and_then (out_rows t.facts is g.outputs) (λ es. some (record { gates = t.gates; outs = es }))) o a.2 in
-    let c = then_out (out_rows b.0.facts is g.outputs) (λ es. some (record { gates = b.0.gates; outs = es })) o b.2 in
+    let a = then_out (started capacity g.input_arrival (start nets) g.inputs) (λ s. and_then (run capacity cells g s ms) (λ t. and_then (out_rows t.facts is g.outputs) (λ es. Some (record { gates = t.gates; outs = es })))) o e in
+    let b = then_out (run capacity cells g a.0 ms) (λ t. and_then (out_rows t.facts is g.outputs) (λ es. Some (record { gates = t.gates; outs = es }))) o a.2 in
+    let c = then_out (out_rows b.0.facts is g.outputs) (λ es. Some (record { gates = b.0.gates; outs = es })) o b.2 in
     let q : record { gates = b.0.gates; outs = c.0 } ≡ o = some-once c.2 in
     record {
       first = a.0;

@@ -1,5 +1,5 @@
 -- What a move asked for where it was made, and what it left.
-use Rattle.base.specs.{ℕ, zero, suc, ◌<◌, arith, ◌≡◌, sym, ◌∙◌, ap, ap₂, subst, Bool, true, false, cond, ◌&&◌, Option, none, some}
+use Rattle.base.specs.{ℕ, zero, suc, ◌<◌, arith, ◌≡◌, sym, ◌∙◌, ap, ap₂, subst, Bool, true, false, cond, ◌&&◌, Option, Some}
 use Rattle.base.specs.{List, [], ◌∷◌, ◌++◌, map, Memᴰ, Memᴰ-head, Memᴰ-tail, Memᴰ-not-nil, T, eqb, ltb, leb, eqb→eq, ltb→lt, length, get_or}
 use Rattle.base.specs.{take, and_yes, yes_ltb}
 use Rattle.model.specs.{and_then, only, var_of, negated, cell_at, And, latest}
@@ -14,18 +14,18 @@ use Rattle.certificate_model.specs.{Made, Move, HasCapacity, State, add, again, 
 use Rattle.certificate_model.specs.{feed_tables, fed_at, fold, gate_at, gate_row, gate_table, lit_table, made_of, move, no_made, no_row, phased, pin, pin_nets, push}
 use Rattle.certificate_model.specs.{push_equal, push_fact, push_net, push_var, row, same_row, with_gate}
 
-pub some-once : {A : Type 0} {a b : A} → ◌≡◌ {A = Option A} (some a) (some b) → a ≡ b
+pub some-once : {A : Type 0} {a b : A} → ◌≡◌ {A = Option A} (Some a) (Some b) → a ≡ b
 some-once e = cc
 
 -- ---- rows
 
-pub at_in : (rows : List Row) (i : ℕ) (e : Row) → at rows i ≡ some e → Memᴰ e rows
+pub at_in : (rows : List Row) (i : ℕ) (e : Row) → at rows i ≡ Some e → Memᴰ e rows
 unfolding at
 at_in rows i e q =
     let o = only_out (ltb i (length rows)) (get_or rows i no_row) e q in
     subst (λ (x : Row). Memᴰ x rows) o.1 (get_or_in rows i no_row (ltb→lt i (length rows) o.0))
 
-pub push-is : (capacity : ℕ) (rows : List Row) (e : Row) (rs : List Row) → push capacity rows e ≡ some rs → rows ++ (e ∷ []) ≡ rs
+pub push-is : (capacity : ℕ) (rows : List Row) (e : Row) (rs : List Row) → push capacity rows e ≡ Some rs → rows ++ (e ∷ []) ≡ rs
 unfolding push
 push-is capacity rows e rs q = (only_out (ltb (length rows) capacity) (rows ++ (e ∷ [])) rs q).1
 
@@ -48,7 +48,7 @@ pub record Tabled (vars : List Row) (l t : ℕ) : Type 0 where
   pub is_var : by.a ≡ var_of l
   pub is_table : phased (negated l) by.b ≡ t
 
-lit_tabled : (vars : List Row) (i l t : ℕ) → lit_table vars i l ≡ some t → Tabled vars l t
+lit_tabled : (vars : List Row) (i l t : ℕ) → lit_table vars i l ≡ Some t → Tabled vars l t
 unfolding lit_table
 lit_tabled vars i l t q =
     let o = then_out (at vars i) (λ e. only (eqb e.a (var_of l)) (phased (negated l) e.b)) t q in
@@ -67,26 +67,26 @@ take_all P (suc n) [] h e m = absurd (Memᴰ-not-nil m)
 take_all P (suc n) (x ∷ xs) h e (Memᴰ-head q) = subst P (sym q) (h 0 (omega arith) (omega arith))
 take_all P (suc n) (x ∷ xs) h e (Memᴰ-tail m) = take_all P n xs (λ j a b. h (suc j) (omega arith) (omega arith)) e m
 
-fed_in : (nets : List Row) (pins j i : ℕ) (e : Row) → fed_at nets pins j i ≡ some e → j < pins → Memᴰ e nets
+fed_in : (nets : List Row) (pins j i : ℕ) (e : Row) → fed_at nets pins j i ≡ Some e → j < pins → Memᴰ e nets
 unfolding fed_at
 fed_in nets pins j i e q h =
-    at_in nets i e (sym (ap (λ (b : Bool). cond b (at nets i) (some no_row)) (is_true (ltb j pins) (yes_ltb h))) ∙ q)
+    at_in nets i e (sym (ap (λ (b : Bool). cond b (at nets i) (Some no_row)) (is_true (ltb j pins) (yes_ltb h))) ∙ q)
 
 -- every row of a gate's pins is one of the block's nets
 abbrev pub Fed : List Row → ℕ → Feed → Type 0
 Fed nets pins f = (e : Row) → Memᴰ e (rows_of pins f) → Memᴰ e nets
 
-feed_in : (nets : List Row) (pins : ℕ) (slots : Row) (f : Feed) → feed_rows nets pins slots ≡ some f → Fed nets pins f
+feed_in : (nets : List Row) (pins : ℕ) (slots : Row) (f : Feed) → feed_rows nets pins slots ≡ Some f → Fed nets pins f
 unfolding feed_rows
 feed_in nets pins slots f q =
     let o = then_out (fed_at nets pins 0 slots.a) (λ x.
     and_then (fed_at nets pins 1 slots.b) (λ y. and_then (fed_at nets pins 2 slots.c) (λ z.
-    and_then (fed_at nets pins 3 slots.d) (λ t. some (record { first = x; second = y; third = z; fourth = t }))))) f q in
+    and_then (fed_at nets pins 3 slots.d) (λ t. Some (record { first = x; second = y; third = z; fourth = t }))))) f q in
     let p = then_out (fed_at nets pins 1 slots.b) (λ y. and_then (fed_at nets pins 2 slots.c) (λ z.
-    and_then (fed_at nets pins 3 slots.d) (λ t. some (record { first = o.0; second = y; third = z; fourth = t })))) f o.2 in
+    and_then (fed_at nets pins 3 slots.d) (λ t. Some (record { first = o.0; second = y; third = z; fourth = t })))) f o.2 in
     let r = then_out (fed_at nets pins 2 slots.c) (λ z.
-    and_then (fed_at nets pins 3 slots.d) (λ t. some (record { first = o.0; second = p.0; third = z; fourth = t }))) f p.2 in
-    let s = then_out (fed_at nets pins 3 slots.d) (λ t. some (record { first = o.0; second = p.0; third = r.0; fourth = t })) f r.2 in
+    and_then (fed_at nets pins 3 slots.d) (λ t. Some (record { first = o.0; second = p.0; third = z; fourth = t }))) f p.2 in
+    let s = then_out (fed_at nets pins 3 slots.d) (λ t. Some (record { first = o.0; second = p.0; third = r.0; fourth = t })) f r.2 in
     let is : record { first = o.0; second = p.0; third = r.0; fourth = s.0 } ≡ f = some-once s.2 in
     subst (Fed nets pins) is (take_all (λ e. Memᴰ e nets) pins (o.0 ∷ p.0 ∷ r.0 ∷ s.0 ∷ [])
     (each_of (fed_in nets pins 0 slots.a o.0 o.1) (fed_in nets pins 1 slots.b p.0 p.1)
@@ -112,7 +112,7 @@ pub pins-fed : (pins : ℕ) (f : Feed) → map (λ (x : Row). x.a) (rows_of pins
 unfolding pin_nets feed_pins row
 pins-fed pins f = map-take (λ (x : Row). x.a) pins (f.first ∷ f.second ∷ f.third ∷ f.fourth ∷ [])
 
-row-drives : (c : Cell) (n : ℕ) (f : Feed) (e : Row) → gate_row c n f ≡ some e → Drives c n f e
+row-drives : (c : Cell) (n : ℕ) (f : Feed) (e : Row) → gate_row c n f ≡ Some e → Drives c n f e
 unfolding gate_row row pin_nets feed_tables feed_arrivals
 row-drives c n f e q =
     let rows : List Row = f.first ∷ f.second ∷ f.third ∷ f.fourth ∷ [] in
@@ -143,28 +143,28 @@ with_equals s es = record { vars = s.vars; nets = s.nets; facts = s.facts; equal
 abbrev pub in_block : State → Row → State
 in_block s x = record { vars = block_vars x; nets = []; facts = s.facts; equals = s.equals; gates = s.gates; driven = s.driven }
 
-var-pushed : (s : State) (u t : ℕ) (r : State) → push_var s u t ≡ some r → with_vars s (s.vars ++ (row u t 0 0 ∷ [])) ≡ r
+var-pushed : (s : State) (u t : ℕ) (r : State) → push_var s u t ≡ Some r → with_vars s (s.vars ++ (row u t 0 0 ∷ [])) ≡ r
 unfolding push_var
 var-pushed s u t r q =
-    let o = then_out (push 64 s.vars (row u t 0 0)) (λ vs. some (with_vars s vs)) r q in
+    let o = then_out (push 64 s.vars (row u t 0 0)) (λ vs. Some (with_vars s vs)) r q in
     ap (with_vars s) (push-is 64 s.vars (row u t 0 0) o.0 o.1) ∙ some-once o.2
 
-net-pushed : (s : State) (e : Row) (r : State) → push_net s e ≡ some r → with_nets s (s.nets ++ (e ∷ [])) ≡ r
+net-pushed : (s : State) (e : Row) (r : State) → push_net s e ≡ Some r → with_nets s (s.nets ++ (e ∷ [])) ≡ r
 unfolding push_net
 net-pushed s e r q =
-    let o = then_out (push 64 s.nets e) (λ ns. some (with_nets s ns)) r q in
+    let o = then_out (push 64 s.nets e) (λ ns. Some (with_nets s ns)) r q in
     ap (with_nets s) (push-is 64 s.nets e o.0 o.1) ∙ some-once o.2
 
-pub fact_pushed : (capacity : HasCapacity) (s : State) (e : Row) (r : State) → push_fact capacity s e ≡ some r → with_facts s (s.facts ++ (e ∷ [])) ≡ r
+pub fact_pushed : (capacity : HasCapacity) (s : State) (e : Row) (r : State) → push_fact capacity s e ≡ Some r → with_facts s (s.facts ++ (e ∷ [])) ≡ r
 unfolding push_fact
 fact_pushed capacity s e r q =
-    let o = then_out (push capacity.facts s.facts e) (λ fs. some (with_facts s fs)) r q in
+    let o = then_out (push capacity.facts s.facts e) (λ fs. Some (with_facts s fs)) r q in
     ap (with_facts s) (push-is capacity.facts s.facts e o.0 o.1) ∙ some-once o.2
 
-equal-pushed : (capacity : HasCapacity) (s : State) (e : Row) (r : State) → push_equal capacity s e ≡ some r → with_equals s (s.equals ++ (e ∷ [])) ≡ r
+equal-pushed : (capacity : HasCapacity) (s : State) (e : Row) (r : State) → push_equal capacity s e ≡ Some r → with_equals s (s.equals ++ (e ∷ [])) ≡ r
 unfolding push_equal
 equal-pushed capacity s e r q =
-    let o = then_out (push capacity.equals s.equals e) (λ es. some (with_equals s es)) r q in
+    let o = then_out (push capacity.equals s.equals e) (λ es. Some (with_equals s es)) r q in
     ap (with_equals s) (push-is capacity.equals s.equals e o.0 o.1) ∙ some-once o.2
 
 -- ---- the moves
@@ -183,14 +183,14 @@ pub data Step (cells : List Cell) (g : Graph) (s t : State) : Type 0 where
   stated : (e : Row) (l a : ℕ) → Memᴰ e s.nets → Tabled s.vars l a → e.b ≡ a → with_facts s (s.facts ++ (row e.a l e.c e.d ∷ [])) ≡ t → Step cells g s t
   folded : (e : Row) (l a : ℕ) → Memᴰ e s.vars → Tabled s.vars l a → e.b ≡ a → with_equals s (s.equals ++ (row e.a l 0 0 ∷ [])) ≡ t → Step cells g s t
 
-and_in : (xs : List And) (i : ℕ) (x : And) → and_at xs i ≡ some x → Memᴰ x xs
+and_in : (xs : List And) (i : ℕ) (x : And) → and_at xs i ≡ Some x → Memᴰ x xs
 unfolding and_at
 and_in xs i x q =
     let none : And = record { var = 0; left = 0; right = 0 } in
     let o = only_out (ltb i (length xs)) (get_or xs i none) x q in
     subst (λ (y : And). Memᴰ y xs) o.1 (get_or_in xs i none (ltb→lt i (length xs) o.0))
 
-gate_in_lem : (xs : List Made) (i : ℕ) (x : Made) → gate_at xs i ≡ some x → Memᴰ x xs
+gate_in_lem : (xs : List Made) (i : ℕ) (x : Made) → gate_at xs i ≡ Some x → Memᴰ x xs
 unfolding gate_at
 gate_in_lem xs i x q =
     let o = only_out (ltb i (length xs)) (get_or xs i no_made) x q in
@@ -199,11 +199,11 @@ gate_in_lem xs i x q =
 -- each move by itself
 
 module _ (capacity : HasCapacity) (cells : List Cell) (g : Graph) (s t : State) where
-  block-step : (x : Row) → move capacity cells g s (block x) ≡ some t → Step cells g s t
+  block-step : (x : Row) → move capacity cells g s (block x) ≡ Some t → Step cells g s t
   unfolding move with_gate
   block-step x q = opened x (some-once q)
 
-  and_step : (i j k : ℕ) → move capacity cells g s (and i j k) ≡ some t → Step cells g s t
+  and_step : (i j k : ℕ) → move capacity cells g s (and i j k) ≡ Some t → Step cells g s t
   unfolding move with_gate
   and_step i j k q =
       let o = then_out (and_at g.ands i) (λ x. and_then (lit_table s.vars j x.left) (λ a. and_then (lit_table s.vars k x.right) (λ b. push_var s x.var (conj a b)))) t q in
@@ -212,21 +212,21 @@ module _ (capacity : HasCapacity) (cells : List Cell) (g : Graph) (s t : State) 
       joined o.0 p.0 r.0 (and_in g.ands i o.0 o.1) (lit_tabled s.vars j o.0.left p.0 p.1)
       (lit_tabled s.vars k o.0.right r.0 r.1) (var-pushed s o.0.var (conj p.0 r.0) t r.2)
 
-  alias-step : (i j : ℕ) → move capacity cells g s (alias i j) ≡ some t → Step cells g s t
+  alias-step : (i j : ℕ) → move capacity cells g s (alias i j) ≡ Some t → Step cells g s t
   unfolding move with_gate
   alias-step i j q =
       let o = then_out (at s.equals i) (λ e. and_then (lit_table s.vars j e.b) (λ a. push_var s e.a a)) t q in
       let p = then_out (lit_table s.vars j o.0.b) (λ a. push_var s o.0.a a) t o.2 in
       aliased o.0 p.0 (at_in s.equals i o.0 o.1) (lit_tabled s.vars j o.0.b p.0 p.1) (var-pushed s o.0.a p.0 t p.2)
 
-  pin-step : (i j : ℕ) → move capacity cells g s (pin i j) ≡ some t → Step cells g s t
+  pin-step : (i j : ℕ) → move capacity cells g s (pin i j) ≡ Some t → Step cells g s t
   unfolding move with_gate
   pin-step i j q =
       let o = then_out (at s.facts i) (λ e. and_then (lit_table s.vars j e.b) (λ a. push_net s (row e.a a e.c e.d))) t q in
       let p = then_out (lit_table s.vars j o.0.b) (λ a. push_net s (row o.0.a a o.0.c o.0.d)) t o.2 in
       pinned o.0 p.0 (at_in s.facts i o.0 o.1) (lit_tabled s.vars j o.0.b p.0 p.1) (net-pushed s (row o.0.a p.0 o.0.c o.0.d) t p.2)
 
-  add_step : (line n : ℕ) (slots : Row) → move capacity cells g s (add line n slots) ≡ some t → Step cells g s t
+  add_step : (line n : ℕ) (slots : Row) → move capacity cells g s (add line n slots) ≡ Some t → Step cells g s t
   unfolding move with_gate
   add_step line n slots q =
       let free : Bool = eqb (get_or s.driven n 1) 0 && ltb (length s.gates) capacity.gates in
@@ -240,7 +240,7 @@ module _ (capacity : HasCapacity) (cells : List Cell) (g : Graph) (s t : State) 
       (subst (λ (c : Cell). Fed s.nets c.pins p.0) (sym h.1) (feed_in s.nets o.0.pins slots p.0 p.1))
       (subst (λ (c : Cell). Drives c n p.0 r.0) (sym h.1) (row-drives o.0 n p.0 r.0 r.1)) (net-pushed (with_gate s (made_of n line p.0)) r.0 t r.2)
 
-  again-step : (k : ℕ) (slots : Row) → move capacity cells g s (again k slots) ≡ some t → Step cells g s t
+  again-step : (k : ℕ) (slots : Row) → move capacity cells g s (again k slots) ≡ Some t → Step cells g s t
   unfolding move with_gate
   again-step k slots q =
       let o = then_out (gate_at s.gates k) (λ x. and_then (feed_rows s.nets (cell_at cells x.gate.b).pins slots) (λ f. and_then (only (same_row (feed_pins f) x.fed) f) (λ h.
@@ -251,9 +251,9 @@ module _ (capacity : HasCapacity) (cells : List Cell) (g : Graph) (s t : State) 
       let h = only_out (same_row (feed_pins p.0) o.0.fed) p.0 r.0 r.1 in
       let d = then_out (gate_row c o.0.gate.a r.0) (push_net s) t r.2 in
       repeated o.0 p.0 d.0 (gate_in_lem s.gates k o.0 o.1) (feed_in s.nets c.pins slots p.0 p.1) (same_row_lem (feed_pins p.0) o.0.fed h.0)
-      (row-drives c o.0.gate.a p.0 d.0 (subst (λ (f : Feed). gate_row c o.0.gate.a f ≡ some d.0) (sym h.1) d.1)) (net-pushed s d.0 t d.2)
+      (row-drives c o.0.gate.a p.0 d.0 (subst (λ (f : Feed). gate_row c o.0.gate.a f ≡ Some d.0) (sym h.1) d.1)) (net-pushed s d.0 t d.2)
 
-  done-step : (i j l : ℕ) → move capacity cells g s (done i j l) ≡ some t → Step cells g s t
+  done-step : (i j l : ℕ) → move capacity cells g s (done i j l) ≡ Some t → Step cells g s t
   unfolding move with_gate
   done-step i j l q =
       let o = then_out (at s.nets i) (λ e. and_then (lit_table s.vars j l) (λ a. and_then (only (eqb e.b a) (row e.a l e.c e.d)) (push_fact capacity s))) t q in
@@ -264,7 +264,7 @@ module _ (capacity : HasCapacity) (cells : List Cell) (g : Graph) (s t : State) 
       stated o.0 l p.0 (at_in s.nets i o.0 o.1) (lit_tabled s.vars j l p.0 p.1) (eqb→eq o.0.b p.0 h.0)
       (ap (λ (x : Row). with_facts s (s.facts ++ (x ∷ []))) h.1 ∙ fact_pushed capacity s r.0 t r.2)
 
-  fold_step : (i j l : ℕ) → move capacity cells g s (fold i j l) ≡ some t → Step cells g s t
+  fold_step : (i j l : ℕ) → move capacity cells g s (fold i j l) ≡ Some t → Step cells g s t
   unfolding move with_gate
   fold_step i j l q =
       let o = then_out (at s.vars i) (λ e. and_then (lit_table s.vars j l) (λ a. and_then (only (eqb e.b a) (row e.a l 0 0)) (push_equal capacity s))) t q in
@@ -275,7 +275,7 @@ module _ (capacity : HasCapacity) (cells : List Cell) (g : Graph) (s t : State) 
       folded o.0 l p.0 (at_in s.vars i o.0 o.1) (lit_tabled s.vars j l p.0 p.1) (eqb→eq o.0.b p.0 h.0)
       (ap (λ (x : Row). with_equals s (s.equals ++ (x ∷ []))) h.1 ∙ equal-pushed capacity s r.0 t r.2)
 
-pub move_step : (capacity : HasCapacity) (cells : List Cell) (g : Graph) (s t : State) (m : Move) → move capacity cells g s m ≡ some t → Step cells g s t
+pub move_step : (capacity : HasCapacity) (cells : List Cell) (g : Graph) (s t : State) (m : Move) → move capacity cells g s m ≡ Some t → Step cells g s t
 move_step capacity cells g s t (block x) = block-step capacity cells g s t x
 move_step capacity cells g s t (and i j k) = and_step capacity cells g s t i j k
 move_step capacity cells g s t (alias i j) = alias-step capacity cells g s t i j

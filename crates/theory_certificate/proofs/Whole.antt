@@ -1,5 +1,5 @@
 -- All that is promised of what a certificate makes, for every graph, size and certificate.
-use Rattle.base.specs.{ℕ, ◌≡◌, Bool, some, List, Memᴰ, T}
+use Rattle.base.specs.{ℕ, ◌≡◌, Bool, Some, List, Memᴰ, T}
 use Rattle.model.specs.{no_lower}
 use Rattle.model.specs.Graph.{Graph}
 use Rattle.model.specs.declared.Cell.{Cell}
@@ -13,7 +13,7 @@ use Rattle.theory_certificate.proofs.Ranks.{ranked_values}
 use Rattle.theory_certificate.proofs.Figures.{certified_figures}
 use Rattle.theory_certificate.proofs.CertificateRanges.{says-times, within-ranges}
 
-pub certified_proved : (nets : ℕ) (capacity : HasCapacity) (cells : List Cell) (g : Graph) (ms : List Move) (is : List ℕ) (o : Outcome) → certify nets capacity cells g ms is ≡ some o
+pub certified_proved : (nets : ℕ) (capacity : HasCapacity) (cells : List Cell) (g : Graph) (ms : List Move) (is : List ℕ) (o : Outcome) → certify nets capacity cells g ms is ≡ Some o
     → T (library_fits cells) → ((c : Cell) → Memᴰ c cells → T (no_lower c.mins c.delays)) → (places ranks : List ℕ) → T (is_acyclic places ranks g)
     → (ranged : Bool) → Proved ranged cells g (printed_text ranged cells g o) (figures_by cells o)
 unfolding printed_text

@@ -1,5 +1,5 @@
 -- A check is refused exactly by the conditions, in checking order, and reads what they say: for every library, graph, netlist and number of lent words.
-use Rattle.base.specs.{ℕ, ◌+◌, ◌*◌, ◌≤◌, arith, ◌≡◌, refl, sym, ◌∙◌, ap, subst, ◌⊎◌, inl, inr, ◌↔◌, ⊎_elim, ◌&&◌, none, some, List}
+use Rattle.base.specs.{ℕ, ◌+◌, ◌*◌, ◌≤◌, arith, ◌≡◌, refl, sym, ◌∙◌, ap, subst, ◌⊎◌, inl, inr, ◌↔◌, ⊎_elim, ◌&&◌, None, Some, List}
 use Rattle.base.specs.{◌∷◌, ◌++◌, T, leb, length, drop, length-append, and_yes, yes_and, leb_yes, yes_leb}
 use Rattle.model.specs.{lowest, need, unordered, and_vars, Read, holds, next, unless, read_library, read_header, read_graph, Driver, Edited}
 use Rattle.model.specs.{input_nets, line_ends, read_netlist, validate_nets, unless_at, read_edited, OrderOfAll}
@@ -35,12 +35,12 @@ nets-only g r = inputs-only r
 -- ---- 15
 
 module _ (g : Graph) (once : T (distinct (0 ∷ g.inputs ++ and_vars g))) where
-  unordered-some : (v : ℕ) → (lowest (unordered g) ≡ some v) ↔ LowestUnordered g v
+  unordered-some : (v : ℕ) → (lowest (unordered g) ≡ Some v) ↔ LowestUnordered g v
   unordered-some v =
       let i = unordered-lowest_iff g once v in
       ((λ e. let p = i.0 e in record { is_and = p.0; no_order = p.1; lower = p.2 }), λ l. i.1 (l.is_and, l.no_order, l.lower))
 
-  unordered-not : (lowest (unordered g) ≡ none) ↔ OrderOfAll g
+  unordered-not : (lowest (unordered g) ≡ None) ↔ OrderOfAll g
   unordered-not = (
     (λ e. (unordered-none_iff g once).0 (none_in (unordered g) (λ v m. lowest-none (unordered g) e v m))),
     λ o.

@@ -1,5 +1,5 @@
 -- An edited netlist is read exactly where its lines are those that are expected, and 32 comes exactly by its condition, for listed cells of different names.
-use Rattle.base.specs.{ℕ, ◌+◌, arith, ◌≡◌, refl, sym, ◌∙◌, ap, subst, Option, none, some, List, [], ◌∷◌, ◌++◌, append-nil, append_assoc, T}
+use Rattle.base.specs.{ℕ, ◌+◌, arith, ◌≡◌, refl, sym, ◌∙◌, ap, subst, Option, None, Some, List, [], ◌∷◌, ◌++◌, append-nil, append_assoc, T}
 use Rattle.base.specs.{length, length-append}
 use Rattle.model.specs.{Line, lines_from, holds, fault, Driver, read_netlist}
 use Rattle.model.specs.Graph.{Graph}
@@ -15,7 +15,7 @@ use Rattle.promises.specs.CheckRefusals.{thirty_two, Netlists}
 use Rattle.theory_check.proofs.CheckSteps.{line_step, reads-step}
 use Rattle.theory_check.proofs.CheckRun.{left, goes_on, stops, ends, finished, finished?, netlist-left}
 
-none-some : {d : Expected} → ◌≡◌ {A = Option Expected} none (some d) → ⊥
+none-some : {d : Expected} → ◌≡◌ {A = Option Expected} None (Some d) → ⊥
 none-some e = let z : ◌≡◌ {A = ℕ} 0 1 = cc in omega arith
 
 module _ (cells : List Cell) (g : Graph) (fits : T (library_fits cells)) where

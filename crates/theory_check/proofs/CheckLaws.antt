@@ -1,5 +1,5 @@
 -- An unrefused netlist: what was read is sound, so the answer is the comparison's.
-use Rattle.base.specs.{ℕ, ◌+◌, ◌*◌, ◌<◌, ◌≡◌, refl, sym, ◌∙◌, ap, subst, Bool, true, false, ◌&&◌, true≢false, Option, none, some, List, []}
+use Rattle.base.specs.{ℕ, ◌+◌, ◌*◌, ◌<◌, ◌≡◌, refl, sym, ◌∙◌, ap, subst, Bool, true, false, ◌&&◌, true≢false, Option, None, Some, List, []}
 use Rattle.base.specs.{◌∷◌, Memᴰ, leb, length}
 use Rattle.model.specs.{lowest, smaller, need, lines_from, holds, literal, var_of, unordered, order_from, topological_order, read_library, read_header}
 use Rattle.model.specs.{read_graph, net_name, out_name, Driver, Edited, line_ends, read_netlist, validate_nets, input_nets, preamble_of, past_lines}
@@ -14,18 +14,18 @@ use Rattle.theory_check.proofs.NetVerdicts.{unless-none, nets-validated, drivers
 use Rattle.theory_check.proofs.NetlistMeaning.{netlist-means}
 
 is_some : Option ℕ → Bool
-is_some none = false
-is_some (some k) = true
+is_some None = false
+is_some (Some k) = true
 
 -- all are ordered where there is no lowest that is not
-pub all-ordered : (vs : List ℕ) → lowest vs ≡ none → vs ≡ []
+pub all-ordered : (vs : List ℕ) → lowest vs ≡ None → vs ≡ []
 unfolding lowest
 all-ordered [] e = refl
 all-ordered (v ∷ vs) e = absurd (go (lowest vs) e)
   where
-    go : (o : Option ℕ) → ¬ (smaller v o ≡ none)
-    go none q = true≢false (unfold smaller is_some in ap is_some q)
-    go (some w) q = true≢false (unfold smaller is_some in ap is_some q)
+    go : (o : Option ℕ) → ¬ (smaller v o ≡ None)
+    go None q = true≢false (unfold smaller is_some in ap is_some q)
+    go (Some w) q = true≢false (unfold smaller is_some in ap is_some q)
 
 pub inputs-once : (g : Graph) → Accepted g → Distinct g.inputs
 unfolding topological_order
@@ -92,7 +92,7 @@ pub edited_equal : (library graph netlist : List ℕ) (words : ℕ) → EqualChe
 edited_equal library graph netlist words e q cells is_cells n is_read =
     let m = edited_meant library graph netlist words e q cells is_cells in
     let c = edited_compared library graph netlist words e q in
-    let one : m.blif ≡ n = let z : some m.blif ≡ some n = sym m.reads ∙ is_read in cc in (
+    let one : m.blif ≡ n = let z : Some m.blif ≡ Some n = sym m.reads ∙ is_read in cc in (
       (λ a assignment v hv w hw k b. c.accepted.0 a assignment k b v hv w ((m.values assignment w).1 (rw one hw))),
       (λ h. c.accepted.1 (λ assignment k b v hv w hw. h assignment v hv w (rw one at ((m.values assignment w).0 hw)) k b)),
     )

@@ -1,7 +1,7 @@
 -- The nets of an edited netlist are validated exactly as the conditions say: a net driven again, then one that no line drives, then a cycle, each at the first such
 -- line.
 use Rattle.base.specs.{ℕ, arith, ◌≡◌, refl, sym, ◌∙◌, ap, ap₂, subst, ◌⊎◌, inl, inr, ◌↔◌, ⊎_elim, Bool, true, false, not, cond, Option}
-use Rattle.base.specs.{none, some, List, [], ◌∷◌, ◌++◌, map-append, append-nil, append_assoc, nil≢cons, head-eq_of_cons-eq}
+use Rattle.base.specs.{None, Some, List, [], ◌∷◌, ◌++◌, map-append, append-nil, append_assoc, nil≢cons, head-eq_of_cons-eq}
 use Rattle.base.specs.{tail-eq_of_cons-eq, Memᴰ, Memᴰ-head, Memᴰ-tail, Memᴰ-not-nil, Memᴰ-append_cases}
 use Rattle.base.specs.{Memᴰ-append_left, Memᴰ-append_right, T, not_T, T_not, or_yes}
 use Rattle.model.specs.{any, Read, holds, fault, Driver, among, first_line, driven_twice, undriven, on_cycle, unless_at, validate_nets}
@@ -19,8 +19,8 @@ use Rattle.theory_check.proofs.NetVerdicts.{twice-none, one-driver}
 -- ---- the first line that passes a test, by the lines before it
 
 unfoldable first_by : (List Driver → Driver → Bool) → List Driver → List Driver → Option ℕ
-first_by p bs [] = none
-first_by p bs (d ∷ ds) = let r = first_by p (bs ++ (d ∷ [])) ds in cond (p bs d) (some d.offset) r
+first_by p bs [] = None
+first_by p bs (d ∷ ds) = let r = first_by p (bs ++ (d ∷ [])) ds in cond (p bs d) (Some d.offset) r
 
 -- it stands behind lines that do not pass
 record Found (p : List Driver → Driver → Bool) (bs ds : List Driver) (k : ℕ) : Type 0 where
@@ -49,7 +49,7 @@ module _ (p : List Driver → Driver → Bool) where
   none_cons bs x zs n f (w ∷ xs) d ys e t =
       f xs d ys (tail-eq_of_cons-eq e) (subst (λ (y : List Driver). T (p y d)) (ap (λ (z : Driver). bs ++ (z ∷ xs)) (sym (head-eq_of_cons-eq e)) ∙ sym (behind bs x xs)) t)
 
-  found : (bs ds : List Driver) (k : ℕ) → first_by p bs ds ≡ some k → Found p bs ds k
+  found : (bs ds : List Driver) (k : ℕ) → first_by p bs ds ≡ Some k → Found p bs ds k
   unfolding first_by
   found bs [] k e = let z : ◌≡◌ {A = ℕ} 0 1 = cc in absurd (omega arith)
   found bs (d ∷ ds) k e = by_bool (p bs d) (λ q. record {
@@ -72,18 +72,18 @@ module _ (p : List Driver → Driver → Bool) where
     is_place = (found (bs ++ (d ∷ [])) ds k (rw r at e)).is_place;
   })
 
-  unfound : (bs ds : List Driver) → first_by p bs ds ≡ none → Unfound p bs ds
+  unfound : (bs ds : List Driver) → first_by p bs ds ≡ None → Unfound p bs ds
   unfolding first_by
   unfound bs [] e = λ xs d ys z. absurd (no_split xs d ys z)
   unfound bs (x ∷ ds) e = go (p bs x) refl e (unfound (bs ++ (x ∷ [])) ds)
     where
-      go : (b : Bool) → p bs x ≡ b → cond b (some x.offset) (first_by p (bs ++ (x ∷ [])) ds) ≡ none → (first_by p (bs ++ (x ∷ [])) ds ≡ none → Unfound p (bs ++ (x ∷ [])) ds) → Unfound p bs (x ∷ ds)
+      go : (b : Bool) → p bs x ≡ b → cond b (Some x.offset) (first_by p (bs ++ (x ∷ [])) ds) ≡ None → (first_by p (bs ++ (x ∷ [])) ds ≡ None → Unfound p (bs ++ (x ∷ [])) ds) → Unfound p bs (x ∷ ds)
       go true q f later = let z : ◌≡◌ {A = ℕ} 0 1 = cc in absurd (omega arith)
       go false q f later = none_cons bs x ds (λ t. subst T q t) (later f)
 
   skip : (bs : List Driver) (x : Driver) (ds : List Driver) → (¬ T (p bs x)) → first_by p bs (x ∷ ds) ≡ first_by p (bs ++ (x ∷ [])) ds
   unfolding first_by
-  skip bs x ds n = ap (λ (b : Bool). cond b (some x.offset) (first_by p (bs ++ (x ∷ [])) ds)) (is_false (p bs x) (not_T (p bs x) n))
+  skip bs x ds n = ap (λ (b : Bool). cond b (Some x.offset) (first_by p (bs ++ (x ∷ [])) ds)) (is_false (p bs x) (not_T (p bs x) n))
 
   -- lines that do not pass, from the first on
   first_fails : (bs : List Driver) (x : Driver) (zs : List Driver) → Unfound p bs (x ∷ zs) → ¬ T (p bs x)
@@ -92,13 +92,13 @@ module _ (p : List Driver → Driver → Bool) where
   later_fail : (bs : List Driver) (x : Driver) (zs : List Driver) → Unfound p bs (x ∷ zs) → Unfound p (bs ++ (x ∷ [])) zs
   later_fail bs x zs f xs d ys e t = f (x ∷ xs) d ys (ap (λ (y : List Driver). x ∷ y) e) (subst (λ (y : List Driver). T (p y d)) (behind bs x xs) t)
 
-  finds : (bs before : List Driver) (d : Driver) (after : List Driver) → Unfound p bs before → T (p (bs ++ before) d) → first_by p bs (before ++ (d ∷ after)) ≡ some d.offset
+  finds : (bs before : List Driver) (d : Driver) (after : List Driver) → Unfound p bs before → T (p (bs ++ before) d) → first_by p bs (before ++ (d ∷ after)) ≡ Some d.offset
   unfolding first_by
-  finds bs [] d after f t = ap (λ (b : Bool). cond b (some d.offset) (first_by p (bs ++ (d ∷ [])) after)) (is_true (p bs d) (subst (λ (y : List Driver). T (p y d)) (append-nil bs) t))
+  finds bs [] d after f t = ap (λ (b : Bool). cond b (Some d.offset) (first_by p (bs ++ (d ∷ [])) after)) (is_true (p bs d) (subst (λ (y : List Driver). T (p y d)) (append-nil bs) t))
   finds bs (x ∷ before) d after f t = skip bs x (before ++ (d ∷ after)) (first_fails bs x before f)
       ∙ finds (bs ++ (x ∷ [])) before d after (later_fail bs x before f) (rw (behind bs x before) t)
 
-  finds_none : (bs ds : List Driver) → Unfound p bs ds → first_by p bs ds ≡ none
+  finds_none : (bs ds : List Driver) → Unfound p bs ds → first_by p bs ds ≡ None
   unfolding first_by
   finds_none bs [] f = refl
   finds_none bs (x ∷ ds) f = skip bs x ds (first_fails bs x ds f) ∙ finds_none (bs ++ (x ∷ [])) ds (later_fail bs x ds f)
@@ -111,7 +111,7 @@ module _ (P : List Driver → Driver → Type 0) (p : List Driver → Driver →
   within : (before : List Driver) (e : Driver) (after xs : List Driver) (d : Driver) (ys : List Driver) → ds ≡ before ++ (e ∷ after) → before ≡ xs ++ (d ∷ ys) → ds ≡ xs ++ (d ∷ (ys ++ (e ∷ after)))
   within before e after xs d ys a b = a ∙ ap (λ (y : List Driver). y ++ (e ∷ after)) b ∙ append_assoc xs (d ∷ ys) (e ∷ after)
 
-  first_exactly : (k : ℕ) → (first_by p [] ds ≡ some k) ↔ FirstLine P ds k
+  first_exactly : (k : ℕ) → (first_by p [] ds ≡ Some k) ↔ FirstLine P ds k
   first_exactly k = (
     (λ e. let f = found p [] ds k e in record {
       before = f.before;
@@ -132,7 +132,7 @@ module _ (P : List Driver → Driver → Type 0) (p : List Driver → Driver →
     )),
   )
 
-  none_exactly : (first_by p [] ds ≡ none) ↔ NoLine P ds
+  none_exactly : (first_by p [] ds ≡ None) ↔ NoLine P ds
   none_exactly = ((λ e bs d cs z q. unfound p [] ds e bs d cs z (back bs d cs z q)), λ f. finds_none p [] ds (λ bs d cs z t. f bs d cs z (there bs d cs z t)))
 
 -- ---- the three tests
@@ -140,7 +140,7 @@ module _ (P : List Driver → Driver → Type 0) (p : List Driver → Driver →
 line_first : (q : Driver → Bool) (bs ds : List Driver) → first_line q ds ≡ first_by (λ _. q) bs ds
 unfolding first_line first_by
 line_first q bs [] = refl
-line_first q bs (d ∷ ds) = ap (λ (r : Option ℕ). cond (q d) (some d.offset) r) (line_first q (bs ++ (d ∷ [])) ds)
+line_first q bs (d ∷ ds) = ap (λ (r : Option ℕ). cond (q d) (Some d.offset) r) (line_first q (bs ++ (d ∷ [])) ds)
 
 abbrev known : List (List ℕ) → List Driver → Driver → Bool
 known inputs bs d = among d.net (inputs ++ nets_of bs)
@@ -222,26 +222,26 @@ feeds-back (onward d f m u) = through d (feeds-back f) m u
 
 -- ---- a refusal at a line, if there is one
 
-pub exactly_at : {A : Type 0} {H : A → Type 0} {F : ℕ → ℕ → Type 0} (S : ℕ → Type 0) (N : Type 0) (o : Option ℕ) (m : ℕ) (r : Read A) → ((k : ℕ) → (o ≡ some k) ↔ S k) → (o ≡ none) ↔ N → (N → Exactly H F r)
+pub exactly_at : {A : Type 0} {H : A → Type 0} {F : ℕ → ℕ → Type 0} (S : ℕ → Type 0) (N : Type 0) (o : Option ℕ) (m : ℕ) (r : Read A) → ((k : ℕ) → (o ≡ Some k) ↔ S k) → (o ≡ None) ↔ N → (N → Exactly H F r)
     → Exactly (λ a. N × H a) (λ n k. ((n ≡ m) × S k) ⊎ (N × F n k)) (unless_at o m r)
 unfolding unless_at
-exactly_at {A} {H} {F} S N none m r s n e = record {
+exactly_at {A} {H} {F} S N None m r s n e = record {
   accepts = λ a. ((λ q. (n.0 refl, ((e (n.0 refl)).accepts a).0 q)), λ p. ((e (n.0 refl)).accepts a).1 p.1);
   refuses = λ i k. (
     (λ q. inr (n.0 refl, ((e (n.0 refl)).refuses i k).0 q)),
     (λ x. ⊎_elim
-        (λ z. let z : ◌≡◌ {A = Option ℕ} none (some k) = (s k).1 z.1 in let y : ◌≡◌ {A = ℕ} 0 1 = cc in absurd (omega arith))
+        (λ z. let z : ◌≡◌ {A = Option ℕ} None (Some k) = (s k).1 z.1 in let y : ◌≡◌ {A = ℕ} 0 1 = cc in absurd (omega arith))
         (λ w. ((e w.0).refuses i k).1 w.1) x),
   );
 }
-exactly_at {A} {H} {F} S N (some j) m r s n e =
-    let never : ◌≡◌ {A = Option ℕ} (some j) none → ⊥ = λ z. let y : ◌≡◌ {A = ℕ} 0 1 = cc in omega arith in
+exactly_at {A} {H} {F} S N (Some j) m r s n e =
+    let never : ◌≡◌ {A = Option ℕ} (Some j) None → ⊥ = λ z. let y : ◌≡◌ {A = ℕ} 0 1 = cc in omega arith in
     record {
       accepts = λ a. ((λ q. absurd (fault_never q)), λ p. absurd (never (n.1 p.0)));
       refuses = λ i k. (
         (λ x. (in_fault {A = A} (λ x y. ((x ≡ m) × S y) ⊎ (N × F x y)) m j (inl (refl, (s j).0 refl))).has i k x),
         (λ z. ⊎_elim
-            (λ w. let z : some j ≡ some k = (s k).1 w.1 in let y : j ≡ k = cc in ap₂ (λ (u v : ℕ). fault u v) (sym w.0) y)
+            (λ w. let z : Some j ≡ Some k = (s k).1 w.1 in let y : j ≡ k = cc in ap₂ (λ (u v : ℕ). fault u v) (sym w.0) y)
             (λ u. absurd (never (n.1 u.0))) z),
       );
     }
@@ -250,12 +250,12 @@ module _ (inputs : List (List ℕ)) (ds : List Driver) where
   twice-is : driven_twice inputs ds ≡ first_by (known inputs) [] ds
   twice-is = twice-first inputs inputs [] ds (λ n. ((λ m. subst (λ (x : List (List ℕ)). Memᴰ n x) (sym (append-nil inputs)) m), λ m. subst (λ (x : List (List ℕ)). Memᴰ n x) (append-nil inputs) m))
 
-  twice-some : (k : ℕ) → (driven_twice inputs ds ≡ some k) ↔ FirstLine (Again inputs) ds k
+  twice-some : (k : ℕ) → (driven_twice inputs ds ≡ Some k) ↔ FirstLine (Again inputs) ds k
   twice-some k =
       let x = first_exactly (Again inputs) (known inputs) ds (λ bs d cs e t. again_form inputs bs d t) (λ bs d cs e q. again-back inputs bs d q) k in
       ((λ e. x.0 (sym twice-is ∙ e)), λ f. twice-is ∙ x.1 f)
 
-  twice-not : (driven_twice inputs ds ≡ none) ↔ NoLine (Again inputs) ds
+  twice-not : (driven_twice inputs ds ≡ None) ↔ NoLine (Again inputs) ds
   twice-not =
       let x = none_exactly (Again inputs) (known inputs) ds (λ bs d cs e t. again_form inputs bs d t) (λ bs d cs e q. again-back inputs bs d q) in
       ((λ e. x.0 (sym twice-is ∙ e)), λ f. twice-is ∙ x.1 f)
@@ -264,12 +264,12 @@ module _ (inputs : List (List ℕ)) (ds : List Driver) where
   unfolding undriven
   unfed-is = line_first (stray inputs ds) [] ds
 
-  unfed-some : (k : ℕ) → (undriven inputs ds ≡ some k) ↔ FirstLine (Undriven inputs ds) ds k
+  unfed-some : (k : ℕ) → (undriven inputs ds ≡ Some k) ↔ FirstLine (Undriven inputs ds) ds k
   unfed-some k =
       let x = first_exactly (Undriven inputs ds) (λ _. stray inputs ds) ds (λ bs d cs e t. undriven_form inputs ds bs d t) (λ bs d cs e q. undriven-back inputs ds bs d q) k in
       ((λ e. x.0 (sym unfed-is ∙ e)), λ f. unfed-is ∙ x.1 f)
 
-  unfed-not : (undriven inputs ds ≡ none) ↔ NoLine (Undriven inputs ds) ds
+  unfed-not : (undriven inputs ds ≡ None) ↔ NoLine (Undriven inputs ds) ds
   unfed-not =
       let x = none_exactly (Undriven inputs ds) (λ _. stray inputs ds) ds (λ bs d cs e t. undriven_form inputs ds bs d t) (λ bs d cs e q. undriven-back inputs ds bs d q) in
       ((λ e. x.0 (sym unfed-is ∙ e)), λ f. unfed-is ∙ x.1 f)
@@ -285,12 +285,12 @@ module _ (inputs : List (List ℕ)) (ds : List Driver) where
     cycle-is : first_line (on_cycle ds) ds ≡ first_by (λ _. on_cycle ds) [] ds
     cycle-is = line_first (on_cycle ds) [] ds
 
-    cycle-some : (k : ℕ) → (first_line (on_cycle ds) ds ≡ some k) ↔ FirstLine (OnCycle ds) ds k
+    cycle-some : (k : ℕ) → (first_line (on_cycle ds) ds ≡ Some k) ↔ FirstLine (OnCycle ds) ds k
     cycle-some k =
         let x = first_exactly (OnCycle ds) (λ _. on_cycle ds) ds cycle_form cycle-back k in
         ((λ e. x.0 (sym cycle-is ∙ e)), λ f. cycle-is ∙ x.1 f)
 
-    cycle-not : (first_line (on_cycle ds) ds ≡ none) ↔ NoLine (OnCycle ds) ds
+    cycle-not : (first_line (on_cycle ds) ds ≡ None) ↔ NoLine (OnCycle ds) ds
     cycle-not =
         let x = none_exactly (OnCycle ds) (λ _. on_cycle ds) ds cycle_form cycle-back in
         ((λ e. x.0 (sym cycle-is ∙ e)), λ f. cycle-is ∙ x.1 f)

@@ -1,6 +1,6 @@
 -- The reading of an edited netlist, line by line: what is left to read where a line is expected. A line that may stand there leads on to what is expected behind it, any other
 -- is refused with 32 at its offset, a missing one at the text's length.
-use Rattle.base.specs.{ℕ, zero, suc, arith, ◌≡◌, refl, sym, ◌∙◌, ap, Bool, true, false, cond, ◌&&◌, Option, none, some, List, [], ◌∷◌, ◌++◌}
+use Rattle.base.specs.{ℕ, zero, suc, arith, ◌≡◌, refl, sym, ◌∙◌, ap, Bool, true, false, cond, ◌&&◌, Option, None, Some, List, [], ◌∷◌, ◌++◌}
 use Rattle.base.specs.{append-nil, append_assoc, T, not_T, length, and_yes, yes_and}
 use Rattle.model.specs.{same, and_then, only, Line, ended_by_ten, text, fields, lines_from, closed, Read, holds, fault, next, unless, from?}
 use Rattle.model.specs.{Driver, gate_of_fields, gate_driver, is_gate, name_driver, is_line, past_row, read_names, read_drivers, past_lines, preamble_of}
@@ -25,7 +25,7 @@ unfolding next
 next_assoc (holds a) f h = refl
 next_assoc (fault n k) f h = refl
 
-none_fails : {A : Type 0} (b : Bool) (a : A) → only b a ≡ none → ¬ T b
+none_fails : {A : Type 0} (b : Bool) (a : A) → only b a ≡ None → ¬ T b
 unfolding only
 none_fails true a e t = let z : ◌≡◌ {A = ℕ} 0 1 = cc in omega arith
 none_fails false a e t = t
@@ -79,13 +79,13 @@ module _ (end : ℕ) (cells : List Cell) (g : Graph) where
 
   -- ---- a line that may stand there, and one that may not
 
-  took : (at : ℕ) (d : Expected) (l : Line) (e : Expected) → line_step cells g at d l ≡ some e → T (ended_by_ten l) × (step_of cells g at d l.bytes ≡ some e)
+  took : (at : ℕ) (d : Expected) (l : Line) (e : Expected) → line_step cells g at d l ≡ Some e → T (ended_by_ten l) × (step_of cells g at d l.bytes ≡ Some e)
   took at d l e q =
       let o = then_out (only (closed true l) l.bytes) (step_of cells g at d) e q in
       let p = only_out (closed true l) l.bytes o.0 o.1 in
       (p.0, ap (step_of cells g at d) p.1 ∙ o.2)
 
-  refused : (at : ℕ) (d : Expected) (l : Line) → line_step cells g at d l ≡ none → T (ended_by_ten l) → step_of cells g at d l.bytes ≡ none
+  refused : (at : ℕ) (d : Expected) (l : Line) → line_step cells g at d l ≡ None → T (ended_by_ten l) → step_of cells g at d l.bytes ≡ None
   unfolding and_then only
   refused at d l q t = sym (ap (λ (b : Bool). and_then (only b l.bytes) (step_of cells g at d)) (is_true (ended_by_ten l) t)) ∙ q
 
@@ -103,7 +103,7 @@ module _ (end : ℕ) (cells : List Cell) (g : Graph) where
   unfolding read_drivers is_gate
   gate-lines-is ds l ls b e = ap (λ (x : Bool). next (cond x (gate_read (gate_driver cells l) l ls) (read_names end 0 (length g.outputs) (l ∷ ls))) (λ es. holds (ds ++ es))) e
 
-  gate-lines-some : (ds : List Driver) (l : Line) (ls : List Line) (d : Driver) → is_gate_line l.bytes ≡ true → gate_driver cells l ≡ some d → gate_lines ds (l ∷ ls) ≡ gate_lines (ds ++ (d ∷ [])) ls
+  gate-lines-some : (ds : List Driver) (l : Line) (ls : List Line) (d : Driver) → is_gate_line l.bytes ≡ true → gate_driver cells l ≡ Some d → gate_lines ds (l ∷ ls) ≡ gate_lines (ds ++ (d ∷ [])) ls
   unfolding next from?
   gate-lines-some ds l ls d b e = cc (
     gate-lines-is ds l ls true b,
@@ -118,16 +118,16 @@ module _ (end : ℕ) (cells : List Cell) (g : Graph) where
   abbrev name_read : Option Driver → ℕ → ℕ → Line → List Line → Read (List Driver)
   name_read o k n l ls = next (from? o 32 l.offset) (λ d. next (past_row end ls) (λ rest. next (read_names end (suc k) n rest) (λ ds. holds (d ∷ ds))))
 
-  name-is : (k : ℕ) (l : Line) → T (ended_by_ten l) → T (is_wire_line k (fields l.bytes)) → name_driver k l ≡ some (wire_of l.offset k (fields l.bytes))
+  name-is : (k : ℕ) (l : Line) → T (ended_by_ten l) → T (is_wire_line k (fields l.bytes)) → name_driver k l ≡ Some (wire_of l.offset k (fields l.bytes))
   unfolding name_driver only
   name-is k l a b = ap (λ (x : Bool). only x (wire_of l.offset k (fields l.bytes))) (is_true (ended_by_ten l && is_wire_line k (fields l.bytes)) (yes_and (ended_by_ten l) (is_wire_line k (fields l.bytes)) a b))
 
-  name-not : (k : ℕ) (l : Line) → (T (ended_by_ten l) → ¬ T (is_wire_line k (fields l.bytes))) → name_driver k l ≡ none
+  name-not : (k : ℕ) (l : Line) → (T (ended_by_ten l) → ¬ T (is_wire_line k (fields l.bytes))) → name_driver k l ≡ None
   unfolding name_driver only
   name-not k l n = cc (is_false (ended_by_ten l && is_wire_line k (fields l.bytes)) (not_T (ended_by_ten l && is_wire_line k (fields l.bytes))
       (λ t. let q = and_yes (ended_by_ten l) (is_wire_line k (fields l.bytes)) t in n q.0 q.1)))
 
-  wired-some : (k n : ℕ) (ds : List Driver) (l : Line) (ls : List Line) (d : Driver) → name_driver k l ≡ some d → wired k (suc n) ds (l ∷ ls) ≡ next (past_row end ls) (wired (suc k) n (ds ++ (d ∷ [])))
+  wired-some : (k n : ℕ) (ds : List Driver) (l : Line) (ls : List Line) (d : Driver) → name_driver k l ≡ Some d → wired k (suc n) ds (l ∷ ls) ≡ next (past_row end ls) (wired (suc k) n (ds ++ (d ∷ [])))
   unfolding read_names next from?
   wired-some k n ds l ls d e =
       ap (λ (o : Option Driver). next (name_read o k n l ls) (λ es. holds (ds ++ es))) e
@@ -140,7 +140,7 @@ module _ (end : ℕ) (cells : List Cell) (g : Graph) where
   unfolding past_row next
   row-yes l ls f t u = ap (λ (r : Read (List Line)). next r f) (line-yes (text "1 1") l (holds ls) t u)
 
-  wire-on : (at k n : ℕ) (ds : List Driver) (l : Line) (ls : List Line) (e : Expected) → l.offset ≡ at → T (ended_by_ten l) → wire_step at k n ds l.bytes ≡ some e → wired k n ds (l ∷ ls) ≡ left e ls
+  wire-on : (at k n : ℕ) (ds : List Driver) (l : Line) (ls : List Line) (e : Expected) → l.offset ≡ at → T (ended_by_ten l) → wire_step at k n ds l.bytes ≡ Some e → wired k n ds (l ∷ ls) ≡ left e ls
   unfolding left wire_step
   wire-on at k zero ds l ls e o t q =
       let p = only_out (same l.bytes (text ".end")) (nothing_expected ds) e q in
@@ -148,9 +148,9 @@ module _ (end : ℕ) (cells : List Cell) (g : Graph) where
       (line-yes (text ".end") l (holds []) t p.0) ∙ ap holds (append-nil ds) ∙ ap (λ (d : Expected). left d ls) p.1
   wire-on at k (suc n) ds l ls e o t q =
       let p = only_out (is_wire_line k (fields l.bytes)) (cover_expected (suc k) n (ds ++ (wire_of at k (fields l.bytes) ∷ []))) e q in
-      wired-some k n ds l ls (wire_of at k (fields l.bytes)) (name-is k l t p.0 ∙ ap (λ (i : ℕ). some (wire_of i k (fields l.bytes))) o) ∙ ap (λ (d : Expected). left d ls) p.1
+      wired-some k n ds l ls (wire_of at k (fields l.bytes)) (name-is k l t p.0 ∙ ap (λ (i : ℕ). Some (wire_of i k (fields l.bytes))) o) ∙ ap (λ (d : Expected). left d ls) p.1
 
-  wire_off : (at k n : ℕ) (ds : List Driver) (l : Line) (ls : List Line) → (T (ended_by_ten l) → wire_step at k n ds l.bytes ≡ none) → wired k n ds (l ∷ ls) ≡ fault 32 l.offset
+  wire_off : (at k n : ℕ) (ds : List Driver) (l : Line) (ls : List Line) → (T (ended_by_ten l) → wire_step at k n ds l.bytes ≡ None) → wired k n ds (l ∷ ls) ≡ fault 32 l.offset
   unfolding wire_step
   wire_off at k zero ds l ls q =
       unfold read_names next in ap (λ (r : Read (List Driver)). next r (λ es. holds (ds ++ es))) (line_no (text ".end") l (holds []) (λ t. none_fails (same l.bytes (text ".end")) (nothing_expected ds) (q t)))
@@ -162,7 +162,7 @@ module _ (end : ℕ) (cells : List Cell) (g : Graph) where
   unfolding past_lines next
   past_all ls f = refl
 
-  pub goes_on : (at : ℕ) (d : Expected) (l : Line) (ls : List Line) (e : Expected) → l.offset ≡ at → line_step cells g at d l ≡ some e → left d (l ∷ ls) ≡ left e ls
+  pub goes_on : (at : ℕ) (d : Expected) (l : Line) (ls : List Line) (e : Expected) → l.offset ≡ at → line_step cells g at d l ≡ Some e → left d (l ∷ ls) ≡ left e ls
   unfolding left step_of
   goes_on at model_expected l ls e o q =
       let a = took at model_expected l e q in
@@ -177,8 +177,8 @@ module _ (end : ℕ) (cells : List Cell) (g : Graph) where
       let p = only_out (same l.bytes (outputs_line g)) (gate_expected []) e a.1 in
       past-yes (outputs_line g) [] l ls _ a.0 p.0 ∙ past_all ls (gate_lines []) ∙ ap (λ (d : Expected). left d ls) p.1
   goes_on at (gate_expected ds) l ls e o q = let a = took at (gate_expected ds) l e q in by_bool (is_gate_line l.bytes) (λ f. unfold gate_step left in
-      let x = then_out (gate_of_fields cells at (fields l.bytes)) (λ d. some (gate_expected (ds ++ (d ∷ [])))) e (rw f at a.1) in let h : some
-      (gate_expected (ds ++ (x.0 ∷ []))) ≡ some e = x.2 in let z : gate_expected (ds ++ (x.0 ∷ [])) ≡ e = cc in gate-lines-some ds l ls x.0 f
+      let x = then_out (gate_of_fields cells at (fields l.bytes)) (λ d. Some (gate_expected (ds ++ (d ∷ [])))) e (rw f at a.1) in let h : Some
+      (gate_expected (ds ++ (x.0 ∷ []))) ≡ Some e = x.2 in let z : gate_expected (ds ++ (x.0 ∷ [])) ≡ e = cc in gate-lines-some ds l ls x.0 f
       (driver-is l a.0 ∙ ap (λ (i : ℕ). gate_of_fields cells i (fields l.bytes)) o ∙ x.1) ∙ ap (λ (d : Expected). left d ls) z)
       (λ p. unfold gate_step in gate-lines-is ds l ls false p ∙ wire-on at zero (length g.outputs) ds l ls e o a.0 (rw p at a.1))
   goes_on at (wire_expected k n ds) l ls e o q = let a = took at (wire_expected k n ds) l e q in wire-on at k n ds l ls e o a.0 a.1
@@ -188,7 +188,7 @@ module _ (end : ℕ) (cells : List Cell) (g : Graph) where
       row-yes l ls (wired k n ds) a.0 p.0 ∙ ap (λ (d : Expected). left d ls) p.1
   goes_on at (nothing_expected ds) l ls e o q = let a = took at (nothing_expected ds) l e q in let z : ◌≡◌ {A = ℕ} 0 1 = (let f = a.1 in cc) in absurd (omega arith)
 
-  pub stops : (at : ℕ) (d : Expected) (l : Line) (ls : List Line) → l.offset ≡ at → (¬ Finished d) → line_step cells g at d l ≡ none → left d (l ∷ ls) ≡ fault 32 l.offset
+  pub stops : (at : ℕ) (d : Expected) (l : Line) (ls : List Line) → l.offset ≡ at → (¬ Finished d) → line_step cells g at d l ≡ None → left d (l ∷ ls) ≡ fault 32 l.offset
   unfolding left step_of
   stops at model_expected l ls o n q = past_no (text ".model top") _ l ls _ (λ t. none_fails (same l.bytes (text ".model top")) inputs_expected (refused at model_expected l q t))
   stops at inputs_expected l ls o n q = past_no (inputs_line g) _ l ls _ (λ t. none_fails (same l.bytes (inputs_line g)) outputs_expected (refused at inputs_expected l q t))
@@ -201,9 +201,9 @@ module _ (end : ℕ) (cells : List Cell) (g : Graph) where
   ))) (λ e. gate-lines-is ds l ls false e
       ∙ wire_off at zero (length g.outputs) ds l ls (λ t. unfold gate_step in (rw e at (refused at (gate_expected ds) l q)) t))
     where
-      none_then : (x : Option Driver) → and_then x (λ d. some (gate_expected (ds ++ (d ∷ [])))) ≡ none → x ≡ none
-      none_then none e = refl
-      none_then (some d) e = unfold and_then in let z : ◌≡◌ {A = ℕ} 0 1 = cc in absurd (omega arith)
+      none_then : (x : Option Driver) → and_then x (λ d. Some (gate_expected (ds ++ (d ∷ [])))) ≡ None → x ≡ None
+      none_then None e = refl
+      none_then (Some d) e = unfold and_then in let z : ◌≡◌ {A = ℕ} 0 1 = cc in absurd (omega arith)
   stops at (wire_expected k m ds) l ls o n q = wire_off at k m ds l ls (refused at (wire_expected k m ds) l q)
   stops at (cover_expected k m ds) l ls o n q =
       unfold past_row next in ap (λ (r : Read (List Line)). next r (wired k m ds)) (line_no (text "1 1") l (holds ls) (λ t. none_fails (same l.bytes (text "1 1")) (wire_expected k m ds) (refused at (cover_expected k m ds) l q t)))

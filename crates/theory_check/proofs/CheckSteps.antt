@@ -1,5 +1,5 @@
 -- What a reader of an edited netlist takes where a line is expected, and what is then expected: exactly what `CheckForms.Next` says.
-use Rattle.base.specs.{ℕ, zero, suc, ◌<◌, arith, ◌≡◌, refl, sym, ◌∙◌, ap, ap₂, subst, Bool, true, false, ◌&&◌, Option, none, some, List, []}
+use Rattle.base.specs.{ℕ, zero, suc, ◌<◌, arith, ◌≡◌, refl, sym, ◌∙◌, ap, ap₂, subst, Bool, true, false, ◌&&◌, Option, None, Some, List, []}
 use Rattle.base.specs.{◌∷◌, ◌++◌, T, eqb, lit<, length, get_or, and_yes, yes_and, eqb_yes}
 use Rattle.model.specs.{all, same, and_then, only, Line, text, fields, split, onto, closed, name_of, out_name, Driver, is_net, gate_of_fields}
 use Rattle.model.specs.Graph.{Graph}
@@ -32,7 +32,7 @@ wire_step at k zero ds w = only (same w (text ".end")) (nothing_expected ds)
 wire_step at k (suc n) ds w = only (is_wire_line k (fields w)) (cover_expected (suc k) n (ds ++ (wire_of at k (fields w) ∷ [])))
 
 unfoldable pub gate_step : Bool → List Cell → ℕ → ℕ → List Driver → List ℕ → Option Expected
-gate_step true cells at n ds w = and_then (gate_of_fields cells at (fields w)) (λ d. some (gate_expected (ds ++ (d ∷ []))))
+gate_step true cells at n ds w = and_then (gate_of_fields cells at (fields w)) (λ d. Some (gate_expected (ds ++ (d ∷ []))))
 gate_step false cells at n ds w = wire_step at zero n ds w
 
 -- what is expected behind a line with these contents, if it may stand there
@@ -43,12 +43,12 @@ step_of cells g at outputs_expected w = only (same w (outputs_line g)) (gate_exp
 step_of cells g at (gate_expected ds) w = gate_step (is_gate_line w) cells at (length g.outputs) ds w
 step_of cells g at (wire_expected k n ds) w = wire_step at k n ds w
 step_of cells g at (cover_expected k n ds) w = only (same w (text "1 1")) (wire_expected k n ds)
-step_of cells g at (nothing_expected ds) w = none
+step_of cells g at (nothing_expected ds) w = None
 
 abbrev pub line_step : List Cell → Graph → ℕ → Expected → Line → Option Expected
 line_step cells g at d l = and_then (only (closed true l) l.bytes) (step_of cells g at d)
 
-is-text : (key w : List ℕ) (d e : Expected) → only (same w key) d ≡ some e → (key ≡ w) × (d ≡ e)
+is-text : (key w : List ℕ) (d e : Expected) → only (same w key) d ≡ Some e → (key ≡ w) × (d ≡ e)
 is-text key w d e q = let p = only_out (same w key) d e q in (sym (same-eq w key p.0), p.1)
 
 -- three fields
@@ -74,7 +74,7 @@ module _ (cells : List Cell) (g : Graph) (fits : T (library_fits cells)) (at : �
   abbrev Step : Expected → List ℕ → Expected → Type 0
   Step = Next cells g at
 
-  wire-step : (k n : ℕ) (ds : List Driver) (w : List ℕ) (e : Expected) → wire_step at k n ds w ≡ some e → Step (wire_expected k n ds) w e
+  wire-step : (k n : ℕ) (ds : List Driver) (w : List ℕ) (e : Expected) → wire_step at k n ds w ≡ Some e → Step (wire_expected k n ds) w e
   unfolding wire_step
   wire-step k zero ds w e q = let p = is-text (text ".end") w (nothing_expected ds) e q in rw (← p.0) (rw (← p.1) end)
   wire-step k (suc n) ds w e q =
@@ -91,7 +91,7 @@ module _ (cells : List Cell) (g : Graph) (fits : T (library_fits cells)) (at : �
       subst (λ (x : List ℕ). Step (wire_expected k (suc n) ds) x e) (sym (of_fields w _ f))
       (subst (Step (wire_expected k (suc n) ds) (joined (text ".names" ∷ get_or (fields w) 1 [] ∷ (111 ∷ o.0) ∷ []))) made (wire (net_form (get_or (fields w) 1 []) c.0) o.1))
 
-  step_form : (d : Expected) (w : List ℕ) (e : Expected) → step_of cells g at d w ≡ some e → Step d w e
+  step_form : (d : Expected) (w : List ℕ) (e : Expected) → step_of cells g at d w ≡ Some e → Step d w e
   unfolding step_of gate_step
   step_form model_expected w e q = let p = is-text (text ".model top") w inputs_expected e q in rw (← p.0) (rw (← p.1) model)
   step_form inputs_expected w e q =
@@ -104,9 +104,9 @@ module _ (cells : List Cell) (g : Graph) (fits : T (library_fits cells)) (at : �
       subst (λ (x : List ℕ). Step outputs_expected x e) (sym l.2 ∙ p.0) (subst (Step outputs_expected (joined (text ".outputs" ∷ l.0))) p.1 (outputs l.1))
   step_form (gate_expected ds) w e q = go (is_gate_line w) (λ t. t) q
     where
-      go : (b : Bool) → (T b → T (is_gate_line w)) → gate_step b cells at (length g.outputs) ds w ≡ some e → Step (gate_expected ds) w e
-      go true f r = unfold gate_step in let o = then_out (gate_of_fields cells at (fields w)) (λ d. some (gate_expected (ds ++ (d ∷ [])))) e r in
-          let h : some (gate_expected (ds ++ (o.0 ∷ []))) ≡ some e = o.2 in let z : gate_expected (ds ++ (o.0 ∷ [])) ≡ e = cc in rw (← z)
+      go : (b : Bool) → (T b → T (is_gate_line w)) → gate_step b cells at (length g.outputs) ds w ≡ Some e → Step (gate_expected ds) w e
+      go true f r = unfold gate_step in let o = then_out (gate_of_fields cells at (fields w)) (λ d. Some (gate_expected (ds ++ (d ∷ [])))) e r in
+          let h : Some (gate_expected (ds ++ (o.0 ∷ []))) ≡ Some e = o.2 in let z : gate_expected (ds ++ (o.0 ∷ [])) ≡ e = cc in rw (← z)
           (gate (gate_form_lem cells fits at w o.0 (f tt) o.1))
       go false f r = unfold gate_step in behind (wire-step zero (length g.outputs) ds w e r)
   step_form (wire_expected k n ds) w e q = wire-step k n ds w e q
@@ -119,14 +119,14 @@ module _ (cells : List Cell) (g : Graph) (fits : T (library_fits cells)) (at : �
   not-gate (wire {v = v} {w} n d) = ap (λ (x : List (List ℕ)). same (get_or x 0 []) (text ".gate")) (wire-fields n d)
   not-gate end = refl
 
-  wire-step-back : {k n : ℕ} {ds : List Driver} {w : List ℕ} {e : Expected} → Step (wire_expected k n ds) w e → wire_step at k n ds w ≡ some e
+  wire-step-back : {k n : ℕ} {ds : List Driver} {w : List ℕ} {e : Expected} → Step (wire_expected k n ds) w e → wire_step at k n ds w ≡ Some e
   unfolding wire_step
   wire-step-back (wire {k} {n} {ds} {v} {w} h d) =
       let f = wire-fields h d in
       cc (only_yes (is_wire_line k (fields (joined (text ".names" ∷ v ∷ (111 ∷ w) ∷ [])))) _ (rw f (wire_passes k h d)), out_name_lem d)
   wire-step-back (end {k} {ds}) = only_yes (same (text ".end") (text ".end")) (nothing_expected ds) (same_refl (text ".end"))
 
-  step_back : {d : Expected} {w : List ℕ} {e : Expected} → Step d w e → step_of cells g at d w ≡ some e
+  step_back : {d : Expected} {w : List ℕ} {e : Expected} → Step d w e → step_of cells g at d w ≡ Some e
   unfolding step_of gate_step and_then
   step_back model = only_yes (same (text ".model top") (text ".model top")) inputs_expected (same_refl (text ".model top"))
   step_back (inputs {ws} l) =

@@ -1,6 +1,6 @@
 -- The words and lines of an edited netlist: each test passes exactly where the bytes are so, and gives what they mean.
 use Rattle.base.specs.{ℕ, zero, suc, ◌+◌, ◌^◌, ◌≤◌, ◌<◌, le_refl, arith, ◌≡◌, refl, sym, ◌∙◌, ap, ap₂, subst, ◌⊎◌, inl, inr, ⊎_elim, Bool}
-use Rattle.base.specs.{false, not, cond, ◌&&◌, ◌||◌, Option, none, some, List, [], ◌∷◌, ◌++◌, map, append-nil, Memᴰ, Memᴰ-head}
+use Rattle.base.specs.{false, not, cond, ◌&&◌, ◌||◌, Option, None, Some, List, [], ◌∷◌, ◌++◌, map, append-nil, Memᴰ, Memᴰ-head}
 use Rattle.base.specs.{Memᴰ-tail, T, eqb, leb, ltb, lit<, length, take, get_or, and_yes, yes_and, or_yes, eqb_yes, yes_eqb, leb_yes}
 use Rattle.base.specs.{yes_leb}
 use Rattle.model.specs.{all, same, each, from, below, and_then, only, text, decimal, fields, between, is_letter, is_name, name_of, literal}
@@ -37,7 +37,7 @@ net-back w n = yes_and (leb 1 (length w)) (leb (length w) 8 && all (λ (b : ℕ)
     (all_in (λ (b : ℕ). is_letter b || between 48 57 b) w (λ b m. ⊎_elim (λ h. yes_or (is_letter b) (between 48 57 b) (inl (letter-back b h)))
     (λ q. yes_or (is_letter b) (between 48 57 b) (inr (within-back 48 57 b q))) (n.bytes b m))))
 
-pin_form : (b : ℕ) (w n : List ℕ) → pin_net b w ≡ some n → Bound b w n
+pin_form : (b : ℕ) (w n : List ℕ) → pin_net b w ≡ Some n → Bound b w n
 unfolding pin_net
 pin_form b [] n e = let z : ◌≡◌ {A = ℕ} 0 1 = cc in absurd (omega arith)
 pin_form b (c ∷ []) n e = let z : ◌≡◌ {A = ℕ} 0 1 = cc in absurd (omega arith)
@@ -48,7 +48,7 @@ pin_form b (c ∷ d ∷ w) n e =
     subst (λ (x : ℕ). Bound b (x ∷ d ∷ w) n) (sym (eqb_yes p.0))
     (subst (λ (x : ℕ). Bound b (b ∷ x ∷ w) n) (sym (eqb_yes q.0)) (subst (λ (x : List ℕ). Bound b (b ∷ 61 ∷ x) n) (sym o.1) (bound (subst NetName o.1 (net_form w q.1)))))
 
-pin-back : {b : ℕ} {w n : List ℕ} → Bound b w n → pin_net b w ≡ some n
+pin-back : {b : ℕ} {w n : List ℕ} → Bound b w n → pin_net b w ≡ Some n
 unfolding pin_net only
 pin-back {b} (bound {n} h) =
     ap (λ (x : Bool). only x n) (is_true (eqb b b && (eqb 61 61 && is_net n)) (yes_and (eqb b b) (eqb 61 61 && is_net n) (yes_eqb {a = b} {b = b} refl) (net-back n h)))
@@ -56,35 +56,35 @@ pin-back {b} (bound {n} h) =
 -- ---- a gate line's nets
 
 -- all of them, the driven one last
-pub pins_form : (i k : ℕ) (ws ns : List (List ℕ)) → bound_nets (map (λ (j : ℕ). 65 + j) (from i k) ++ (79 ∷ [])) ws ≡ some ns
+pub pins_form : (i k : ℕ) (ws ns : List (List ℕ)) → bound_nets (map (λ (j : ℕ). 65 + j) (from i k) ++ (79 ∷ [])) ws ≡ Some ns
     → (us : List (List ℕ)) × (o : List ℕ) × (ns ≡ us ++ (o ∷ [])) × (length us ≡ k) × Pins (65 + i) k ws us o
 unfolding bound_nets from
 pins_form i zero [] ns e = let z : ◌≡◌ {A = ℕ} 0 1 = cc in absurd (omega arith)
 pins_form i zero (w ∷ []) ns e =
-    let a = then_out (pin_net 79 w) (λ n. and_then (bound_nets [] []) (λ ms. some (n ∷ ms))) ns e in
+    let a = then_out (pin_net 79 w) (λ n. and_then (bound_nets [] []) (λ ms. Some (n ∷ ms))) ns e in
     ([], a.0, sym cc, refl, output (pin_form 79 w a.0 a.1))
 pins_form i zero (w ∷ v ∷ ws) ns e =
-    let a = then_out (pin_net 79 w) (λ n. and_then (bound_nets [] (v ∷ ws)) (λ ms. some (n ∷ ms))) ns e in
-    let b = then_out (bound_nets [] (v ∷ ws)) (λ ms. some (a.0 ∷ ms)) ns a.2 in
-    let h : none ≡ some b.0 = b.1 in
+    let a = then_out (pin_net 79 w) (λ n. and_then (bound_nets [] (v ∷ ws)) (λ ms. Some (n ∷ ms))) ns e in
+    let b = then_out (bound_nets [] (v ∷ ws)) (λ ms. Some (a.0 ∷ ms)) ns a.2 in
+    let h : None ≡ Some b.0 = b.1 in
     let z : ◌≡◌ {A = ℕ} 0 1 = cc in absurd (omega arith)
 pins_form i (suc k) [] ns e = let z : ◌≡◌ {A = ℕ} 0 1 = cc in absurd (omega arith)
 pins_form i (suc k) (w ∷ ws) ns e =
-    let a = then_out (pin_net (65 + i) w) (λ n. and_then (bound_nets (map (λ (j : ℕ). 65 + j) (from (suc i) k) ++ (79 ∷ [])) ws) (λ ms. some (n ∷ ms))) ns e in
-    let b = then_out (bound_nets (map (λ (j : ℕ). 65 + j) (from (suc i) k) ++ (79 ∷ [])) ws) (λ ms. some (a.0 ∷ ms)) ns a.2 in
+    let a = then_out (pin_net (65 + i) w) (λ n. and_then (bound_nets (map (λ (j : ℕ). 65 + j) (from (suc i) k) ++ (79 ∷ [])) ws) (λ ms. Some (n ∷ ms))) ns e in
+    let b = then_out (bound_nets (map (λ (j : ℕ). 65 + j) (from (suc i) k) ++ (79 ∷ [])) ws) (λ ms. Some (a.0 ∷ ms)) ns a.2 in
     let r = pins_form (suc i) k ws b.0 b.1 in
-    let z : some (a.0 ∷ b.0) ≡ some ns = b.2 in
+    let z : Some (a.0 ∷ b.0) ≡ Some ns = b.2 in
     let q : a.0 ∷ b.0 ≡ ns = cc in
     let s : 65 + suc i ≡ suc (65 + i) = omega arith in
     (a.0 ∷ r.0, r.1, sym q ∙ ap (λ (x : List (List ℕ)). a.0 ∷ x) r.2, ap suc r.3, pin (pin_form (65 + i) w a.0 a.1) (subst (λ (x : ℕ). Pins x k ws r.0 r.1) s r.4))
 
-pub pins-back : (i : ℕ) {b k : ℕ} {ws us : List (List ℕ)} {o : List ℕ} → b ≡ 65 + i → Pins b k ws us o → (bound_nets (map (λ (j : ℕ). 65 + j) (from i k) ++ (79 ∷ [])) ws ≡ some (us ++ (o ∷ []))) × (length us ≡ k)
+pub pins-back : (i : ℕ) {b k : ℕ} {ws us : List (List ℕ)} {o : List ℕ} → b ≡ 65 + i → Pins b k ws us o → (bound_nets (map (λ (j : ℕ). 65 + j) (from i k) ++ (79 ∷ [])) ws ≡ Some (us ++ (o ∷ []))) × (length us ≡ k)
 unfolding bound_nets from and_then
-pins-back i e (output {w = w} {n} h) = (ap (λ (x : Option (List ℕ)). and_then x (λ m. and_then (bound_nets [] []) (λ ms. some (m ∷ ms)))) (pin-back h), refl)
+pins-back i e (output {w = w} {n} h) = (ap (λ (x : Option (List ℕ)). and_then x (λ m. and_then (bound_nets [] []) (λ ms. Some (m ∷ ms)))) (pin-back h), refl)
 pins-back i {b} e (pin {k = k} {w} {n} {o} {ws} {us} h r) =
     let m = pins-back (suc i) (let z : suc b ≡ 65 + suc i = omega arith in z) r in (
-      ap (λ (x : Option (List ℕ)). and_then x (λ y. and_then (bound_nets (map (λ (j : ℕ). 65 + j) (from (suc i) k) ++ (79 ∷ [])) ws) (λ ms. some (y ∷ ms)))) (subst (λ (x : ℕ). pin_net x w ≡ some n) e (pin-back h))
-          ∙ ap (λ (x : Option (List (List ℕ))). and_then x (λ ms. some (n ∷ ms))) m.0,
+      ap (λ (x : Option (List ℕ)). and_then x (λ y. and_then (bound_nets (map (λ (j : ℕ). 65 + j) (from (suc i) k) ++ (79 ∷ [])) ws) (λ ms. Some (y ∷ ms)))) (subst (λ (x : ℕ). pin_net x w ≡ Some n) e (pin-back h))
+          ∙ ap (λ (x : Option (List (List ℕ))). and_then x (λ ms. Some (n ∷ ms))) m.0,
       ap suc m.1,
     )
 
@@ -98,7 +98,7 @@ last-is (u ∷ us) o = last-is us o
 
 -- ---- the listed cell of a name
 
-pub named_form : (cs : List Cell) (w : List ℕ) (c : Cell) → cell_named cs w ≡ some c → Memᴰ c cs × (name_of c ≡ w)
+pub named_form : (cs : List Cell) (w : List ℕ) (c : Cell) → cell_named cs w ≡ Some c → Memᴰ c cs × (name_of c ≡ w)
 unfolding cell_named
 named_form [] w c e = let z : ◌≡◌ {A = ℕ} 0 1 = cc in absurd (omega arith)
 named_form (d ∷ cs) w c e = by_bool (same (name_of d) w)
@@ -112,12 +112,12 @@ others c cs t =
     let q = and_yes (all (λ (d : Cell). not (same (name_of c) (name_of d))) cs) (library_fits cs) p.1 in
     (p.0, q.0, q.1)
 
-pub named_back : (cs : List Cell) → T (library_fits cs) → (c : Cell) → Memᴰ c cs → cell_named cs (name_of c) ≡ some c
+pub named_back : (cs : List Cell) → T (library_fits cs) → (c : Cell) → Memᴰ c cs → cell_named cs (name_of c) ≡ Some c
 unfolding cell_named
 named_back (d ∷ cs) t c (Memᴰ-head e) = cc (is_true (same (name_of d) (name_of c)) (rw e (same_refl (name_of d))))
 named_back (d ∷ cs) t c (Memᴰ-tail m) =
     let o = others d cs t in
-    ap (λ (b : Bool). cond b (some d) (cell_named cs (name_of c))) (is_false (same (name_of d) (name_of c)) (all_of (λ (x : Cell). not (same (name_of d) (name_of x))) cs o.1 c m)) ∙ named_back cs o.2 c m
+    ap (λ (b : Bool). cond b (Some d) (cell_named cs (name_of c))) (is_false (same (name_of d) (name_of c)) (all_of (λ (x : Cell). not (same (name_of d) (name_of x))) cs o.1 c m)) ∙ named_back cs o.2 c m
 named_back [] t c x'' = elim x'' [ ]
 
 pub cell_free : (s : ℕ) → s < 48 → (c : Cell) → T (cell_fits c) → Free s (name_of c)
@@ -237,20 +237,20 @@ abbrev made_at : ℕ → Cell → List (List ℕ) → Driver
 made_at at c nets = record { offset = at; table = c.table; uses = take c.pins nets; net = get_or nets c.pins [] }
 
 module _ (cells : List Cell) (fits : T (library_fits cells)) (at : ℕ) where
-  pub gate_form_lem : (w : List ℕ) (d : Driver) → T (same (get_or (fields w) 0 []) (text ".gate")) → gate_of_fields cells at (fields w) ≡ some d → GateWords cells at w d
+  pub gate_form_lem : (w : List ℕ) (d : Driver) → T (same (get_or (fields w) 0 []) (text ".gate")) → gate_of_fields cells at (fields w) ≡ Some d → GateWords cells at w d
   unfolding gate_of_fields below
   gate_form_lem w d t e = go (fields w) refl t e
     where
-      go : (vs : List (List ℕ)) → fields w ≡ vs → T (same (get_or vs 0 []) (text ".gate")) → gate_of_fields cells at vs ≡ some d → GateWords cells at w d
+      go : (vs : List (List ℕ)) → fields w ≡ vs → T (same (get_or vs 0 []) (text ".gate")) → gate_of_fields cells at vs ≡ Some d → GateWords cells at w d
       go [] f u q = unfold gate_of_fields in let z : ◌≡◌ {A = ℕ} 0 1 = cc in absurd (omega arith)
       go (k ∷ []) f u q = unfold gate_of_fields in let z : ◌≡◌ {A = ℕ} 0 1 = cc in absurd (omega arith)
       go (k ∷ name ∷ ws) f u q =
           unfold gate_of_fields below in
-          let a = then_out (cell_named cells name) (λ c. and_then (bound_nets (map (λ (j : ℕ). 65 + j) (below c.pins) ++ (79 ∷ [])) ws) (λ nets. some (made_at at c nets))) d q in
-          let b = then_out (bound_nets (map (λ (j : ℕ). 65 + j) (below a.0.pins) ++ (79 ∷ [])) ws) (λ nets. some (made_at at a.0 nets)) d a.2 in
+          let a = then_out (cell_named cells name) (λ c. and_then (bound_nets (map (λ (j : ℕ). 65 + j) (below c.pins) ++ (79 ∷ [])) ws) (λ nets. Some (made_at at c nets))) d q in
+          let b = then_out (bound_nets (map (λ (j : ℕ). 65 + j) (below a.0.pins) ++ (79 ∷ [])) ws) (λ nets. Some (made_at at a.0 nets)) d a.2 in
           let n = named_form cells name a.0 a.1 in
           let r = pins_form 0 a.0.pins ws b.0 b.1 in
-          let h : some (made_at at a.0 b.0) ≡ some d = b.2 in
+          let h : Some (made_at at a.0 b.0) ≡ Some d = b.2 in
           let is : made_at at a.0 b.0 ≡ d = cc in
           let uses : r.0 ≡ d.uses = sym (take-front r.0 r.1) ∙ ap₂ (λ (i : ℕ) (x : List (List ℕ)). take i x) r.3 (sym r.2) ∙ ap (λ (x : Driver). x.uses) is in
           let net : r.1 ≡ d.net = sym (last-is r.0 r.1) ∙ ap₂ (λ (i : ℕ) (x : List (List ℕ)). get_or x i []) r.3 (sym r.2) ∙ ap (λ (x : Driver). x.net) is in
@@ -271,15 +271,15 @@ module _ (cells : List Cell) (fits : T (library_fits cells)) (at : ℕ) where
   pub gate-fields : (w : List ℕ) (d : Driver) (g : GateWords cells at w d) → fields w ≡ text ".gate" ∷ name_of g.cell ∷ g.nets
   gate-fields w d g = ap fields g.whole ∙ fields-joined (text ".gate") (name_of g.cell ∷ g.nets) (words-free 32 (lit< tt) w d g)
 
-  pub gate-back : (w : List ℕ) (d : Driver) → GateWords cells at w d → gate_of_fields cells at (fields w) ≡ some d
+  pub gate-back : (w : List ℕ) (d : Driver) → GateWords cells at w d → gate_of_fields cells at (fields w) ≡ Some d
   unfolding gate_of_fields below and_then
   gate-back w d g =
       let c = g.cell in
       let p = pins-back 0 refl g.are_nets in
       ap (gate_of_fields cells at) (gate-fields w d g)
-      ∙ ap (λ (o : Option Cell). and_then o (λ x. and_then (bound_nets (map (λ (j : ℕ). 65 + j) (below x.pins) ++ (79 ∷ [])) g.nets) (λ nets. some (record { offset = at; table = x.table; uses = take x.pins nets; net = get_or nets x.pins [] }))))
+      ∙ ap (λ (o : Option Cell). and_then o (λ x. and_then (bound_nets (map (λ (j : ℕ). 65 + j) (below x.pins) ++ (79 ∷ [])) g.nets) (λ nets. Some (record { offset = at; table = x.table; uses = take x.pins nets; net = get_or nets x.pins [] }))))
       (named_back cells fits c g.listed)
-      ∙ ap (λ (o : Option (List (List ℕ))). and_then o (λ nets. some (record { offset = at; table = c.table; uses = take c.pins nets; net = get_or nets c.pins [] }))) p.0
-      ∙ ap₂ (λ (x : List (List ℕ)) (y : List ℕ). some (record { offset = at; table = c.table; uses = x; net = y }))
+      ∙ ap (λ (o : Option (List (List ℕ))). and_then o (λ nets. Some (record { offset = at; table = c.table; uses = take c.pins nets; net = get_or nets c.pins [] }))) p.0
+      ∙ ap₂ (λ (x : List (List ℕ)) (y : List ℕ). Some (record { offset = at; table = c.table; uses = x; net = y }))
       (ap (λ (i : ℕ). take i (d.uses ++ (d.net ∷ []))) (sym p.1) ∙ take-front d.uses d.net) (ap (λ (i : ℕ). get_or (d.uses ++ (d.net ∷ [])) i []) (sym p.1) ∙ last-is d.uses d.net)
-      ∙ ap₂ (λ (x y : ℕ). some (record { offset = x; table = y; uses = d.uses; net = d.net })) (sym g.place) (sym g.table)
+      ∙ ap₂ (λ (x y : ℕ). Some (record { offset = x; table = y; uses = d.uses; net = d.net })) (sym g.place) (sym g.table)

@@ -1,14 +1,15 @@
 -- "accepted exactly when every output equals the graph's for each of the 2^I input settings; otherwise the lowest setting that differs is
 -- returned, input k as bit k, and that setting's first wrong output".
+use Rattle.std.specs.Prelude.{Ok, Err}
 use Rattle.base.specs.{ℕ, zero, suc, ◌+◌, ◌^◌, ◌≤◌, ◌<◌, le_refl, le_of_suc-le-suc, not-suc-le-zero, zero-add, lt_of_not-le, le_antisymm}
 use Rattle.base.specs.{dec_le, arith, ◌≡◌, refl, sym, ◌∙◌, ap, ap₂, subst, ◌⊎◌, inr, ◌↔◌, Bool, true, false, cond, beq, true≢false}
-use Rattle.base.specs.{false≢true, Option, none, some, List, [], ◌∷◌, map, Memᴰ, Memᴰ-append_left, Memᴰ-cast, length, get_or}
+use Rattle.base.specs.{false≢true, Option, None, Some, List, [], ◌∷◌, map, Memᴰ, Memᴰ-append_left, Memᴰ-cast, length, get_or}
 use Rattle.model.specs.{each, from, below, flip, And, var_of, negated, literal_value, value_of, out_name, Driver, net_value, run_nets, settled}
 use Rattle.model.specs.{input_values, input_nets, output_nets, assignment_of, first_wrong, wrong_at, compare_from, DriverValues, Right, Compared}
-use Rattle.model.specs.{Distinct}
+use Rattle.model.specs.{Checked, Distinct}
 use Rattle.model.specs.Graph.{Graph}
-use Rattle.model.specs.declared.Checked.{Checked}
-use Rattle.model.specs.declared.Checked.TheVariants.{Accepted as Equal, Differs, Refused}
+use Rattle.model.specs.declared.Comparison.{Comparison}
+use Rattle.model.specs.declared.Comparison.TheVariants.{Equal, Differs}
 use Rattle.theory_graph.proofs.{map_in, map_out, map_same, get_or_in, length-map, defined-ordered, values_exist, values-only}
 use Rattle.theory_graph.specs.AcceptedGraph.{Accepted}
 use Rattle.theory_check.proofs.DriverSort.{nets_of, NoCycle, IsOrder, settled-order}
@@ -16,19 +17,19 @@ use Rattle.theory_check.proofs.AllAssignments.{assignment_numbered, every_assign
 use Rattle.theory_check.proofs.NetRuns.{nets_stay, runs_follow, runs_only, inputs-set, map_agree}
 
 is_some : Option ℕ → Bool
-is_some none = false
-is_some (some k) = true
+is_some None = false
+is_some (Some k) = true
 
 is_accepted : Checked → Bool
-is_accepted Equal = true
-is_accepted (Differs s k) = false
-is_accepted (Refused n k) = false
+is_accepted (Ok Equal) = true
+is_accepted (Ok (Differs s k)) = false
+is_accepted (Err r) = false
 
 -- ---- the first difference
 
 data Wrong (xs ys : List Bool) (k : ℕ) : Option ℕ → Type 0 where
-  nowhere : ((j : ℕ) → j < length xs → get_or xs j false ≡ get_or ys j false) → Wrong xs ys k none
-  at : (j : ℕ) → j < length xs → ¬ (get_or xs j false ≡ get_or ys j false) → ((i : ℕ) → i < j → get_or xs i false ≡ get_or ys i false) → Wrong xs ys k (some (k + j))
+  nowhere : ((j : ℕ) → j < length xs → get_or xs j false ≡ get_or ys j false) → Wrong xs ys k None
+  at : (j : ℕ) → j < length xs → ¬ (get_or xs j false ≡ get_or ys j false) → ((i : ℕ) → i < j → get_or xs i false ≡ get_or ys i false) → Wrong xs ys k (Some (k + j))
 
 beq-eq : (a b : Bool) → beq a b ≡ true → a ≡ b
 beq-eq true true e = refl
@@ -52,18 +53,18 @@ first_wrong_lem k (x ∷ xs) (y ∷ ys) e = go (beq x y) refl (first_wrong (suc 
     both P a b zero = a
     both P a b (suc j) = b j
 
-    go : (b : Bool) → beq x y ≡ b → (o : Option ℕ) → Wrong xs ys (suc k) o → Wrong (x ∷ xs) (y ∷ ys) k (cond b o (some k))
+    go : (b : Bool) → beq x y ≡ b → (o : Option ℕ) → Wrong xs ys (suc k) o → Wrong (x ∷ xs) (y ∷ ys) k (cond b o (Some k))
     go true q o (nowhere h) = nowhere (both (λ j. j < suc (length xs) → get_or (x ∷ xs) j false ≡ get_or (y ∷ ys) j false) (λ _. beq-eq x y q) (λ j i. h j (le_of_suc-le-suc i)))
     go true q o (at j i n before) = rw (← let z : k + suc j ≡ suc k + j = omega arith in z) (at (suc j) (omega arith) n
         (both (λ i. i < suc j → get_or (x ∷ xs) i false ≡ get_or (y ∷ ys) i false) (λ _. beq-eq x y q) (λ i h. before i (le_of_suc-le-suc h))))
-    go false q o r = subst (λ (m : ℕ). Wrong (x ∷ xs) (y ∷ ys) k (some m)) (let z : k + 0 ≡ k = omega arith in z)
+    go false q o r = subst (λ (m : ℕ). Wrong (x ∷ xs) (y ∷ ys) k (Some m)) (let z : k + 0 ≡ k = omega arith in z)
         (at 0 (omega arith) (beq-not x y q) (λ i h. absurd (not-suc-le-zero h)))
 
 -- ---- the lowest assignment
 
-data Lowest (wrong : ℕ → Option ℕ) (s n : ℕ) : Checked → Type 0 where
-  never : ((r : ℕ) → r < n → wrong (s + r) ≡ none) → Lowest wrong s n Equal
-  first : (r k : ℕ) → r < n → wrong (s + r) ≡ some k → ((q : ℕ) → q < r → wrong (s + q) ≡ none) → Lowest wrong s n (Differs (s + r) k)
+data Lowest (wrong : ℕ → Option ℕ) (s n : ℕ) : Comparison → Type 0 where
+  never : ((r : ℕ) → r < n → wrong (s + r) ≡ None) → Lowest wrong s n Equal
+  first : (r k : ℕ) → r < n → wrong (s + r) ≡ Some k → ((q : ℕ) → q < r → wrong (s + q) ≡ None) → Lowest wrong s n (Differs (s + r) k)
 
 lowest_assignment : (wrong : ℕ → Option ℕ) (n s : ℕ) → Lowest wrong s n (compare_from n s wrong)
 unfolding compare_from
@@ -80,11 +81,11 @@ lowest_assignment wrong (suc n) s = go (wrong s) refl (compare_from n (suc s) wr
     both P a b zero = a
     both P a b (suc j) = b j
 
-    go : (o : Option ℕ) → wrong s ≡ o → (c : Checked) → Lowest wrong (suc s) n c → Lowest wrong s (suc n) (elim o [ none ↦ c | some k ↦ Differs s k ])
-    go none e c (never h) = never (both (λ r. r < suc n → wrong (s + r) ≡ none) (λ _. ap wrong here ∙ e) (λ r i. ap wrong (past r) ∙ h r (le_of_suc-le-suc i)))
-    go none e c (first r k h q before) = rw (← past r) (first (suc r) k (omega arith) (ap wrong (past r) ∙ q)
-        (both (λ q. q < suc r → wrong (s + q) ≡ none) (λ _. ap wrong here ∙ e) (λ q i. ap wrong (past q) ∙ before q (le_of_suc-le-suc i))))
-    go (some k) e c l =
+    go : (o : Option ℕ) → wrong s ≡ o → (c : Comparison) → Lowest wrong (suc s) n c → Lowest wrong s (suc n) (elim o [ None ↦ c | Some k ↦ Differs s k ])
+    go None e c (never h) = never (both (λ r. r < suc n → wrong (s + r) ≡ None) (λ _. ap wrong here ∙ e) (λ r i. ap wrong (past r) ∙ h r (le_of_suc-le-suc i)))
+    go None e c (first r k h q before) = rw (← past r) (first (suc r) k (omega arith) (ap wrong (past r) ∙ q)
+        (both (λ q. q < suc r → wrong (s + q) ≡ None) (λ _. ap wrong here ∙ e) (λ q i. ap wrong (past q) ∙ before q (le_of_suc-le-suc i))))
+    go (Some k) e c l =
         subst (λ (m : ℕ). Lowest wrong s (suc n) (Differs m k)) here (first 0 k (omega arith) (ap wrong here ∙ e) (λ q h. absurd (not-suc-le-zero h)))
 
 -- ---- the netlist against its graph
@@ -197,8 +198,8 @@ module _ (g : Graph) (ds : List Driver) (ok : Sound g ds) where
 
   -- what an assignment's first wrong output is
   data At (s : ℕ) : Option ℕ → Type 0 where
-    fine : ((k : ℕ) → k < length g.outputs → Right g ds s k) → At s none
-    bad : (k : ℕ) → k < length g.outputs → ¬ Right g ds s k → ((j : ℕ) → j < k → Right g ds s j) → At s (some k)
+    fine : ((k : ℕ) → k < length g.outputs → Right g ds s k) → At s None
+    bad : (k : ℕ) → k < length g.outputs → ¬ Right g ds s k → ((j : ℕ) → j < k → Right g ds s j) → At s (Some k)
 
   at_assignment : (s : ℕ) → At s (wrong_at g order s)
   at_assignment s = rw (wrong_is s) (go (first_wrong 0 (wrong_in s) (got s)) (first_wrong_lem 0 (wrong_in s) (got s)
@@ -218,29 +219,29 @@ module _ (g : Graph) (ds : List Driver) (ok : Sound g ds) where
       go o (nowhere h) = fine (λ k b. agree k b (h k (subst (λ (n : ℕ). k < n) (sym (long s)) b)))
       go o (at j h n before) =
           let b : j < length g.outputs = subst (λ (m : ℕ). j < m) (long s) h in
-          subst (λ (m : ℕ). At s (some m)) (sym (zero-add j))
+          subst (λ (m : ℕ). At s (Some m)) (sym (zero-add j))
           (bad j b (λ r. n (wanted_at_lem s j b ∙ is_right_lem s j r ∙ sym (got_at s j b))) (λ i q. agree i (let z : j < length g.outputs = b in omega arith) (before i q)))
 
   -- what is returned
   assignments : ℕ
   assignments = 2 ^ length g.inputs
 
-  answer : Checked
+  answer : Comparison
   answer = compare_from assignments 0 (wrong_at g order)
 
-  all_fine : (s : ℕ) → wrong_at g order s ≡ none → (k : ℕ) → k < length g.outputs → Right g ds s k
+  all_fine : (s : ℕ) → wrong_at g order s ≡ None → (k : ℕ) → k < length g.outputs → Right g ds s k
   unfolding is_some
   all_fine s e = go (wrong_at g order s) e (at_assignment s)
     where
-      go : (o : Option ℕ) → o ≡ none → At s o → (k : ℕ) → k < length g.outputs → Right g ds s k
+      go : (o : Option ℕ) → o ≡ None → At s o → (k : ℕ) → k < length g.outputs → Right g ds s k
       go o q (fine h) = h
       go o q (bad k h n before) = absurd (true≢false (ap is_some q))
 
-  some_bad : (s k : ℕ) → wrong_at g order s ≡ some k → (k < length g.outputs) × (¬ Right g ds s k) × ((j : ℕ) → j < k → Right g ds s j)
+  some_bad : (s k : ℕ) → wrong_at g order s ≡ Some k → (k < length g.outputs) × (¬ Right g ds s k) × ((j : ℕ) → j < k → Right g ds s j)
   unfolding is_some
   some_bad s k e = go (wrong_at g order s) e (at_assignment s)
     where
-      go : (o : Option ℕ) → o ≡ some k → At s o → (k < length g.outputs) × (¬ Right g ds s k) × ((j : ℕ) → j < k → Right g ds s j)
+      go : (o : Option ℕ) → o ≡ Some k → At s o → (k < length g.outputs) × (¬ Right g ds s k) × ((j : ℕ) → j < k → Right g ds s j)
       go o q (fine h) = absurd (false≢true (ap is_some q))
       go o q (bad j h n before) = let y : j ≡ k = cc in rw (← y) (h, n, before)
 
@@ -251,7 +252,7 @@ module _ (g : Graph) (ds : List Driver) (ok : Sound g ds) where
   FirstBad s k = (s < assignments) × (k < length g.outputs) × (¬ Right g ds s k)
       × ((j : ℕ) → j < k → Right g ds s j) × ((r : ℕ) → r < s → (j : ℕ) → j < length g.outputs → Right g ds r j)
 
-  data Answers : Checked → Type 0 where
+  data Answers : Comparison → Type 0 where
     yes-all : AllRight → Answers Equal
     no_at : (s k : ℕ) → FirstBad s k → Answers (Differs s k)
 
@@ -259,7 +260,7 @@ module _ (g : Graph) (ds : List Driver) (ok : Sound g ds) where
   unfolding answer AllRight FirstBad
   answers = go (compare_from assignments 0 (wrong_at g order)) (lowest_assignment (wrong_at g order) assignments 0)
     where
-      go : (c : Checked) → Lowest (wrong_at g order) 0 assignments c → Answers c
+      go : (c : Comparison) → Lowest (wrong_at g order) 0 assignments c → Answers c
       go c (never h) = yes-all (λ s b. all_fine s (ap (wrong_at g order) (sym (zero-add s)) ∙ h s b))
       go c (first r k h e before) = rw (zero-add r) (let b = some_bad r k (ap (wrong_at g order) (sym (zero-add r)) ∙ e) in no_at r k
           (h, b.0, b.1, b.2, (λ q i. all_fine q (cc (zero-add q, before q i)))))
@@ -277,16 +278,16 @@ module _ (g : Graph) (ds : List Driver) (ok : Sound g ds) where
       (e, le_antisymm (outs s k j a (subst (λ (x : ℕ). ¬ Right g ds x j) (sym e) b.2)) (outs r j k b (subst (λ (x : ℕ). ¬ Right g ds x k) e a.2)))
 
   assignment_in : Checked → ℕ
-  assignment_in Equal = 0
-  assignment_in (Differs s k) = s
-  assignment_in (Refused n k) = 0
+  assignment_in (Ok Equal) = 0
+  assignment_in (Ok (Differs s k)) = s
+  assignment_in (Err r) = 0
 
   output_in : Checked → ℕ
-  output_in Equal = 0
-  output_in (Differs s k) = k
-  output_in (Refused n k) = 0
+  output_in (Ok Equal) = 0
+  output_in (Ok (Differs s k)) = k
+  output_in (Err r) = 0
 
-  pub compared : Compared g ds (compare_from (2 ^ length g.inputs) 0 (wrong_at g (settled (length ds) (input_nets g) ds)))
+  pub compared : Compared g ds (Ok (compare_from (2 ^ length g.inputs) 0 (wrong_at g (settled (length ds) (input_nets g) ds))))
   unfolding order answer assignments is_accepted AllRight FirstBad assignment_in output_in
   compared = record {
     graph_has = λ s. (value_of g (assignment_of s 0 g.inputs), values_exist g ok.graph (assignment_of s 0 g.inputs));
@@ -301,11 +302,11 @@ module _ (g : Graph) (ds : List Driver) (ok : Sound g ds) where
     );
   }
     where
-      by_answer : (c : Checked) → Answers c → (c ≡ Equal) ↔ AllRight
+      by_answer : (c : Comparison) → Answers c → (◌≡◌ {A = Checked} (Ok c) (Ok Equal)) ↔ AllRight
       by_answer c (yes-all h) = ((λ _. h), (λ _. refl))
       by_answer c (no_at s k f) = ((λ e. absurd (false≢true (ap is_accepted e))), (λ h. absurd (f.2 (h s f.0 k f.1))))
 
-      at-answer : (s k : ℕ) (c : Checked) → Answers c → (c ≡ Differs s k) ↔ FirstBad s k
+      at-answer : (s k : ℕ) (c : Comparison) → Answers c → (◌≡◌ {A = Checked} (Ok c) (Ok (Differs s k))) ↔ FirstBad s k
       at-answer s k c (yes-all h) = ((λ e. absurd (true≢false (ap is_accepted e))), (λ f. absurd (f.2 (h s f.0 k f.1))))
       at-answer s k c (no_at r j f) =
-          ((λ e. rw (← ap assignment_in e) (rw (← ap output_in e) f)), (λ b. let o = one_bad r j s k f b in ap₂ Differs o.0 o.1))
+          ((λ e. rw (← ap assignment_in e) (rw (← ap output_in e) f)), (λ b. let o = one_bad r j s k f b in ap₂ (λ (a b : ℕ). Ok (Differs a b)) o.0 o.1))

@@ -1,6 +1,6 @@
 -- Drivers without a cycle can be put in an order, each behind those that feed it: `settled` leaves none.
 use Rattle.base.specs.{ℕ, zero, suc, ◌≤◌, not-suc-le-zero, arith, ◌≡◌, refl, sym, ◌∙◌, ap, subst, ◌⊎◌, inl, inr, ⊎_elim, Bool, true, false}
-use Rattle.base.specs.{cond, ◌||◌, true≢false, Option, none, some, List, [], ◌∷◌, map, Memᴰ, Memᴰ-head, Memᴰ-tail}
+use Rattle.base.specs.{cond, ◌||◌, true≢false, Option, None, Some, List, [], ◌∷◌, map, Memᴰ, Memᴰ-head, Memᴰ-tail}
 use Rattle.base.specs.{Memᴰ-not-nil, Memᴰ-cast, T, length}
 use Rattle.model.specs.{any, all, same, and_then, Driver, among, take_ready, settled, Distinct}
 use Rattle.theory_graph.proofs.{map_in, map_out, same-eq, same_refl, is_true, all_of, by_bool, by_member}
@@ -140,8 +140,8 @@ record Taken (known : List (List ℕ)) (ds : List Driver) (d : Driver) (left : L
   once : Distinct (nets_of ds) → Distinct (nets_of (d ∷ left))
 
 data Ready (known : List (List ℕ)) (ds : List Driver) : Option (Driver × List Driver) → Type 0 where
-  stuck : ((d : Driver) → Memᴰ d ds → (n : List ℕ) × Memᴰ n d.uses × (among n known ≡ false)) → Ready known ds none
-  ready : (d : Driver) (left : List Driver) → Taken known ds d left → Ready known ds (some (d, left))
+  stuck : ((d : Driver) → Memᴰ d ds → (n : List ℕ) × Memᴰ n d.uses × (among n known ≡ false)) → Ready known ds None
+  ready : (d : Driver) (left : List Driver) → Taken known ds d left → Ready known ds (Some (d, left))
 
 take-ready : (known : List (List ℕ)) (ds : List Driver) → Ready known ds (take_ready known ds)
 unfolding take_ready
@@ -170,7 +170,7 @@ take-ready known (d ∷ ds) = go (all (λ (n : List ℕ). among n known) d.uses)
         apart o r (Memᴰ-tail i) = r.0 i
 
     go : (b : Bool) → all (λ (n : List ℕ). among n known) d.uses ≡ b → (o : Option (Driver × List Driver)) → Ready known ds o
-        → Ready known (d ∷ ds) (cond b (some (d, ds)) (and_then {B = Driver × List Driver} o (λ r. some (r.0, d ∷ r.1))))
+        → Ready known (d ∷ ds) (cond b (Some (d, ds)) (and_then {B = Driver × List Driver} o (λ r. Some (r.0, d ∷ r.1))))
     go true e o r = ready d ds (record {
       knows = unfold all in λ n m. among_out n known (all_of (λ (x : List ℕ). among x known) d.uses (subst T (sym e) tt) n m);
       is_one = Memᴰ-head refl;
@@ -220,11 +220,11 @@ settled-order ds none-on (suc fuel) known left h sub uses = go (take_ready known
     go : (o : Option (Driver × List Driver)) → Ready known left o
         → ((k : List (List ℕ)) (l : List Driver) → length l ≤ fuel → ((d : Driver) → Memᴰ d l → Memᴰ d ds)
         → ((d : Driver) → Memᴰ d l → (n : List ℕ) → Memᴰ n d.uses → Memᴰ n k ⊎ Memᴰ n (nets_of l)) → IsOrder k l (settled fuel k l))
-        → IsOrder known left (elim o [ none ↦ [] | some r ↦ r.0 ∷ settled fuel (r.0.net ∷ known) r.1 ])
-    go none (stuck f) more =
+        → IsOrder known left (elim o [ None ↦ [] | Some r ↦ r.0 ∷ settled fuel (r.0.net ∷ known) r.1 ])
+    go None (stuck f) more =
         let none_here = none_left ds left sub none-on (fed f) in
         record { ordered = tt; has = λ d m. absurd (none_here d m); has_only = λ d m. absurd (Memᴰ-not-nil m); once = λ o. tt }
-    go (some r) (ready d rest t) more = record {
+    go (Some r) (ready d rest t) more = record {
       ordered = (t.knows, k.ordered);
       has = λ x m. (⊎_elim Memᴰ-head (λ e. Memᴰ-tail (k.has x e)) (t.rest x m));
       has_only = λ x m. (by_member m (λ q. Memᴰ-cast q t.is_one) (λ e. t.sub x (k.has_only x e)));

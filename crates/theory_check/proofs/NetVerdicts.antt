@@ -1,6 +1,6 @@
 -- What 32 and 33 leave is sound: each net driven once, every net used driven, no cycle, every output driven.
 use Rattle.base.specs.{ℕ, zero, suc, ◌+◌, ◌<◌, not-suc-le-zero, le_of_suc-le-suc, zero-add, arith, ◌≡◌, refl, sym, ◌∙◌, ap, subst, ◌⊎◌}
-use Rattle.base.specs.{Bool, true, false, not, cond, ◌&&◌, true≢false, Option, none, some, List, [], ◌∷◌, ◌++◌, Memᴰ, Memᴰ-head}
+use Rattle.base.specs.{Bool, true, false, not, cond, ◌&&◌, true≢false, Option, None, Some, List, [], ◌∷◌, ◌++◌, Memᴰ, Memᴰ-head}
 use Rattle.base.specs.{Memᴰ-tail, Memᴰ-not-nil, Memᴰ-append_cases, Memᴰ-cast, T, eqb, length, get_or}
 use Rattle.model.specs.{any, same, Line, ended_by_ten, text, fields, Read, holds, next, from?, out_name, Driver, is_net, among, driven_twice}
 use Rattle.model.specs.{undriven, first_line, on_cycle, unless_at, validate_nets, name_driver, past_row, read_names, is_gate, gate_driver, read_drivers}
@@ -12,18 +12,18 @@ use Rattle.theory_check.proofs.DriverSort.{nets_of, NoCycle, among_in, among_out
 use Rattle.theory_check.proofs.Cycles.{cycle-found}
 
 is_some : Option ℕ → Bool
-is_some none = false
-is_some (some k) = true
+is_some None = false
+is_some (Some k) = true
 
 -- ---- 33
 
-pub twice-none : (known : List (List ℕ)) (ds : List Driver) → driven_twice known ds ≡ none → Distinct (nets_of ds) × ((n : List ℕ) → Memᴰ n known → ¬ Memᴰ n (nets_of ds))
+pub twice-none : (known : List (List ℕ)) (ds : List Driver) → driven_twice known ds ≡ None → Distinct (nets_of ds) × ((n : List ℕ) → Memᴰ n known → ¬ Memᴰ n (nets_of ds))
 unfolding driven_twice
 twice-none known [] e = (tt, (λ n m. Memᴰ-not-nil))
 twice-none known (d ∷ ds) e = go (among d.net known) refl e (twice-none (d.net ∷ known) ds)
   where
-    go : (b : Bool) → among d.net known ≡ b → cond b (some d.offset) (driven_twice (d.net ∷ known) ds) ≡ none
-        → (driven_twice (d.net ∷ known) ds ≡ none → Distinct (nets_of ds) × ((n : List ℕ) → Memᴰ n (d.net ∷ known) → ¬ Memᴰ n (nets_of ds)))
+    go : (b : Bool) → among d.net known ≡ b → cond b (Some d.offset) (driven_twice (d.net ∷ known) ds) ≡ None
+        → (driven_twice (d.net ∷ known) ds ≡ None → Distinct (nets_of ds) × ((n : List ℕ) → Memᴰ n (d.net ∷ known) → ¬ Memᴰ n (nets_of ds)))
         → Distinct (nets_of (d ∷ ds)) × ((n : List ℕ) → Memᴰ n known → ¬ Memᴰ n (nets_of (d ∷ ds)))
     go true q h later = absurd (true≢false (unfold is_some in ap is_some h))
     go false q h later = (
@@ -32,7 +32,7 @@ twice-none known (d ∷ ds) e = go (among d.net known) refl e (twice-none (d.net
           (λ u. true≢false (sym (among_in d.net known (Memᴰ-cast (sym u) m)) ∙ q)) (λ e. (later h).1 n (Memᴰ-tail m) e)),
     )
 
-none_such : (p : Driver → Bool) (ds : List Driver) → first_line p ds ≡ none → (d : Driver) → Memᴰ d ds → p d ≡ false
+none_such : (p : Driver → Bool) (ds : List Driver) → first_line p ds ≡ None → (d : Driver) → Memᴰ d ds → p d ≡ false
 unfolding first_line
 none_such p (x ∷ ds) e d m = by_bool (p x) (λ q. absurd (true≢false (unfold is_some in ap is_some (rw q at e))))
     (λ r. elim m [ Memᴰ-head u ↦ ap p u ∙ r | Memᴰ-tail n ↦ none_such p ds (rw r at e) d n ])
@@ -53,10 +53,10 @@ one-driver (x ∷ ds) once d e (Memᴰ-tail m) (Memᴰ-head q) s = absurd (once.
 one-driver (x ∷ ds) once d e (Memᴰ-tail m) (Memᴰ-tail n) s = one-driver ds once.1 d e m n s
 one-driver [] once d e x4 _ s = elim x4 [ ]
 
-pub unless-none : {A : Type 0} (o : Option ℕ) (n : ℕ) (r : Read A) (a : A) → unless_at o n r ≡ holds a → (o ≡ none) × (r ≡ holds a)
+pub unless-none : {A : Type 0} (o : Option ℕ) (n : ℕ) (r : Read A) (a : A) → unless_at o n r ≡ holds a → (o ≡ None) × (r ≡ holds a)
 unfolding unless_at
-unless-none none n r a e = (refl, e)
-unless-none (some k) n r a e = absurd (fault_never e)
+unless-none None n r a e = (refl, e)
+unless-none (Some k) n r a e = absurd (fault_never e)
 
 -- "33 when a line drives a net already driven, then when one uses a net that no line drives, then when one drives a net on a circle": none does
 pub record Nets (inputs : List (List ℕ)) (ds : List Driver) : Type 0 where
@@ -84,7 +84,7 @@ nets-validated inputs ds es e =
 -- ---- 32
 
 -- a `.names` line drives its output's own name
-named-net : (k : ℕ) (l : Line) (d : Driver) → name_driver k l ≡ some d → out_name k ≡ d.net
+named-net : (k : ℕ) (l : Line) (d : Driver) → name_driver k l ≡ Some d → out_name k ≡ d.net
 unfolding name_driver
 named-net k l d e =
     let ws = fields l.bytes in

@@ -1,7 +1,7 @@
 -- The drivers that the check reads from a netlist mean what the text means as BLIF: where `read_netlist` holds, `read_blif` reads, and the two have the same
 -- values.
 use Rattle.base.specs.{ℕ, zero, suc, ◌+◌, ◌≤◌, ◌<◌, add-zero, arith, ◌≡◌, refl, sym, ◌∙◌, ap, ap₂, subst, inl, inr, ⊎_elim, Bool, true}
-use Rattle.base.specs.{false, cond, ◌&&◌, true≢false, false≢true, Option, none, some, List, [], ◌∷◌, ◌++◌, map, reverse, reverse-cons}
+use Rattle.base.specs.{false, cond, ◌&&◌, true≢false, false≢true, Option, None, Some, List, [], ◌∷◌, ◌++◌, map, reverse, reverse-cons}
 use Rattle.base.specs.{append_assoc, append-nil, Memᴰ, Memᴰ-head, Memᴰ-tail, Memᴰ-not-nil, Memᴰ-append_cases}
 use Rattle.base.specs.{Memᴰ-append_left, Memᴰ-append_right, T, eqb, eqb→eq, lit<, length, take, get_or, take-append_seam, get_or-append-add}
 use Rattle.base.specs.{and_yes, eqb_yes}
@@ -21,14 +21,14 @@ use Rattle.theory_check.proofs.CheckSteps.{three}
 use Rattle.theory_check.proofs.PrintedNets.{wire-value}
 
 is_some : {A : Type 0} → Option A → Bool
-is_some none = false
-is_some (some a) = true
+is_some None = false
+is_some (Some a) = true
 
-none_never : {A : Type 0} {a : A} → none ≡ some a → ⊥
+none_never : {A : Type 0} {a : A} → None ≡ Some a → ⊥
 unfolding is_some
 none_never e = false≢true (ap is_some e)
 
-some-once : {A : Type 0} {a b : A} → some a ≡ some b → a ≡ b
+some-once : {A : Type 0} {a b : A} → Some a ≡ Some b → a ≡ b
 some-once e = cc
 
 -- ---- lines by either reader
@@ -105,7 +105,7 @@ unfoldable binds : ℕ → List (List ℕ) → List ℕ → List Binding
 binds b [] o = record { pin = output_name; net = o } ∷ []
 binds b (n ∷ ns) o = record { pin = b ∷ []; net = n } ∷ binds (suc b) ns o
 
-pin-word : (b : ℕ) (w n : List ℕ) → pin_net b w ≡ some n → w ≡ b ∷ 61 ∷ n
+pin-word : (b : ℕ) (w n : List ℕ) → pin_net b w ≡ Some n → w ≡ b ∷ 61 ∷ n
 unfolding pin_net
 pin-word b [] n e = absurd (none_never e)
 pin-word b (c ∷ []) n e = absurd (none_never e)
@@ -115,16 +115,16 @@ pin-word b (c ∷ d ∷ w) n e =
     let q = and_yes (eqb d 61) (is_net w) p.1 in
     ap₂ (λ (x : ℕ) (xs : List ℕ). x ∷ xs) (eqb_yes p.0) (ap₂ (λ (x : ℕ) (xs : List ℕ). x ∷ xs) (eqb_yes q.0) o.1)
 
-read-binding : (b : ℕ) (n : List ℕ) → 61 < b → binding (b ∷ 61 ∷ n) ≡ some (record { pin = b ∷ []; net = n })
+read-binding : (b : ℕ) (n : List ℕ) → 61 < b → binding (b ∷ 61 ∷ n) ≡ Some (record { pin = b ∷ []; net = n })
 unfolding binding and_then longer
-read-binding b n h = ap (λ (t : Bool). cond t (some (record { pin = []; net = 61 ∷ n })) (some (record { pin = b ∷ []; net = n }))) (above 61 b h)
+read-binding b n h = ap (λ (t : Bool). cond t (Some (record { pin = []; net = 61 ∷ n })) (Some (record { pin = b ∷ []; net = n }))) (above 61 b h)
 
 record Bound (b m : ℕ) (ws nets : List (List ℕ)) : Type 0 where
   uses : List (List ℕ)
   out : List ℕ
   are : nets ≡ uses ++ (out ∷ [])
   count : length uses ≡ m
-  reads : bindings_of ws ≡ some (binds b uses out)
+  reads : bindings_of ws ≡ Some (binds b uses out)
   full : (w : List ℕ) → ¬ (last_of (w ∷ ws) ≡ [])
 
 letters : ℕ → ℕ → List ℕ
@@ -137,28 +137,28 @@ cons_full n w e = true≢false (ap filled e)
     filled [] = false
     filled (x ∷ xs) = true
 
-nets-bound : (m i : ℕ) (ws nets : List (List ℕ)) → bound_nets (letters i m) ws ≡ some nets → Bound (65 + i) m ws nets
+nets-bound : (m i : ℕ) (ws nets : List (List ℕ)) → bound_nets (letters i m) ws ≡ Some nets → Bound (65 + i) m ws nets
 unfolding letters from bound_nets binds bindings_of and_then last_of
 nets-bound zero i [] nets e = absurd (none_never e)
 nets-bound zero i (w ∷ ws) nets e =
     let a = then_out (pin_net 79 w) _ nets e in
-    let b = then_out (bound_nets [] ws) (λ ns. some (a.0 ∷ ns)) nets a.2 in
+    let b = then_out (bound_nets [] ws) (λ ns. Some (a.0 ∷ ns)) nets a.2 in
     go ws b.0 a.0 b.1 (pin-word 79 w a.0 a.1) (some-once b.2)
   where
-    go : (vs ns : List (List ℕ)) (n : List ℕ) → bound_nets [] vs ≡ some ns → w ≡ 79 ∷ 61 ∷ n → n ∷ ns ≡ nets → Bound (65 + i) 0 (w ∷ vs) nets
+    go : (vs ns : List (List ℕ)) (n : List ℕ) → bound_nets [] vs ≡ Some ns → w ≡ 79 ∷ 61 ∷ n → n ∷ ns ≡ nets → Bound (65 + i) 0 (w ∷ vs) nets
     go (v ∷ vs) ns n q f h = absurd (none_never q)
     go [] ns n q f h = record {
       uses = [];
       out = n;
       are = sym h ∙ ap (λ (xs : List (List ℕ)). n ∷ xs) (sym (some-once q));
       count = refl;
-      reads = ap (λ (x : List ℕ). and_then (binding x) (λ p. some (p ∷ []))) f ∙ ap (λ (x : Option Binding). and_then x (λ p. some (p ∷ []))) (read-binding 79 n (lit< tt));
+      reads = ap (λ (x : List ℕ). and_then (binding x) (λ p. Some (p ∷ []))) f ∙ ap (λ (x : Option Binding). and_then x (λ p. Some (p ∷ []))) (read-binding 79 n (lit< tt));
       full = λ _ z. cons_full 79 (61 ∷ n) (sym f ∙ z);
     }
 nets-bound (suc m) i [] nets e = absurd (none_never e)
 nets-bound (suc m) i (w ∷ ws) nets e =
     let a = then_out (pin_net (65 + i) w) _ nets e in
-    let b = then_out (bound_nets (letters (suc i) m) ws) (λ ns. some (a.0 ∷ ns)) nets a.2 in
+    let b = then_out (bound_nets (letters (suc i) m) ws) (λ ns. Some (a.0 ∷ ns)) nets a.2 in
     go a.0 b.0 (pin-word (65 + i) w a.0 a.1) (some-once b.2) (nets-bound m (suc i) ws b.0 b.1)
   where
     go : (n : List ℕ) (ns : List (List ℕ)) → w ≡ (65 + i) ∷ 61 ∷ n → n ∷ ns ≡ nets → Bound (65 + suc i) m ws ns → Bound (65 + i) (suc m) (w ∷ ws) nets
@@ -168,10 +168,10 @@ nets-bound (suc m) i (w ∷ ws) nets e =
       are = sym h ∙ ap (λ (xs : List (List ℕ)). n ∷ xs) r.are;
       count = ap suc r.count;
       reads =
-          ap (λ (x : List ℕ). and_then (binding x) (λ p. and_then (bindings_of ws) (λ ps. some (p ∷ ps)))) f
-          ∙ ap (λ (x : Option Binding). and_then x (λ p. and_then (bindings_of ws) (λ ps. some (p ∷ ps)))) (read-binding (65 + i) n (omega arith))
-          ∙ ap (λ (x : Option (List Binding)). and_then x (λ ps. some (record { pin = (65 + i) ∷ []; net = n } ∷ ps))) r.reads
-          ∙ ap (λ (k : ℕ). some (record { pin = (65 + i) ∷ []; net = n } ∷ binds k r.uses r.out)) (let z : 65 + suc i ≡ suc (65 + i) = omega arith in z);
+          ap (λ (x : List ℕ). and_then (binding x) (λ p. and_then (bindings_of ws) (λ ps. Some (p ∷ ps)))) f
+          ∙ ap (λ (x : Option Binding). and_then x (λ p. and_then (bindings_of ws) (λ ps. Some (p ∷ ps)))) (read-binding (65 + i) n (omega arith))
+          ∙ ap (λ (x : Option (List Binding)). and_then x (λ ps. Some (record { pin = (65 + i) ∷ []; net = n } ∷ ps))) r.reads
+          ∙ ap (λ (k : ℕ). Some (record { pin = (65 + i) ∷ []; net = n } ∷ binds k r.uses r.out)) (let z : 65 + suc i ≡ suc (65 + i) = omega arith in z);
       full = λ v z. r.full w z;
     }
 
@@ -190,7 +190,7 @@ fed-from i b e (n ∷ ns) o =
     ∙ fed-from (suc i) (suc b) (omega arith) ns o)
 
 -- the listed cell of a name, by either reader
-named-is : (cells : List Cell) (name : List ℕ) (c : Cell) → cell_named cells name ≡ some c → (named cells name ≡ c) × Memᴰ c cells
+named-is : (cells : List Cell) (name : List ℕ) (c : Cell) → cell_named cells name ≡ Some c → (named cells name ≡ c) × Memᴰ c cells
 unfolding cell_named named
 named-is [] name c e = absurd (none_never e)
 named-is (d ∷ cs) name c e = by_bool (same (name_of d) name)
@@ -237,10 +237,10 @@ record GateWords (cells : List Cell) (fs : List (List ℕ)) (d : Driver) : Type 
   are : fs ≡ key ∷ name ∷ ws
   full : ¬ (last_of fs ≡ [])
   bindings : List Binding
-  reads : bindings_of ws ≡ some bindings
+  reads : bindings_of ws ≡ Some bindings
   says : Says cells d (record { cell = name; bindings = bindings })
 
-gate-words : (cells : List Cell) → Few cells → (at : ℕ) (fs : List (List ℕ)) (d : Driver) → gate_of_fields cells at fs ≡ some d → GateWords cells fs d
+gate-words : (cells : List Cell) → Few cells → (at : ℕ) (fs : List (List ℕ)) (d : Driver) → gate_of_fields cells at fs ≡ Some d → GateWords cells fs d
 unfolding gate_of_fields below letters last_of drives fed_by pin_names
 gate-words cells few at [] d e = absurd (none_never e)
 gate-words cells few at (k ∷ []) d e = absurd (none_never e)
@@ -268,12 +268,12 @@ gate-words cells few at (k ∷ name ∷ ws) d e =
     let a = then_out (cell_named cells name) _ d e in
     let c = a.0 in
     let b = then_out (bound_nets (letters 0 c.pins) ws)
-    (λ nets. some (record { offset = at; table = c.table; uses = take c.pins nets; net = get_or nets c.pins [] })) d a.2 in
+    (λ nets. Some (record { offset = at; table = c.table; uses = take c.pins nets; net = get_or nets c.pins [] })) d a.2 in
     go c b.0 (named-is cells name c a.1) (some-once b.2) (nets-bound c.pins 0 ws b.0 b.1)
 
 -- a gate's line by either reader
-gate-read : (cells : List Cell) → Few cells → (l : Line) (d : Driver) → T (is_gate l) → gate_driver cells l ≡ some d
-    → T (ended_by_ten l) × ((t : GateLine) × (read_gate l.bytes ≡ some t) × Says cells d t)
+gate-read : (cells : List Cell) → Few cells → (l : Line) (d : Driver) → T (is_gate l) → gate_driver cells l ≡ Some d
+    → T (ended_by_ten l) × ((t : GateLine) × (read_gate l.bytes ≡ Some t) × Says cells d t)
 unfolding gate_driver is_gate read_gate words_after after_word gate_of only same text and_then
 gate-read cells few l d g e =
     let a = then_out (only (ended_by_ten l) (fields l.bytes)) (gate_of_fields cells l.offset) d e in
@@ -285,7 +285,7 @@ gate-read cells few l d g e =
       (
         record { cell = w.name; bindings = w.bindings },
         ap (λ (fs : List (List ℕ)). and_then (after_word (text ".gate") fs) gate_of) p
-            ∙ ap (λ (x : Option (List Binding)). and_then x (λ ps. some (record { cell = w.name; bindings = ps }))) w.reads,
+            ∙ ap (λ (x : Option (List Binding)). and_then x (λ ps. Some (record { cell = w.name; bindings = ps }))) w.reads,
         w.says,
       ),
     )
@@ -300,7 +300,7 @@ record NameWords (k : ℕ) (l : Line) (d : Driver) : Type 0 where
   parts_are : parts 32 l.bytes ≡ text ".names" ∷ source ∷ out_name k ∷ []
   hands : Hands d (record { source = source; target = out_name k })
 
-name-words : (k : ℕ) (l : Line) (d : Driver) → name_driver k l ≡ some d → NameWords k l d
+name-words : (k : ℕ) (l : Line) (d : Driver) → name_driver k l ≡ Some d → NameWords k l d
 unfolding name_driver last_of out_name
 name-words k l d e =
     let ws = fields l.bytes in
@@ -334,7 +334,7 @@ row_read end (l ∷ ls) rest ps a e =
     let h = headed l ls ps i.0 a in
     (h.behind, h.are ∙ ap (λ (x : List ℕ). x ∷ h.behind) i.1, subst (λ (xs : List Line). Along xs h.behind) (holds-once u.1) h.follow)
 
-end-wires : (qs : List (List ℕ)) → read_wires (text ".end" ∷ qs) ≡ some []
+end-wires : (qs : List (List ℕ)) → read_wires (text ".end" ∷ qs) ≡ Some []
 unfolding read_wires same text
 end-wires [] = refl
 end-wires (q ∷ qs) = refl
@@ -343,9 +343,9 @@ record NamesRead (ds : List Driver) (ps : List (List ℕ)) : Type 0 where
   first : List ℕ
   behind : List (List ℕ)
   are : ps ≡ first ∷ behind
-  no_gate : read_gate first ≡ none
+  no_gate : read_gate first ≡ None
   wires : List Wire
-  reads : read_wires ps ≡ some wires
+  reads : read_wires ps ≡ Some wires
   hand : All2 Hands ds wires
 
 one_field : (w : List ℕ) (n : ℕ) (a b : List ℕ) → fields w ≡ text ".names" ∷ a ∷ b ∷ [] → same w (text ".end") ≡ false
@@ -357,11 +357,11 @@ one_field w n a b e = go (same w (text ".end")) (same-eq w (text ".end"))
     go false y = refl
 
 wire-read : (p : List ℕ) (qs : List (List ℕ)) (k : ℕ) (source : List ℕ) (xs : List Wire) → same p (text ".end") ≡ false
-    → parts 32 p ≡ text ".names" ∷ source ∷ out_name k ∷ [] → read_wires qs ≡ some xs → read_wires (p ∷ text "1 1" ∷ qs) ≡ some (record { source = source; target = out_name k } ∷ xs)
+    → parts 32 p ≡ text ".names" ∷ source ∷ out_name k ∷ [] → read_wires qs ≡ Some xs → read_wires (p ∷ text "1 1" ∷ qs) ≡ Some (record { source = source; target = out_name k } ∷ xs)
 unfolding read_wires read_wire words_after after_word wire_of only same text and_then
 wire-read p qs k source xs n e q =
-    ap (λ (t : Bool). cond t (some []) (and_then (read_wire p (text "1 1")) (λ x. and_then (read_wires qs) (λ ys. some (x ∷ ys))))) n
-    ∙ ap₂ (λ (fs : List (List ℕ)) (o : Option (List Wire)). and_then (and_then (after_word (text ".names") fs) wire_of) (λ x. and_then o (λ ys. some (x ∷ ys)))) e q
+    ap (λ (t : Bool). cond t (Some []) (and_then (read_wire p (text "1 1")) (λ x. and_then (read_wires qs) (λ ys. Some (x ∷ ys))))) n
+    ∙ ap₂ (λ (fs : List (List ℕ)) (o : Option (List Wire)). and_then (and_then (after_word (text ".names") fs) wire_of) (λ x. and_then o (λ ys. Some (x ∷ ys)))) e q
 
 names-read : (end k left : ℕ) (ls : List Line) (ds : List Driver) (ps : List (List ℕ)) → Along ls ps → read_names end k left ls ≡ holds ds → NamesRead ds ps
 unfolding read_names
@@ -403,13 +403,13 @@ names-read end k (suc left) (l ∷ ls) ds ps al e =
 
 -- ---- the gates, and the wires behind them
 
-body_gate : (l : List ℕ) (ls : List (List ℕ)) (t : GateLine) (b : Body) → read_gate l ≡ some t → read_body ls ≡ some b → read_body (l ∷ ls) ≡ some (record { gates = t ∷ b.gates; wires = b.wires })
+body_gate : (l : List ℕ) (ls : List (List ℕ)) (t : GateLine) (b : Body) → read_gate l ≡ Some t → read_body ls ≡ Some b → read_body (l ∷ ls) ≡ Some (record { gates = t ∷ b.gates; wires = b.wires })
 unfolding read_body body_from and_then
 body_gate l ls t b e q = ap₂ (λ (o : Option GateLine) (x : Option Body). body_from o x (read_wires (l ∷ ls))) e q
 
 record DriversRead (cells : List Cell) (ds : List Driver) (ps : List (List ℕ)) : Type 0 where
   body : Body
-  reads : read_body ps ≡ some body
+  reads : read_body ps ≡ Some body
   of_gates : List Driver
   of_names : List Driver
   are : ds ≡ of_gates ++ of_names
@@ -496,8 +496,8 @@ outputs-word : Word (text ".outputs")
 unfolding text
 outputs-word = word {b = 46} {w = 111 ∷ 117 ∷ 116 ∷ 112 ∷ 117 ∷ 116 ∷ 115 ∷ []} (refl, (refl, (refl, (refl, (refl, (refl, (refl, (refl, tt))))))))
 
-preamble-read : (g : Graph) (qs : List (List ℕ)) (b : Body) → read_body qs ≡ some b
-    → read_lines (preamble_of g ++ qs) ≡ some (record { inputs = input_nets g; outputs = output_nets g; gates = b.gates; wires = b.wires })
+preamble-read : (g : Graph) (qs : List (List ℕ)) (b : Body) → read_body qs ≡ Some b
+    → read_lines (preamble_of g ++ qs) ≡ Some (record { inputs = input_nets g; outputs = output_nets g; gates = b.gates; wires = b.wires })
 unfolding read_lines preamble_of words_after after_word input_nets output_nets same only text and_then
 preamble-read g qs b e = cc (
   names-words (text ".inputs")

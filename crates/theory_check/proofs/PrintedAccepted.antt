@@ -1,5 +1,5 @@
 -- "every netlist that `map` prints from the same texts with I up to 12 is accepted".
-use Rattle.base.specs.{ℕ, suc, ◌+◌, ◌*◌, ◌≤◌, ◌<◌, ◌≡◌, refl, sym, ◌∙◌, ap, ap₂, subst, false, none, List, [], ◌∷◌, ◌++◌, map, append_assoc}
+use Rattle.base.specs.{ℕ, suc, ◌+◌, ◌*◌, ◌≤◌, ◌<◌, ◌≡◌, refl, sym, ◌∙◌, ap, ap₂, subst, false, None, List, [], ◌∷◌, ◌++◌, map, append_assoc}
 use Rattle.base.specs.{append-nil, Memᴰ, Memᴰ-append_left, leb, le→leb, length, get_or}
 use Rattle.model.specs.{each, same, below, lowest, need, Line, text, decimal, lines_from, Read, holds, next, unless, name_of, And, literal}
 use Rattle.model.specs.{var_of, unordered, literal_value, absent, chosen, output, read_library, read_header, read_graph, InputArrival, timed_by, Net, Gate}
@@ -206,7 +206,7 @@ module _ (g : Graph) (es : List InputArrival) where
 -- what is read of texts that hold
 module _ (library graph netlist : List ℕ) (words : ℕ) (cells : List Cell) (h : Header) (g : Graph) (ds : List Driver) where
   pub edited_read : length library ≤ 65536 → length graph ≤ 65536 → length netlist ≤ 65536 → read_library library ≡ holds cells → read_header graph ≡ holds h
-      → need h.size h.outputs + 8 * line_ends netlist ≤ words → read_graph graph h ≡ holds g → lowest (unordered g) ≡ none → length g.inputs ≤ 12
+      → need h.size h.outputs + 8 * line_ends netlist ≤ words → read_graph graph h ≡ holds g → lowest (unordered g) ≡ None → length g.inputs ≤ 12
       → read_netlist cells g netlist ≡ holds ds → validate_nets (input_nets g) ds ≡ holds ds → read_edited library graph netlist words ≡ holds (record { graph = g; drivers = ds })
   unfolding read_edited next unless unless_at
   edited_read a b c l hd n gr p i r j = rw (
@@ -290,7 +290,7 @@ accepts-printed c d t f words e o few short enough = (edited_compared c.library 
     nets-validated : validate_nets (input_nets g) ds ≡ holds ds
     nets-validated = cc (timed-inputs g es, tx.is_timed, drivers_pass listed cells fit d.graph ok small ch.covered rd.0 rd.1)
 
-    ordered : lowest (unordered g) ≡ none
+    ordered : lowest (unordered g) ≡ None
     ordered = unfold lowest in ap lowest (sym (timed-unordered g es) ∙ ap unordered tx.is_timed ∙ ch.ordered)
 
     reads : read_edited c.library c.graph t words ≡ holds (record { graph = g; drivers = ds })

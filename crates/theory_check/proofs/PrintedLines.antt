@@ -1,5 +1,5 @@
 -- Printed lines as the check reads them: a gate's line drives the gate's net, and the `.names` lines drive the outputs' own names.
-use Rattle.base.specs.{ℕ, suc, ◌+◌, ◌<◌, add-zero, arith, ◌≡◌, refl, ◌∙◌, ap, ap₂, Bool, true, ◌&&◌, Option, some, List, [], ◌∷◌, ◌++◌, map}
+use Rattle.base.specs.{ℕ, suc, ◌+◌, ◌<◌, add-zero, arith, ◌≡◌, refl, ◌∙◌, ap, ap₂, Bool, true, ◌&&◌, Option, Some, List, [], ◌∷◌, ◌++◌, map}
 use Rattle.base.specs.{append_assoc, append-nil, Memᴰ, Memᴰ-head, Memᴰ-tail, T, eqb, lit<, length, get_or, take-append_seam}
 use Rattle.base.specs.{get_or-append-add, yes_eqb}
 use Rattle.model.specs.{each, same, and_then, only, from, below, Line, text, lines_from, fields, holds, next, unless, from?, name_of, out_name}
@@ -64,21 +64,21 @@ pub record Fine (cells : List Cell) (x : Shown) : Type 0 where
   pub nets : AreNets x.pins
   pub is_net_too : T (is_net x.net) × Clear x.net
 
-pin-net : (b c : ℕ) → b ≡ c → (n : List ℕ) → T (is_net n) → pin_net c (b ∷ 61 ∷ n) ≡ some n
+pin-net : (b c : ℕ) → b ≡ c → (n : List ℕ) → T (is_net n) → pin_net c (b ∷ 61 ∷ n) ≡ Some n
 unfolding pin_net
 pin-net b c e n t = ap₂ (λ (x y : Bool). only (x && (true && y)) n) (is_true (eqb b c) (yes_eqb e)) (is_true (is_net n) t)
 
 bound-from : (i b : ℕ) → b ≡ 65 + i → (ns : List (List ℕ)) (o : List ℕ) → AreNets ns → T (is_net o)
-    → bound_nets (map (λ (j : ℕ). 65 + j) (from i (length ns)) ++ (79 ∷ [])) (bind_words b ns ++ ((79 ∷ 61 ∷ o) ∷ [])) ≡ some (ns ++ (o ∷ []))
+    → bound_nets (map (λ (j : ℕ). 65 + j) (from i (length ns)) ++ (79 ∷ [])) (bind_words b ns ++ ((79 ∷ 61 ∷ o) ∷ [])) ≡ Some (ns ++ (o ∷ []))
 unfolding bound_nets bind_words from and_then
-bound-from i b e [] o a t = ap (λ (x : Option (List ℕ)). and_then x (λ n. some (n ∷ []))) (pin-net 79 79 refl o t)
+bound-from i b e [] o a t = ap (λ (x : Option (List ℕ)). and_then x (λ n. Some (n ∷ []))) (pin-net 79 79 refl o t)
 bound-from i b e (n ∷ ns) o a t = cc (pin-net b (65 + i) e n a.0.0, bound-from (suc i) (suc b) (omega arith) ns o a.1 t)
 
 -- what the line says
 abbrev pub driver_at : ℕ → Shown → Driver
 driver_at at x = record { offset = at; table = x.cell.table; uses = x.pins; net = x.net }
 
-fields-driver : (cells : List Cell) → T (library_fits cells) → (at : ℕ) (x : Shown) → Fine cells x → gate_of_fields cells at (text ".gate" ∷ shown_words x) ≡ some (driver_at at x)
+fields-driver : (cells : List Cell) → T (library_fits cells) → (at : ℕ) (x : Shown) → Fine cells x → gate_of_fields cells at (text ".gate" ∷ shown_words x) ≡ Some (driver_at at x)
 unfolding gate_of_fields shown_words text and_then below
 fields-driver cells fit at x f = cc (
   named_back cells fit x.cell f.listed,
@@ -107,7 +107,7 @@ unfolding is_gate same text
 shown-gate at x cells fit f =
     ap (λ (ws : List (List ℕ)). same (get_or ws 0 []) (text ".gate")) (fields_worded (text ".gate") (shown_words x) (refl, (refl, (refl, (refl, (refl, tt))))) (clear_words x cells fit f))
 
-shown-driver : (at : ℕ) (x : Shown) (cells : List Cell) → T (library_fits cells) → Fine cells x → gate_driver cells (line_of_bytes at (shown_line x)) ≡ some (driver_at at x)
+shown-driver : (at : ℕ) (x : Shown) (cells : List Cell) → T (library_fits cells) → Fine cells x → gate_driver cells (line_of_bytes at (shown_line x)) ≡ Some (driver_at at x)
 unfolding gate_driver only and_then text
 shown-driver at x cells fit f =
     ap (gate_of_fields cells at) (fields_worded (text ".gate") (shown_words x) (refl, (refl, (refl, (refl, (refl, tt))))) (clear_words x cells fit f))
@@ -115,7 +115,7 @@ shown-driver at x cells fit f =
 
 -- a gate's line, and what is read behind it
 gate-first : (cells : List Cell) (end outs : ℕ) (l : Line) (ls : List Line) (d : Driver) (ds : List Driver)
-    → is_gate l ≡ true → gate_driver cells l ≡ some d → read_drivers cells end outs ls ≡ holds ds → read_drivers cells end outs (l ∷ ls) ≡ holds (d ∷ ds)
+    → is_gate l ≡ true → gate_driver cells l ≡ Some d → read_drivers cells end outs ls ≡ holds ds → read_drivers cells end outs (l ∷ ls) ≡ holds (d ∷ ds)
 unfolding read_drivers from? next
 gate-first cells end outs l ls d ds g e q = cc
 
@@ -171,7 +171,7 @@ pub names-fields : (n : List ℕ) (k : ℕ) → Clear n → fields (worded (text
 unfolding text
 names-fields n k c = fields_worded (text ".names") (n ∷ out_name k ∷ []) (refl, (refl, (refl, (refl, (refl, (refl, tt)))))) (c, (out_clear k, tt))
 
-name-driver : (at k : ℕ) (n : List ℕ) → T (is_net n) × Clear n → name_driver k (line_of_bytes at (worded (text ".names") (n ∷ out_name k ∷ []))) ≡ some (wire_driver at k n)
+name-driver : (at k : ℕ) (n : List ℕ) → T (is_net n) × Clear n → name_driver k (line_of_bytes at (worded (text ".names") (n ∷ out_name k ∷ []))) ≡ Some (wire_driver at k n)
 unfolding name_driver
 name-driver at k n h =
     let made : List (List ℕ) → Option Driver = λ ws. only
@@ -183,7 +183,7 @@ name-driver at k n h =
 
 -- an output's two lines, and what is read behind them
 name-first : (end k left : ℕ) (l r : Line) (ls : List Line) (d : Driver) (ds : List Driver)
-    → name_driver k l ≡ some d → is_line (text "1 1") r ≡ true → read_names end (suc k) left ls ≡ holds ds → read_names end k (suc left) (l ∷ r ∷ ls) ≡ holds (d ∷ ds)
+    → name_driver k l ≡ Some d → is_line (text "1 1") r ≡ true → read_names end (suc k) left ls ≡ holds ds → read_names end k (suc left) (l ∷ r ∷ ls) ≡ holds (d ∷ ds)
 unfolding read_names past_row from? next unless
 name-first end k left l r ls d ds e t q = cc
 

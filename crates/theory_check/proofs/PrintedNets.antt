@@ -1,7 +1,7 @@
 -- The printed netlist's lines drive each net once, use driven nets only and have no cycle; and values that follow them are values of the netlist that reads
 -- back.
 use Rattle.base.specs.{ℕ, zero, suc, ◌+◌, ◌*◌, ◌/◌, ◌%◌, ◌^◌, ◌≤◌, ◌<◌, pow-suc, arith, ◌≡◌, refl, sym, ◌∙◌, ap, ap₂, subst, ◌⊎◌, inl, inr}
-use Rattle.base.specs.{⊎_elim, Bool, true, false, not, cond, ◌&&◌, ◌||◌, Option, none, some, List, [], ◌∷◌, ◌++◌, map, Memᴰ}
+use Rattle.base.specs.{⊎_elim, Bool, true, false, not, cond, ◌&&◌, ◌||◌, Option, None, Some, List, [], ◌∷◌, ◌++◌, map, Memᴰ}
 use Rattle.base.specs.{Memᴰ-head, Memᴰ-tail, Memᴰ-not-nil, Memᴰ-append_cases, Memᴰ-append_left, Memᴰ-append_right}
 use Rattle.base.specs.{Memᴰ-cast, T, ltb, ltb→lt, leb, nltb→le, le→leb, length, yes_and}
 use Rattle.model.specs.{bit, one, all, any, from, below, digits, decimal, between, is_letter, holds, value, row_of, var_of, negated, absent}
@@ -142,7 +142,7 @@ back-distinct : (ns ms : List (List ℕ)) → Distinct (ns ++ ms) → Distinct m
 back-distinct [] ms d = d
 back-distinct (x ∷ ns) ms d = back-distinct ns ms d.1
 
-once-none : (known : List (List ℕ)) (ds : List Driver) → Distinct (nets_of ds) → ((n : List ℕ) → Memᴰ n known → ¬ Memᴰ n (nets_of ds)) → driven_twice known ds ≡ none
+once-none : (known : List (List ℕ)) (ds : List Driver) → Distinct (nets_of ds) → ((n : List ℕ) → Memᴰ n known → ¬ Memᴰ n (nets_of ds)) → driven_twice known ds ≡ None
 unfolding driven_twice
 once-none known [] once apart = refl
 once-none known (d ∷ ds) once apart = by_bool (among d.net known)
@@ -153,10 +153,10 @@ once-none known (d ∷ ds) once apart = by_bool (among d.net known)
     more n (Memᴰ-head e) i = once.0 (Memᴰ-cast (sym e) i)
     more n (Memᴰ-tail m) i = apart n m (Memᴰ-tail i)
 
-no_line_lem : (p : Driver → Bool) (ds : List Driver) → ((d : Driver) → Memᴰ d ds → p d ≡ false) → first_line p ds ≡ none
+no_line_lem : (p : Driver → Bool) (ds : List Driver) → ((d : Driver) → Memᴰ d ds → p d ≡ false) → first_line p ds ≡ None
 unfolding first_line
 no_line_lem p [] h = refl
-no_line_lem p (d ∷ ds) h = ap₂ (λ (b : Bool) (o : Option ℕ). cond b (some d.offset) o) (h d (Memᴰ-head refl)) (no_line_lem p ds (λ e m. h e (Memᴰ-tail m)))
+no_line_lem p (d ∷ ds) h = ap₂ (λ (b : Bool) (o : Option ℕ). cond b (Some d.offset) o) (h d (Memᴰ-head refl)) (no_line_lem p ds (λ e m. h e (Memᴰ-tail m)))
 
 all_among : (nets us : List (List ℕ)) → ((n : List ℕ) → Memᴰ n us → Memᴰ n nets) → any (λ (n : List ℕ). not (among n nets)) us ≡ false
 unfolding any

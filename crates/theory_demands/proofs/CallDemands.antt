@@ -1,6 +1,6 @@
 -- The demands hold, for every library text, graph text and lent lengths: each type of `model`'s Demands page by a named theorem.
 use Rattle.base.specs.{ℕ, ◌≤◌, ◌<◌, le_trans, le_of_eq, arith, ◌≡◌, refl, sym, ◌∙◌, ap, subst, ◌⊎◌, inl, inr, ◌↔◌, Bool, true, false, cond}
-use Rattle.base.specs.{Option, some, List, [], ◌∷◌, ◌++◌, map, append-nil, Memᴰ, Memᴰ-append_cases, Memᴰ-append_left, T, leb}
+use Rattle.base.specs.{Option, Some, List, [], ◌∷◌, ◌++◌, map, append-nil, Memᴰ, Memᴰ-append_cases, Memᴰ-append_left, T, leb}
 use Rattle.base.specs.{leb→le, le→leb, length, get_or}
 use Rattle.model.specs.{holds, name_of, each, flip, below, And, literal, var_of, negated, literal_value, value_of, absent, chosen, output, Gate}
 use Rattle.model.specs.{Outcome, refused, mapped, map_graph, gates, figures_of, net_name, out_name, sum, largest, no_lower, min_arrival_of, timing_lines}
@@ -48,8 +48,8 @@ record Known (t : List ℕ) (f : Figures) (d : Design) : Type 0 where
   is_text : t ≡ printed_text d.ranged d.listed d.cells d.graph
   mins : (k : Cell) → Memᴰ k d.listed → T (no_lower k.mins k.delays)
   four_mins : (k : Cell) → Memᴰ k d.listed → length k.mins ≡ 4
-  reads : read_blif t ≡ some (chosen_blif d)
-  says : read_figures t ≡ some f
+  reads : read_blif t ≡ Some (chosen_blif d)
+  says : read_figures t ≡ Some f
 
 -- what is read of the netlist whatever follows it is read with the timing lines and without
 pub with_timings : {X : Type 0} (read : List ℕ → X) (x : X) (r : Bool) (listed cells : List Cell) (g : Graph) → ((after : List ℕ) → read (choice_text listed cells g ++ after) ≡ x) → read (printed_text r listed cells g) ≡ x
@@ -68,12 +68,12 @@ known c t f d e o =
       is_text = p.is_text;
       mins = design-ranged c d e;
       four_mins = λ x m. (design-written c d e x m).0.four_mins;
-      reads = ap read_blif p.is_text ∙ with_timings read_blif (some (chosen_blif d)) d.ranged d.listed d.cells d.graph
+      reads = ap read_blif p.is_text ∙ with_timings read_blif (Some (chosen_blif d)) d.ranged d.listed d.cells d.graph
           (back d.listed d.cells fit d.graph ok p.choice.covered (choice_figures d.listed d.cells d.graph));
-      says = ap read_figures p.is_text ∙ with_timings read_figures (some (choice_figures d.listed d.cells d.graph)) d.ranged
+      says = ap read_figures p.is_text ∙ with_timings read_figures (Some (choice_figures d.listed d.cells d.graph)) d.ranged
           d.listed d.cells d.graph
           (figures_said d.listed d.cells fit d.graph ok p.choice.covered (choice_figures d.listed d.cells d.graph))
-          ∙ ap some (sym p.choice.are_figures);
+          ∙ ap Some (sym p.choice.are_figures);
     }
 
 -- a statement of every printed netlist, from one of the chosen gates
@@ -138,7 +138,7 @@ unfolding map_texts map_design
 ranges c = record {
   timed = λ t f d n p e.
       let k = known c t f d p.design p.outcome in
-      let q : ◌≡◌ {A = Option Blif} (some n) (some (chosen_blif d)) = sym p.reads ∙ k.reads in
+      let q : ◌≡◌ {A = Option Blif} (Some n) (Some (chosen_blif d)) = sym p.reads ∙ k.reads in
       let m : n ≡ chosen_blif d = cc in
       let high : ℕ → ℕ = λ l. (chosen d.cells d.graph l).arrival in (
         timings_from (min_arrival_of d.cells d.graph) high 0 d.graph.outputs,

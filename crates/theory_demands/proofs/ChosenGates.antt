@@ -1,7 +1,7 @@
 -- The gates of the chosen cover: each is of a listed cell with as many nets as the cell has pins, and the netlist's text reads back as they. Of all
 -- cells that fit, pairs among them or not.
 use Rattle.base.specs.{ℕ, zero, suc, ◌*◌, ◌/◌, ◌≤◌, ◌<◌, not-suc-le-zero, arith, ◌≡◌, refl, sym, ◌∙◌, ap, subst, Bool, true, false, not}
-use Rattle.base.specs.{cond, true≢false, false≢true, some, List, [], ◌∷◌, ◌++◌, Memᴰ, Memᴰ-tail, Memᴰ-append_left, Memᴰ-cast, T}
+use Rattle.base.specs.{cond, true≢false, false≢true, Some, List, [], ◌∷◌, ◌++◌, Memᴰ, Memᴰ-tail, Memᴰ-append_left, Memᴰ-cast, T}
 use Rattle.base.specs.{eqb, eqb→eq, length, get_or}
 use Rattle.model.specs.{all, same, elem, keep, below, each, flip, orders, no_cell, cell_at, pair_pins, pair_of, cell_of_pair, order_from}
 use Rattle.model.specs.{topological_order, var_of, negated, literal, literal_value, value_of, node_value, cuts_of, cut_at, fed_nets, match_nets, feeds}
@@ -190,17 +190,17 @@ module _ (listed cells : List Cell) (fit : Fitting listed cells) (g : Graph) (ok
   pub line-bound : (t : Gate) → Memᴰ t (chosen_gates listed cells g) → Bound listed t
   line-bound t m = let r = gate_out t m in (of_gates_lem r.at r.gates t r.is_gate).bound
 
-  pub back : (f : Figures) (after : List ℕ) → read_blif (netlist_text g (chosen_gates listed cells g) f ++ after) ≡ some (blif_of g (chosen_gates listed cells g))
+  pub back : (f : Figures) (after : List ℕ) → read_blif (netlist_text g (chosen_gates listed cells g) f ++ after) ≡ Some (blif_of g (chosen_gates listed cells g))
   back f after = read_back g (chosen_gates listed cells g) f after (λ t m. (line-bound t m).is_named)
 
-  pub figures_said : (f : Figures) (after : List ℕ) → read_figures (netlist_text g (chosen_gates listed cells g) f ++ after) ≡ some f
+  pub figures_said : (f : Figures) (after : List ℕ) → read_figures (netlist_text g (chosen_gates listed cells g) f ++ after) ≡ Some f
   figures_said f after = figures-back g (chosen_gates listed cells g) f after (λ t m. (line-bound t m).is_named)
 
   pub timings_said : (f : Figures) (low high : ℕ → ℕ)
-      → read_timings (netlist_text g (chosen_gates listed cells g) f ++ timing_lines low high 0 g.outputs) ≡ some (timings_from low high 0 g.outputs)
+      → read_timings (netlist_text g (chosen_gates listed cells g) f ++ timing_lines low high 0 g.outputs) ≡ Some (timings_from low high 0 g.outputs)
   timings_said f low high = timings-back g (chosen_gates listed cells g) f low high (λ t m. (line-bound t m).is_named)
 
-  pub none_said : (f : Figures) → read_timings (netlist_text g (chosen_gates listed cells g) f ++ []) ≡ some []
+  pub none_said : (f : Figures) → read_timings (netlist_text g (chosen_gates listed cells g) f ++ []) ≡ Some []
   none_said f = timings-none g (chosen_gates listed cells g) f (λ t m. (line-bound t m).is_named)
 
   -- ---- an input's own net

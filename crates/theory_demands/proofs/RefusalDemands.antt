@@ -1,5 +1,5 @@
 -- Which numbers and places the refusal of an outcome has.
-use Rattle.base.specs.{ℕ, ◌≡◌, Bool, true, false, some, List, [], ◌∷◌, leb, length}
+use Rattle.base.specs.{ℕ, ◌≡◌, Bool, true, false, Some, List, [], ◌∷◌, leb, length}
 use Rattle.model.specs.{lowest, unordered, over_limit, chosen, Outcome, refused, mapped, uncovered, printed, map_chosen, map_cut, map_ordered}
 use Rattle.model.specs.{map_graph, followed, within}
 use Rattle.model.specs.Graph.{Graph}
@@ -26,7 +26,7 @@ module _ (P : ℕ → ℕ → Type 0) where
   followed-refusal false cells g (mapped t f) l = tt
 
   -- 15 to 17
-  pub map-refusal : (listed cells : List Cell) (g : Graph) → ((v : ℕ) → lowest (unordered g) ≡ some v → P 15 v) → ((k : ℕ) → P 16 k) → ((k : ℕ) → P 17 k) → Refusal P (map_graph listed cells g)
+  pub map-refusal : (listed cells : List Cell) (g : Graph) → ((v : ℕ) → lowest (unordered g) ≡ Some v → P 15 v) → ((k : ℕ) → P 16 k) → ((k : ℕ) → P 17 k) → Refusal P (map_graph listed cells g)
   unfolding map_graph map_ordered map_cut map_chosen printed
   map-refusal listed cells g p15 p16 p17 = by_option (lowest (unordered g)) (λ e. rw e (by_list (over_limit g)
       (λ e. rw e (unfold chosen in outs (uncovered (chosen cells g) 0 g.outputs))) (λ q vs p. rw p (p16 q)))) (λ q p. rw p (p15 q p))

@@ -1,6 +1,6 @@
 -- A cell text that is written for gates is read as their cells, where 3 to 6 accept them.
 use Rattle.base.specs.{ℕ, suc, ◌+◌, ◌-◌, ◌*◌, ◌/◌, ◌%◌, ◌^◌, ◌≤◌, ◌<◌, arith, ◌≡◌, refl, sym, ◌∙◌, ap, ap₂, subst, Bool, true, false, not}
-use Rattle.base.specs.{cond, ◌&&◌, Option, none, some, List, [], ◌∷◌, ◌++◌, map, append_assoc, Memᴰ, Memᴰ-head, Memᴰ-tail}
+use Rattle.base.specs.{cond, ◌&&◌, Option, None, Some, List, [], ◌∷◌, ◌++◌, map, append_assoc, Memᴰ, Memᴰ-head, Memᴰ-tail}
 use Rattle.base.specs.{Memᴰ-not-nil, T, eqb, leb, le→leb, ltb, ltb→lt, lt→ltb, nltb→le, lit<, not_T, length, get_or, take, drop}
 use Rattle.base.specs.{replicate, take-append_seam, pow_mono, and_yes, yes_and, yes_leb, yes_ltb}
 use Rattle.model.specs.{all, any, each, same, and_then, only, text, decimal, lines_from, closing, fields, numbers, between, hex_digit, hex_from}
@@ -29,35 +29,35 @@ two-most p h = pow_mono {i = 2 ^ p} {j = 16} (rows-most p h)
 
 -- ---- the table's digits
 
-hex_digit_lem : (d : ℕ) → d < 16 → hex_digit (hex_byte d) ≡ some d
+hex_digit_lem : (d : ℕ) → d < 16 → hex_digit (hex_byte d) ≡ Some d
 unfolding hex_digit hex_byte between
 hex_digit_lem d h = go (ltb d 10) (ltb→lt d 10) (nltb→le d 10)
   where
-    go : (b : Bool) → (T b → d < 10) → (T (not b) → 10 ≤ d) → hex_digit (cond b (48 + d) (87 + d)) ≡ some d
-    go true y n = ap₂ (λ (p q : Bool). cond (p && q) (some (48 + d - 48)) (cond (between 97 102 (48 + d)) (some (48 + d - 87)) none))
+    go : (b : Bool) → (T b → d < 10) → (T (not b) → 10 ≤ d) → hex_digit (cond b (48 + d) (87 + d)) ≡ Some d
+    go true y n = ap₂ (λ (p q : Bool). cond (p && q) (Some (48 + d - 48)) (cond (between 97 102 (48 + d)) (Some (48 + d - 87)) None))
         (is_true (leb 48 (48 + d)) (le→leb 48 (48 + d) (omega (arith, y tt))))
         (is_true (leb (48 + d) 57) (le→leb (48 + d) 57 (omega (arith, y tt))))
-        ∙ ap some (let q : 48 + d - 48 ≡ d = omega (arith, y tt) in q)
+        ∙ ap Some (let q : 48 + d - 48 ≡ d = omega (arith, y tt) in q)
     go false y n =
         let k : 10 ≤ d = n tt in
-        ap₂ (λ (p q : Bool). cond (p && q) (some (87 + d - 48)) (cond (between 97 102 (87 + d)) (some (87 + d - 87)) none))
+        ap₂ (λ (p q : Bool). cond (p && q) (Some (87 + d - 48)) (cond (between 97 102 (87 + d)) (Some (87 + d - 87)) None))
         (is_true (leb 48 (87 + d)) (le→leb 48 (87 + d) (omega arith))) (is_false (leb (87 + d) 57) (not_T (leb (87 + d) 57) (λ t. let z : 87 + d ≤ 57 = lib.Dec.leb→le (87 + d) 57 t in omega arith)))
-        ∙ ap₂ (λ (p q : Bool). cond (p && q) (some (87 + d - 87)) none)
+        ∙ ap₂ (λ (p q : Bool). cond (p && q) (Some (87 + d - 87)) None)
         (is_true (leb 97 (87 + d)) (le→leb 97 (87 + d) (omega arith))) (is_true (leb (87 + d) 102) (le→leb (87 + d) 102 (omega arith)))
-        ∙ ap some (let q : 87 + d - 87 ≡ d = omega arith in q)
+        ∙ ap Some (let q : 87 + d - 87 ≡ d = omega arith in q)
 
 hex_more : (n d : ℕ) (bs : List ℕ) → d < 16 → hex_from n (hex_byte d ∷ bs) ≡ hex_from (n * 16 + d) bs
 unfolding hex_from and_then
 hex_more n d bs h = ap (λ (o : Option ℕ). and_then o (λ e. hex_from (n * 16 + e) bs)) (hex_digit_lem d h)
 
-pub hex_back : (n : ℕ) → n < 65536 → hex_table (hex_text n) ≡ some n
+pub hex_back : (n : ℕ) → n < 65536 → hex_table (hex_text n) ≡ Some n
 unfolding hex_table hex_text and_then only
 hex_back n h =
     hex_more 0 (n / 4096 % 16) (hex_byte (n / 256 % 16) ∷ hex_byte (n / 16 % 16) ∷ hex_byte (n % 16) ∷ []) (omega arith)
     ∙ hex_more (0 * 16 + n / 4096 % 16) (n / 256 % 16) (hex_byte (n / 16 % 16) ∷ hex_byte (n % 16) ∷ []) (omega arith)
     ∙ hex_more ((0 * 16 + n / 4096 % 16) * 16 + n / 256 % 16) (n / 16 % 16) (hex_byte (n % 16) ∷ []) (omega arith)
     ∙ hex_more (((0 * 16 + n / 4096 % 16) * 16 + n / 256 % 16) * 16 + n / 16 % 16) (n % 16) [] (omega arith)
-    ∙ (unfold hex_from in ap some (
+    ∙ (unfold hex_from in ap Some (
     let c : n / 16 / 16 ≡ n / 256 = omega arith in
     let b : n / 256 / 16 ≡ n / 4096 = omega arith in
     let a : n / 4096 < 16 = omega arith in
@@ -128,7 +128,7 @@ body_fields g t = fields-word g.name _ (name_free 32 g.name (lit< tt) t) ∙ ap 
     (fields-numbers (decimal g.area) (decimal-free 32 g.area (lit< tt)) g.delays)))
 
 cell-four : (g : Gate) → T (is_name g.name) → GateFits g → (d0 d1 d2 d3 : ℕ) → g.delays ≡ d0 ∷ d1 ∷ d2 ∷ d3 ∷ [] → cell_of_fields false (g.name ∷ decimal g.pins ∷ hex_text g.table ∷ map decimal (g.area ∷ d0 ∷ d1 ∷ d2 ∷ d3 ∷ []))
-    ≡ some (record { name = name_bytes g.name; len = length g.name; pins = g.pins; table = g.table; area = g.area; delays = d0 ∷ d1 ∷ d2 ∷ d3 ∷ []; mins = d0 ∷ d1 ∷ d2 ∷ d3 ∷ [] })
+    ≡ Some (record { name = name_bytes g.name; len = length g.name; pins = g.pins; table = g.table; area = g.area; delays = d0 ∷ d1 ∷ d2 ∷ d3 ∷ []; mins = d0 ∷ d1 ∷ d2 ∷ d3 ∷ [] })
 unfolding cell_of_fields and_then only all
 cell-four g t f d0 d1 d2 d3 e =
     ap (λ (b : Bool). and_then (only b ws) (λ _. and_then (numbers (map decimal (g.pins ∷ g.area ∷ d0 ∷ d1 ∷ d2 ∷ d3 ∷ [])))
@@ -157,7 +157,7 @@ four_are (a ∷ b ∷ c ∷ d ∷ []) e = (a, b, c, d, refl)
 four_are (a ∷ b ∷ c ∷ d ∷ x ∷ xs) e = absurd (omega arith)
 
 -- a gate's line gives its cell
-cell-back : (at : ℕ) (g : Gate) → T (is_name g.name) → GateFits g → cell_of_line false (line_of_bytes at (gate_body g)) ≡ some (cell_of_gate g)
+cell-back : (at : ℕ) (g : Gate) → T (is_name g.name) → GateFits g → cell_of_line false (line_of_bytes at (gate_body g)) ≡ Some (cell_of_gate g)
 unfolding cell_of_line and_then only cell_of_gate
 cell-back at g t f =
     let r = four_are g.delays f.four in

@@ -5,7 +5,7 @@
 --     deep_taken          what is in form is taken whole, with `;` alone left
 --     formed_taken        and so it is with 16 brackets, where they are at most 16 deep
 use Rattle.base.specs.{ℕ, zero, suc, ◌+◌, ◌-◌, ◌≤◌, ◌<◌, le_refl, arith, ◌≡◌, refl, sym, ◌∙◌, ap, subst, Bool, true, false, not, cond, ◌&&◌}
-use Rattle.base.specs.{◌||◌, true≢false, false≢true, none, some, List, [], ◌∷◌, Memᴰ, Memᴰ-head, Memᴰ-tail, T, eqb, leb}
+use Rattle.base.specs.{◌||◌, true≢false, false≢true, None, Some, List, [], ◌∷◌, Memᴰ, Memᴰ-head, Memᴰ-tail, T, eqb, leb}
 use Rattle.base.specs.{leb→le, ltb, lt→ltb, length, drop, eqb-true, no_eqb}
 use Rattle.model.specs.{and_then, all, flip, is_name_byte, is_letter, between, lead, is_sign, is_word, is_empty, scan_expected, scan_after, scan_token}
 use Rattle.model.specs.{scan, is_done, formed, opened, shallow, Taken, negated_by_signs, begins, chain, quoted, close_bracket, atom, factor_of, product_of}
@@ -110,14 +110,14 @@ begins-is b (t ∷ ts) e = (t, e, refl)
 
 -- ---- what the grammar takes, the scan passes over
 
-pub none-some : {A B : Type 0} {a : A} → none ≡ some a → B
+pub none-some : {A B : Type 0} {a : A} → None ≡ Some a → B
 none-some e = let z : ◌≡◌ {A = ℕ} 0 1 = cc in absurd (omega arith)
 
-pub some-once : {A : Type 0} {a b : A} → some a ≡ some b → a ≡ b
+pub some-once : {A : Type 0} {a b : A} → Some a ≡ Some b → a ≡ b
 some-once e = cc
 
 abbrev pub Passes : (List (List ℕ) → Taken) → Type 0
-Passes part = (ts : List (List ℕ)) (r : Bool × List (List ℕ)) → part ts ≡ some r → (d : ℕ) → scan (Expected d) ts ≡ scan (After d) r.1
+Passes part = (ts : List (List ℕ)) (r : Bool × List (List ℕ)) → part ts ≡ Some r → (d : ℕ) → scan (Expected d) ts ≡ scan (After d) r.1
 
 abbrev rest : ℕ → Bool × List (List ℕ) → Scan
 rest d r = scan (After d) r.1
@@ -125,7 +125,7 @@ rest d r = scan (After d) r.1
 module _ (b : ℕ) (op : (d : ℕ) (t : List ℕ) → is_sign b t ≡ true → scan_after d t ≡ Expected d) (join : Bool → Bool → Bool) (part : List (List ℕ) → Taken) (passes : Passes part) where
   -- the same of the parts that follow
   abbrev Later : ℕ → Bool × List (List ℕ) → ℕ → Type 0
-  Later fuel r d = (w : Bool) (us : List (List ℕ)) → chain b join part fuel w us ≡ some r → scan (Expected d) us ≡ rest d r
+  Later fuel r d = (w : Bool) (us : List (List ℕ)) → chain b join part fuel w us ≡ Some r → scan (Expected d) us ≡ rest d r
 
   chain_passes : (fuel : ℕ) (v : Bool) → Passes (chain b join part fuel v)
   unfolding chain
@@ -133,15 +133,15 @@ module _ (b : ℕ) (op : (d : ℕ) (t : List ℕ) → is_sign b t ≡ true → s
   chain_passes (suc fuel) v ts r e d = first (λ w us x. chain_passes fuel w us r x d) (part ts) refl e
     where
       first : Later fuel r d → (o : Taken) → part ts ≡ o
-          → and_then o (λ q. cond (begins b q.1) (chain b join part fuel (join v q.0) (drop 1 q.1)) (some (join v q.0, q.1))) ≡ some r → scan (Expected d) ts ≡ rest d r
-      first later none g x = unfold and_then in none-some x
-      first later (some q) g x = unfold and_then in by_bool (begins b q.1) (λ p. let w = begins-is b q.1 p in (passes ts q g d) ∙ ap
+          → and_then o (λ q. cond (begins b q.1) (chain b join part fuel (join v q.0) (drop 1 q.1)) (Some (join v q.0, q.1))) ≡ Some r → scan (Expected d) ts ≡ rest d r
+      first later None g x = unfold and_then in none-some x
+      first later (Some q) g x = unfold and_then in by_bool (begins b q.1) (λ p. let w = begins-is b q.1 p in (passes ts q g d) ∙ ap
           (scan (After d)) w.2 ∙ after_on d w.0 (drop 1 q.1) (Expected d) (op d w.0 w.1) ∙ later (join v q.0) (drop 1 q.1)
           (rw p at x))
           (λ z. let y : ◌≡◌ {A = Bool × List (List ℕ)} (join v q.0, q.1) r = some-once (rw z at x) in (passes ts q g d) ∙ ap (rest d) y)
 
 module _ (value : List ℕ → Bool) (inside : List (List ℕ) → Taken) (passes : Passes inside) where
-  bracket_passes : (d : ℕ) (odd : Bool) (ts : List (List ℕ)) (r : Bool × List (List ℕ)) → and_then (inside ts) (λ q. close_bracket (flip odd q.0) q.1) ≡ some r
+  bracket_passes : (d : ℕ) (odd : Bool) (ts : List (List ℕ)) (r : Bool × List (List ℕ)) → and_then (inside ts) (λ q. close_bracket (flip odd q.0) q.1) ≡ Some r
       → scan (Expected (suc d)) ts ≡ rest d r
   unfolding and_then
   bracket_passes d odd ts r e = by_option (inside ts) (λ g. none-some (rw g at e))
@@ -150,7 +150,7 @@ module _ (value : List ℕ → Bool) (inside : List (List ℕ) → Taken) (passe
       ∙ after_on (suc d) w.0 (drop 1 p.1) (After d) (after_close d w.0 w.1) ∙ signs_after d (flip odd p.0) (drop 1 p.1)
       ∙ ap (rest d) (some-once (rw g at (rw z at e)))) (λ q. none-some (rw q at (rw z at e)))))
 
-  named_passes : (d : ℕ) (odd : Bool) (ts : List (List ℕ)) (r : Bool × List (List ℕ)) → begins 33 ts ≡ false → begins 40 ts ≡ false → named value odd ts ≡ some r → scan (Expected d) ts ≡ rest d r
+  named_passes : (d : ℕ) (odd : Bool) (ts : List (List ℕ)) (r : Bool × List (List ℕ)) → begins 33 ts ≡ false → begins 40 ts ≡ false → named value odd ts ≡ Some r → scan (Expected d) ts ≡ rest d r
   unfolding named quoted begins
   named_passes d odd [] r a b e = none-some e
   named_passes d odd (t ∷ ts) r a b e = by_bool (is_word t) (λ g. expected-on d t ts (After d)
@@ -180,7 +180,7 @@ sum_passes value fuel k = form_passes value (within value fuel k) (within_passes
 
 -- what the grammar takes, with `;` alone behind it, is in form
 pub taken_formed : (value : List ℕ → Bool) (fuel k : ℕ) (ts : List (List ℕ)) (v : Bool) (t : List ℕ) → is_sign 59 t ≡ true
-    → sum_of value fuel (within value fuel k) ts ≡ some (v, t ∷ []) → formed ts ≡ true
+    → sum_of value fuel (within value fuel k) ts ≡ Some (v, t ∷ []) → formed ts ≡ true
 unfolding formed scan is_done scan_after is_sign lead
 taken_formed value fuel k ts v t s e = ap is_done (sum_passes value fuel k ts (v, t ∷ []) e 0 ∙ after_on 0 t [] Done (after_byte 0 59 t s))
 
@@ -243,7 +243,7 @@ rest_in ts u t e m = subst (λ (us : List (List ℕ)). Memᴰ t us) (sym e) (Mem
 -- what a form takes of tokens that the scan accepts with d brackets open: some of them, and behind them the form goes on no further
 pub record Took (top : ℕ) (part : List (List ℕ) → Taken) (Stops : List (List ℕ) → Type 0) (d : ℕ) (ts : List (List ℕ)) : Type 0 where
   pub got : Bool × List (List ℕ)
-  pub is : part ts ≡ some got
+  pub is : part ts ≡ Some got
   pub shorter : length got.1 < length ts
   pub accepted : is_done (scan (After d) got.1) ≡ true
   pub low : Low top d got.1
@@ -278,10 +278,10 @@ module _ (top b : ℕ) (op : (d : ℕ) (t : List ℕ) → is_sign b t ≡ true �
       p : Took top part Stops d ts
       p = takes ts h a s
 
-      first : (x : Taken) → cond (begins b p.got.1) (chain b join part fuel (join v p.got.0) (drop 1 p.got.1)) (some (join v p.got.0, p.got.1)) ≡ x
+      first : (x : Taken) → cond (begins b p.got.1) (chain b join part fuel (join v p.got.0) (drop 1 p.got.1)) (Some (join v p.got.0, p.got.1)) ≡ x
           → chain b join part (suc fuel) v ts ≡ x
       first x e = unfold chain and_then in
-          ap (λ (o : Taken). and_then o (λ q. cond (begins b q.1) (chain b join part fuel (join v q.0) (drop 1 q.1)) (some (join v q.0, q.1)))) p.is ∙ e
+          ap (λ (o : Taken). and_then o (λ q. cond (begins b q.1) (chain b join part fuel (join v q.0) (drop 1 q.1)) (Some (join v q.0, q.1)))) p.is ∙ e
 
       go : (c : Bool) → begins b p.got.1 ≡ c
           → ((w : Bool) (us : List (List ℕ)) → length us < fuel → length us ≤ n → is_done (scan (Expected d) us) ≡ true → Low top d us
@@ -297,7 +297,7 @@ module _ (top b : ℕ) (op : (d : ℕ) (t : List ℕ) → is_sign b t ≡ true �
           let m : length r.got.1 < length (drop 1 p.got.1) = r.shorter in
           record {
             got = r.got;
-            is = first (some r.got) (ap (λ (c : Bool). cond c (chain b join part fuel (join v p.got.0) (drop 1 p.got.1)) (some (join v p.got.0, p.got.1))) g ∙ r.is);
+            is = first (Some r.got) (ap (λ (c : Bool). cond c (chain b join part fuel (join v p.got.0) (drop 1 p.got.1)) (Some (join v p.got.0, p.got.1))) g ∙ r.is);
             shorter = omega arith;
             accepted = r.accepted;
             low = r.low;
@@ -306,7 +306,7 @@ module _ (top b : ℕ) (op : (d : ℕ) (t : List ℕ) → is_sign b t ≡ true �
           }
       go false g later = record {
         got = (join v p.got.0, p.got.1);
-        is = first (some (join v p.got.0, p.got.1)) (cc);
+        is = first (Some (join v p.got.0, p.got.1)) (cc);
         shorter = p.shorter;
         accepted = p.accepted;
         low = p.low;
@@ -351,7 +351,7 @@ module _ (top : ℕ) (value : List ℕ → Bool) (fuel : ℕ) where
   sum_at k = sum_of value fuel (within value fuel k)
 
   -- what stands behind a name or a bracket that closes, without its `'`
-  quoted_took : (part : List (List ℕ) → Taken) (d : ℕ) (ts : List (List ℕ)) (v : Bool) (us : List (List ℕ)) → part ts ≡ some (negated_by_signs 39 v us) → length us < length ts
+  quoted_took : (part : List (List ℕ) → Taken) (d : ℕ) (ts : List (List ℕ)) (v : Bool) (us : List (List ℕ)) → part ts ≡ Some (negated_by_signs 39 v us) → length us < length ts
       → is_done (scan (After d) us) ≡ true → Low top d us → ((t : List ℕ) → Memᴰ t us → Memᴰ t ts) → Took top part StopsFactor d ts
   quoted_took part d ts v us e h a s i = record {
     got = negated_by_signs 39 v us;
@@ -384,11 +384,11 @@ module _ (top : ℕ) (value : List ℕ → Bool) (fuel : ℕ) where
         here : (u : List ℕ) × (is_sign 41 u ≡ true) × (r.got.1 ≡ u ∷ us)
         here = begins-is 41 r.got.1 close
 
-        is : atom value (within value fuel (suc k)) odd (t ∷ ts) ≡ some (negated_by_signs 39 v us)
+        is : atom value (within value fuel (suc k)) odd (t ∷ ts) ≡ Some (negated_by_signs 39 v us)
         is = unfold atom begins within and_then close_bracket quoted in
             ap (λ (c : Bool). cond c (and_then (sum_at k ts) (λ q. close_bracket (flip odd q.0) q.1)) (named value odd (t ∷ ts))) g
             ∙ ap (λ (o : Taken). and_then o (λ q. close_bracket (flip odd q.0) q.1)) r.is
-            ∙ ap (λ (c : Bool). cond c (some (negated_by_signs 39 v us)) none) close
+            ∙ ap (λ (c : Bool). cond c (Some (negated_by_signs 39 v us)) None) close
 
         accepted : is_done (scan (After d) us) ≡ true
         accepted = ap is_done (sym (after_on (suc d) here.0 us (After d) (after_close d here.0 here.1)) ∙ ap (scan (After (suc d))) (sym here.2)) ∙ r.accepted
@@ -406,8 +406,8 @@ module _ (top : ℕ) (value : List ℕ → Bool) (fuel : ℕ) where
     unfolding is_done
     name_takes inside d odd t ts p q a s = by_bool (is_word t) (λ w. quoted_took (atom value inside odd) d (t ∷ ts) (flip odd (value t)) ts
         (unfold atom begins named quoted in ap (λ (c : Bool). cond c (and_then (inside ts) (λ x. close_bracket (flip odd x.0) x.1))
-        (cond (is_word t) (some (negated_by_signs 39 (flip odd (value t)) ts)) none)) q ∙ ap
-        (λ (c : Bool). cond c (some (negated_by_signs 39 (flip odd (value t)) ts)) none) w) (omega arith)
+        (cond (is_word t) (Some (negated_by_signs 39 (flip odd (value t)) ts)) None)) q ∙ ap
+        (λ (c : Bool). cond c (Some (negated_by_signs 39 (flip odd (value t)) ts)) None) w) (omega arith)
         (ap is_done (sym (expected-on d t ts (After d) (expected_else d t p q ∙ ap (λ (c : Bool). cond c (After d) Broken) w))) ∙ a)
         (low-on top d d t ts (unfold opened in cc
         (word-sign 41 (unfold is_name_byte is_letter between in refl) t w)) s) (λ u m. Memᴰ-tail m)) (λ e. absurd (false≢true
@@ -444,19 +444,19 @@ module _ (top : ℕ) (value : List ℕ → Bool) (fuel : ℕ) where
 
 -- an expression in form, with fewer tokens than the fuel, is taken whole, with `;` alone left
 whole_taken : (top : ℕ) (value : List ℕ → Bool) (fuel : ℕ) (ts : List (List ℕ)) → length ts < fuel → formed ts ≡ true → Low top 0 ts
-    → (v : Bool) × (t : List ℕ) × (is_sign 59 t ≡ true) × Memᴰ t ts × (sum_of value fuel (within value fuel top) ts ≡ some (v, t ∷ []))
+    → (v : Bool) × (t : List ℕ) × (is_sign 59 t ≡ true) × Memᴰ t ts × (sum_of value fuel (within value fuel top) ts ≡ Some (v, t ∷ []))
 unfolding formed
 whole_taken top value fuel ts l f s =
     let r = sum_takes top value fuel (length ts) l 0 top (let e : top + 0 ≡ top = omega arith in e) ts (le_refl (length ts)) f s in
     let q = stops_end r.got.1 r.accepted r.stops in
-    (r.got.0, q.0, q.1, r.among q.0 (subst (λ (us : List (List ℕ)). Memᴰ q.0 us) (sym q.2) (Memᴰ-head refl)), r.is ∙ ap (λ (us : List (List ℕ)). some (r.got.0, us)) q.2)
+    (r.got.0, q.0, q.1, r.among q.0 (subst (λ (us : List (List ℕ)). Memᴰ q.0 us) (sym q.2) (Memᴰ-head refl)), r.is ∙ ap (λ (us : List (List ℕ)). Some (r.got.0, us)) q.2)
 
 -- at any depth of brackets, if as many may open as there are tokens
 pub deep_taken : (value : List ℕ → Bool) (ts : List (List ℕ)) → formed ts ≡ true
-    → (v : Bool) × (t : List ℕ) × (is_sign 59 t ≡ true) × Memᴰ t ts × (sum_of value (suc (length ts)) (within value (suc (length ts)) (length ts)) ts ≡ some (v, t ∷ []))
+    → (v : Bool) × (t : List ℕ) × (is_sign 59 t ≡ true) × Memᴰ t ts × (sum_of value (suc (length ts)) (within value (suc (length ts)) (length ts)) ts ≡ Some (v, t ∷ []))
 deep_taken value ts f = whole_taken (length ts) value (suc (length ts)) ts (omega arith) f (any-low (length ts) 0 ts (omega arith))
 
 -- where brackets are at most 16 deep, if 16 may open
 pub formed_taken : (value : List ℕ → Bool) (fuel : ℕ) (ts : List (List ℕ)) → length ts < fuel → formed ts ≡ true → shallow 0 ts ≡ true
-    → (v : Bool) × (t : List ℕ) × (is_sign 59 t ≡ true) × Memᴰ t ts × (sum_of value fuel (within value fuel 16) ts ≡ some (v, t ∷ []))
+    → (v : Bool) × (t : List ℕ) × (is_sign 59 t ≡ true) × Memᴰ t ts × (sum_of value fuel (within value fuel 16) ts ≡ Some (v, t ∷ []))
 formed_taken value fuel ts l f s = whole_taken 16 value fuel ts l f (shallow-low 0 ts s)

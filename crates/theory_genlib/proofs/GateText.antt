@@ -2,7 +2,7 @@
 --     group_fits          the gate of a group: at most four pins, a table of its rows, four delays, those of absent pins 0, figures of at most 65,535
 --     group_parts         what its reading has passed: 22, 23 and 24
 use Rattle.base.specs.{ℕ, zero, suc, ◌^◌, ◌≤◌, ◌<◌, arith, ◌≡◌, refl, sym, ◌∙◌, ap, subst, ◌⊎◌, inl, inr, ⊎_elim, Bool, true, false, not}
-use Rattle.base.specs.{cond, ◌&&◌, some, List, [], ◌∷◌, ◌++◌, map, T, eqb, leb, le→leb, ltb, ltb→lt, nltb→le, length, get_or, drop, and_yes}
+use Rattle.base.specs.{cond, ◌&&◌, Some, List, [], ◌∷◌, ◌++◌, map, T, eqb, leb, le→leb, ltb, ltb→lt, nltb→le, length, get_or, drop, and_yes}
 use Rattle.base.specs.{yes_and, yes_eqb, leb_yes}
 use Rattle.model.specs.{all, and_then, holds, is_figure, decimals, in_thousandths, thousandths, pins_of, shallow, name_value, Group, pin_line}
 use Rattle.model.specs.{delay_of, pin_delay, delays_of, table_of, line_tokens, formula_of, group_formed, group_small, gate_from, read_group, HasDelay}
@@ -16,7 +16,7 @@ use Rattle.theory_genlib.proofs.CellsBack.{GateFits}
 
 -- ---- figures
 
-pub thousandths-small : (w : List ℕ) (n : ℕ) → thousandths w ≡ some n → n ≤ 65535
+pub thousandths-small : (w : List ℕ) (n : ℕ) → thousandths w ≡ Some n → n ≤ 65535
 unfolding thousandths
 thousandths-small w n e =
     let t = only_out (is_figure w && (leb (length (decimals w)) 3 && leb (in_thousandths w) 65535)) (in_thousandths w) n e in
@@ -31,12 +31,12 @@ record First (name : List ℕ) (lines : List (List (List ℕ))) (ts : List (List
   others : T (all (λ (us : List (List ℕ)). not (fits name us)) before)
   fitting : T (fits name ts)
 
-pin-first : (name : List ℕ) (lines : List (List (List ℕ))) (ts : List (List ℕ)) → pin_line name lines ≡ some ts → First name lines ts
+pin-first : (name : List ℕ) (lines : List (List (List ℕ))) (ts : List (List ℕ)) → pin_line name lines ≡ Some ts → First name lines ts
 unfolding pin_line all
 pin-first name [] ts e = none-some e
 pin-first name (us ∷ lines) ts e = go (fits name us) refl e (pin-first name lines ts)
   where
-    go : (b : Bool) → fits name us ≡ b → cond b (some us) (pin_line name lines) ≡ some ts → (pin_line name lines ≡ some ts → First name lines ts) → First name (us ∷ lines) ts
+    go : (b : Bool) → fits name us ≡ b → cond b (Some us) (pin_line name lines) ≡ Some ts → (pin_line name lines ≡ Some ts → First name lines ts) → First name (us ∷ lines) ts
     go true q x r =
         let y : us ≡ ts = some-once x in
         record { before = []; after = lines; is_all = ap (λ (vs : List (List ℕ)). vs ∷ lines) y; others = tt; fitting = subst (λ (vs : List (List ℕ)). T (fits name vs)) y (subst T (sym q) tt) }
@@ -49,7 +49,7 @@ pin-first name (us ∷ lines) ts e = go (fits name us) refl e (pin-first name li
     }
 
 -- "the larger of its rise and fall block delays"
-line_delay : (lines : List (List (List ℕ))) (name : List ℕ) (d : ℕ) → and_then (pin_line name lines) delay_of ≡ some d → HasDelay lines name d
+line_delay : (lines : List (List (List ℕ))) (name : List ℕ) (d : ℕ) → and_then (pin_line name lines) delay_of ≡ Some d → HasDelay lines name d
 unfolding delay_of
 line_delay lines name d e =
     let a = then_out (pin_line name lines) delay_of d e in
@@ -63,18 +63,18 @@ module _ (lines : List (List (List ℕ))) (names : List (List ℕ)) where
   abbrev Either : ℕ → ℕ → Type 0
   Either j d = ((j < length names) × HasDelay lines (get_or names j []) d) ⊎ ((length names ≤ j) × (d ≡ 0))
 
-  pin_either : (j d : ℕ) → pin_delay lines names j ≡ some d → Either j d
+  pin_either : (j d : ℕ) → pin_delay lines names j ≡ Some d → Either j d
   unfolding pin_delay
   pin_either j d e = by_bool (ltb j (length names))
       (λ q. inl ((rw q at (ltb→lt j (length names))) tt, line_delay lines (get_or names j []) d (rw q at e)))
       (λ p. inr ((rw p at (nltb→le j (length names))) tt, sym (some-once (rw p at e))))
 
-  pin-small : (j d : ℕ) → pin_delay lines names j ≡ some d → d ≤ 65535
+  pin-small : (j d : ℕ) → pin_delay lines names j ≡ Some d → d ≤ 65535
   pin-small j d e = ⊎_elim (λ p. (let y : p.1.fall ≤ 65535 = thousandths-small (get_or p.1.line 7 []) p.1.fall
       p.1.is_fall in omega (arith, thousandths-small (get_or p.1.line 5 []) p.1.rise p.1.is_rise, p.1.larger)))
       (λ q. omega (arith, q.1)) (pin_either j d e)
 
-  pin-absent : (j d : ℕ) → pin_delay lines names j ≡ some d → length names ≤ j → d ≡ 0
+  pin-absent : (j d : ℕ) → pin_delay lines names j ≡ Some d → length names ≤ j → d ≡ 0
   pin-absent j d e h = ⊎_elim (λ p. absurd (omega (arith, p.0))) (λ q. q.1) (pin_either j d e)
 
   record Four (ds : List ℕ) : Type 0 where
@@ -82,13 +82,13 @@ module _ (lines : List (List (List ℕ))) (names : List (List ℕ)) where
     d1 : ℕ
     d2 : ℕ
     d3 : ℕ
-    is0 : pin_delay lines names 0 ≡ some d0
-    is1 : pin_delay lines names 1 ≡ some d1
-    is2 : pin_delay lines names 2 ≡ some d2
-    is3 : pin_delay lines names 3 ≡ some d3
+    is0 : pin_delay lines names 0 ≡ Some d0
+    is1 : pin_delay lines names 1 ≡ Some d1
+    is2 : pin_delay lines names 2 ≡ Some d2
+    is3 : pin_delay lines names 3 ≡ Some d3
     are : d0 ∷ d1 ∷ d2 ∷ d3 ∷ [] ≡ ds
 
-  delays-four : (ds : List ℕ) → delays_of lines names ≡ some ds → Four ds
+  delays-four : (ds : List ℕ) → delays_of lines names ≡ Some ds → Four ds
   unfolding delays_of
   delays-four ds e =
       let a = then_out (pin_delay lines names 0) _ ds e in
@@ -97,14 +97,14 @@ module _ (lines : List (List (List ℕ))) (names : List (List ℕ)) where
       let d = then_out (pin_delay lines names 3) _ ds c.2 in
       record { d0 = a.0; d1 = b.0; d2 = c.0; d3 = d.0; is0 = a.1; is1 = b.1; is2 = c.1; is3 = d.1; are = some-once d.2 }
 
-  pub delays_are : (ds : List ℕ) → length names ≤ 4 → delays_of lines names ≡ some ds → (j : ℕ) → j < length names → HasDelay lines (get_or names j []) (get_or ds j 0)
+  pub delays_are : (ds : List ℕ) → length names ≤ 4 → delays_of lines names ≡ Some ds → (j : ℕ) → j < length names → HasDelay lines (get_or names j []) (get_or ds j 0)
   delays_are ds few e j h = (⊎_elim (λ p. p.1) (λ q. absurd (omega (arith, q.0)))
-      (pin_either j (get_or ds j 0) (subst (λ (xs : List ℕ). pin_delay lines names j ≡ some (get_or xs j 0)) f.are (go j (omega arith)))))
+      (pin_either j (get_or ds j 0) (subst (λ (xs : List ℕ). pin_delay lines names j ≡ Some (get_or xs j 0)) f.are (go j (omega arith)))))
     where
       f : Four ds
       f = delays-four ds e
 
-      go : (i : ℕ) → i < 4 → pin_delay lines names i ≡ some (get_or (f.d0 ∷ f.d1 ∷ f.d2 ∷ f.d3 ∷ []) i 0)
+      go : (i : ℕ) → i < 4 → pin_delay lines names i ≡ Some (get_or (f.d0 ∷ f.d1 ∷ f.d2 ∷ f.d3 ∷ []) i 0)
       go zero k = f.is0
       go (suc zero) k = f.is1
       go (suc (suc zero)) k = f.is2
@@ -132,22 +132,22 @@ zeros-from p a b c d h ha hb hc hd = go p h ha hb hc hd
 
 -- what a gate is made of
 pub record Made (lines : List (List (List ℕ))) (ts : List (List ℕ)) (c : Gate) : Type 0 where
-  pub area : thousandths (get_or ts 2 []) ≡ some c.area
-  pub delays : delays_of lines (pins_of (drop 5 ts)) ≡ some c.delays
+  pub area : thousandths (get_or ts 2 []) ≡ Some c.area
+  pub delays : delays_of lines (pins_of (drop 5 ts)) ≡ Some c.delays
   pub name : c.name ≡ get_or ts 1 []
   pub pins : c.pins ≡ length (pins_of (drop 5 ts))
   pub table : c.table ≡ table_of (drop 5 ts)
 
-gate-made : (lines : List (List (List ℕ))) (ts : List (List ℕ)) (c : Gate) → gate_from lines ts ≡ some c → Made lines ts c
+gate-made : (lines : List (List (List ℕ))) (ts : List (List ℕ)) (c : Gate) → gate_from lines ts ≡ Some c → Made lines ts c
 unfolding gate_from
 gate-made lines ts c e =
-    let a = then_out (thousandths (get_or ts 2 [])) (λ area. and_then (delays_of lines (pins_of (drop 5 ts))) (λ delays. some (made area delays))) c e in
-    let b = then_out (delays_of lines (pins_of (drop 5 ts))) (λ delays. some (made a.0 delays)) c a.2 in
-    let h : some (made a.0 b.0) ≡ some c = b.2 in
+    let a = then_out (thousandths (get_or ts 2 [])) (λ area. and_then (delays_of lines (pins_of (drop 5 ts))) (λ delays. Some (made area delays))) c e in
+    let b = then_out (delays_of lines (pins_of (drop 5 ts))) (λ delays. Some (made a.0 delays)) c a.2 in
+    let h : Some (made a.0 b.0) ≡ Some c = b.2 in
     let q : made a.0 b.0 ≡ c = cc in
     record {
-      area = a.1 ∙ ap (λ (x : Gate). some x.area) q;
-      delays = b.1 ∙ ap (λ (x : Gate). some x.delays) q;
+      area = a.1 ∙ ap (λ (x : Gate). Some x.area) q;
+      delays = b.1 ∙ ap (λ (x : Gate). Some x.delays) q;
       name = ap (λ (x : Gate). x.name) (sym q);
       pins = ap (λ (x : Gate). x.pins) (sym q);
       table = ap (λ (x : Gate). x.table) (sym q);

@@ -5,7 +5,7 @@
 --     genlib_fits         the gates of a genlib text are those of cell lines
 --     genlib_back         what is written for them is read as their cells, where 3 to 6 accept names and counts
 --     demand_genlib       the promise, for every genlib text and every number of lent bytes
-use Rattle.base.specs.{ℕ, zero, suc, ◌-◌, ◌≤◌, arith, ◌≡◌, refl, sym, ◌∙◌, ap, subst, Bool, true, false, cond, ◌&&◌, some, List, [], ◌∷◌}
+use Rattle.base.specs.{ℕ, zero, suc, ◌-◌, ◌≤◌, arith, ◌≡◌, refl, sym, ◌∙◌, ap, subst, Bool, true, false, cond, ◌&&◌, Some, List, [], ◌∷◌}
 use Rattle.base.specs.{◌++◌, map, Memᴰ, Memᴰ-head, Memᴰ-tail, Memᴰ-not-nil, T, eqb, leb, length, get_or, drop}
 use Rattle.base.specs.{length-drop, and_yes, eqb_yes, leb_yes}
 use Rattle.model.specs.{all, bit, keep, Line, ended, lines_from, holds, next, tokens, is_word_byte, formed, shallow, is_pin, pins_of, name_value}
@@ -65,7 +65,7 @@ formed-value bs f value =
 
 -- what passes 22 and 23 is taken whole where 16 brackets may open, up to the `;`
 pub group_parses : (g : Group) → length g.head.bytes ≤ 65536 → T (group_formed g) → T (shallow 0 (formula_of g)) → (value : List ℕ → Bool)
-    → (v : Bool) × (sum_of value 65537 (within value 65537 16) (formula_of g) ≡ some (v, (59 ∷ []) ∷ []))
+    → (v : Bool) × (sum_of value 65537 (within value 65537 16) (formula_of g) ≡ Some (v, (59 ∷ []) ∷ []))
 unfolding formula_of line_tokens is_word_byte
 group_parses g h f s value =
     let ts = drop 5 (tokens g.head.bytes) in
@@ -75,7 +75,7 @@ group_parses g h f s value =
     (gate_head (tokens g.head.bytes)) (formed (drop 5 (tokens g.head.bytes))) (and_yes (ended g.head)
     (is_gate_line (tokens g.head.bytes)) (and_yes (line_is is_gate_line g.head) (all (line_is is_pin_line) g.lines && all
     (has_line (map line_tokens g.lines)) (keep is_pin (formula_of g))) f).0).1).1)) (is_true (shallow 0 ts) s) in
-    (r.0, r.4 ∙ ap (λ (t : List ℕ). some (r.0, t ∷ [])) (sign-alone 59 refl g.head.bytes r.1 (drop_in 5 (tokens g.head.bytes) r.1 r.3) r.2))
+    (r.0, r.4 ∙ ap (λ (t : List ℕ). Some (r.0, t ∷ [])) (sign-alone 59 refl g.head.bytes r.1 (drop_in 5 (tokens g.head.bytes) r.1 r.3) r.2))
 
 -- its value is that of the sum before the `;`
 pub group_value : (g : Group) → length g.head.bytes ≤ 65536 → T (group_formed g) → T (shallow 0 (formula_of g)) → (value : List ℕ → Bool) → HasValue value (formula_of g) (value_of value (formula_of g))

@@ -1,6 +1,6 @@
 -- What the grammar takes is an expression of that value, by the words of the request.
 --     sum-means           the tokens that are taken are a sum, and what is left stands behind them
-use Rattle.base.specs.{ℕ, zero, suc, ◌≡◌, refl, sym, ◌∙◌, ap, subst, Bool, true, false, not, cond, ◌&&◌, ◌||◌, none, some, List, [], ◌∷◌}
+use Rattle.base.specs.{ℕ, zero, suc, ◌≡◌, refl, sym, ◌∙◌, ap, subst, Bool, true, false, not, cond, ◌&&◌, ◌||◌, None, Some, List, [], ◌∷◌}
 use Rattle.base.specs.{◌++◌, append_assoc, drop}
 use Rattle.model.specs.{and_then, flip, is_sign, is_word, Taken, negated_by_signs, begins, chain, quoted, close_bracket, atom, factor_of, product_of, sum_of}
 use Rattle.model.specs.{Part, product, factor, Means}
@@ -17,7 +17,7 @@ pub record Before (value : List ℕ → Bool) (p : Part) (ts : List (List ℕ)) 
   pub means : Means value p tokens r.0
 
 abbrev pub Sound : (List ℕ → Bool) → Part → (List (List ℕ) → Taken) → Type 0
-Sound value p part = (ts : List (List ℕ)) (r : Bool × List (List ℕ)) → part ts ≡ some r → Before value p ts r
+Sound value p part = (ts : List (List ℕ)) (r : Bool × List (List ℕ)) → part ts ≡ Some r → Before value p ts r
 
 flip-not : (v x : Bool) → not (flip (not v) x) ≡ flip v x
 unfolding flip
@@ -71,15 +71,15 @@ module _ (value : List ℕ → Bool) where
       (further : (ts us : List (List ℕ)) (v w : Bool) (t : List ℕ) → Means value q ts v → is_sign b t ≡ true → Means value p us w → Means value q (ts ++ (t ∷ us)) (join v w)) where
     -- what a chain does behind a part
     abbrev onward : ℕ → Bool → Bool × List (List ℕ) → Taken
-    onward fuel v s = cond (begins b s.1) (chain b join part fuel (join v s.0) (drop 1 s.1)) (some (join v s.0, s.1))
+    onward fuel v s = cond (begins b s.1) (chain b join part fuel (join v s.0) (drop 1 s.1)) (Some (join v s.0, s.1))
 
-    then_some : (o : Taken) (f : Bool × List (List ℕ) → Taken) (r : Bool × List (List ℕ)) → and_then o f ≡ some r → (s : Bool × List (List ℕ)) × (o ≡ some s) × (f s ≡ some r)
+    then_some : (o : Taken) (f : Bool × List (List ℕ) → Taken) (r : Bool × List (List ℕ)) → and_then o f ≡ Some r → (s : Bool × List (List ℕ)) × (o ≡ Some s) × (f s ≡ Some r)
     unfolding and_then
-    then_some none f r e = none-some e
-    then_some (some s) f r e = (s, refl, e)
+    then_some None f r e = none-some e
+    then_some (Some s) f r e = (s, refl, e)
 
     chain-on : (fuel : ℕ) (v : Bool) (us : List (List ℕ)) (t : List ℕ) (ts : List (List ℕ)) (r : Bool × List (List ℕ)) → Means value q us v → is_sign b t ≡ true
-        → chain b join part fuel v ts ≡ some r → Before value q (us ++ (t ∷ ts)) r
+        → chain b join part fuel v ts ≡ Some r → Before value q (us ++ (t ∷ ts)) r
     unfolding chain
     chain-on zero v us t ts r m s e = none-some e
     chain-on (suc fuel) v us t ts r m s e =
@@ -108,7 +108,7 @@ module _ (value : List ℕ → Bool) where
         go a.0 h (begins b a.0.1) refl (subst (λ (y : Bool). Means value q h.tokens y) (sym (unit a.0.0)) (first h.tokens a.0.0 h.means)) a.2
       where
         go : (x : Bool × List (List ℕ)) (h : Before value p ts x) (c : Bool) → begins b x.1 ≡ c → Means value q h.tokens (join v x.0)
-            → cond c (chain b join part fuel (join v x.0) (drop 1 x.1)) (some (join v x.0, x.1)) ≡ some r → Before value q ts r
+            → cond c (chain b join part fuel (join v x.0) (drop 1 x.1)) (Some (join v x.0, x.1)) ≡ Some r → Before value q ts r
         go x h true g k w =
             let y = begins-is b x.1 g in
             let z = chain-on fuel (join v x.0) h.tokens y.0 (drop 1 x.1) r k y.1 w in
@@ -118,7 +118,7 @@ module _ (value : List ℕ → Bool) where
 
   module _ (inside : List (List ℕ) → Taken) (sound : Sound value sum inside) where
     -- a factor, with its `!` before it
-    atom-sound : (v : Bool) (ts : List (List ℕ)) (r : Bool × List (List ℕ)) → atom value inside (negated_by_signs 33 false ts).0 (negated_by_signs 33 false ts).1 ≡ some r → Before value factor ts r
+    atom-sound : (v : Bool) (ts : List (List ℕ)) (r : Bool × List (List ℕ)) → atom value inside (negated_by_signs 33 false ts).0 (negated_by_signs 33 false ts).1 ≡ Some r → Before value factor ts r
     unfolding atom
     atom-sound v ts r e = go (begins 40 us) refl e
       where
@@ -132,14 +132,14 @@ module _ (value : List ℕ → Bool) where
         w = bangs false ts
 
         -- what is taken behind the `!`, and the `'` behind it
-        whole : (xs : List (List ℕ)) (x : Bool) (rest : List (List ℕ)) → us ≡ xs ++ rest → Means value factor xs x → some (negated_by_signs 39 (flip odd x) rest) ≡ some r → Before value factor ts r
+        whole : (xs : List (List ℕ)) (x : Bool) (rest : List (List ℕ)) → us ≡ xs ++ rest → Means value factor xs x → Some (negated_by_signs 39 (flip odd x) rest) ≡ Some r → Before value factor ts r
         whole xs x rest a m k =
             let b = quotes (w.signs ++ xs) (flip odd x) rest (unfold flip in w.means xs x m) in
             subst (λ (o : Bool × List (List ℕ)). Before value factor ts o) (some-once k)
             (record { tokens = b.tokens; is_all = w.is_all ∙ ap (λ (vs : List (List ℕ)). w.signs ++ vs) a ∙ sym (append_assoc w.signs xs rest) ∙ b.is_all; means = b.means })
 
-        close : (q : Bool × List (List ℕ)) → inside (drop 1 us) ≡ some q → (t : List ℕ) → is_sign 40 t ≡ true → us ≡ t ∷ drop 1 us → (c : Bool) → begins 41 q.1 ≡ c
-            → cond c (some (negated_by_signs 39 (flip odd q.0) (drop 1 q.1))) none ≡ some r → Before value factor ts r
+        close : (q : Bool × List (List ℕ)) → inside (drop 1 us) ≡ Some q → (t : List ℕ) → is_sign 40 t ≡ true → us ≡ t ∷ drop 1 us → (c : Bool) → begins 41 q.1 ≡ c
+            → cond c (Some (negated_by_signs 39 (flip odd q.0) (drop 1 q.1))) None ≡ Some r → Before value factor ts r
         close q i t s a true g k =
             let h = sound (drop 1 us) q i in
             let y = begins-is 41 q.1 g in
@@ -148,16 +148,16 @@ module _ (value : List ℕ → Bool) where
             (bracketed t y.0 s h.means y.1) k
         close q i t s a false g k = none-some k
 
-        inner : (o : Taken) → inside (drop 1 us) ≡ o → (t : List ℕ) → is_sign 40 t ≡ true → us ≡ t ∷ drop 1 us → and_then o (λ q. close_bracket (flip odd q.0) q.1) ≡ some r → Before value factor ts r
-        inner none i t s a k = unfold and_then in none-some k
-        inner (some q) i t s a k = unfold and_then close_bracket quoted in close q i t s a (begins 41 q.1) refl k
+        inner : (o : Taken) → inside (drop 1 us) ≡ o → (t : List ℕ) → is_sign 40 t ≡ true → us ≡ t ∷ drop 1 us → and_then o (λ q. close_bracket (flip odd q.0) q.1) ≡ Some r → Before value factor ts r
+        inner None i t s a k = unfold and_then in none-some k
+        inner (Some q) i t s a k = unfold and_then close_bracket quoted in close q i t s a (begins 41 q.1) refl k
 
-        word : (xs : List (List ℕ)) → us ≡ xs → named value odd xs ≡ some r → Before value factor ts r
+        word : (xs : List (List ℕ)) → us ≡ xs → named value odd xs ≡ Some r → Before value factor ts r
         word [] a k = unfold named in none-some k
         word (t ∷ xs) a k = unfold named quoted in by_bool (is_word t) (λ g. whole (t ∷ []) (value t) xs a (name t g) (rw g at k))
             (λ e. none-some (rw e at k))
 
-        go : (c : Bool) → begins 40 us ≡ c → cond c (and_then (inside (drop 1 us)) (λ q. close_bracket (flip odd q.0) q.1)) (named value odd us) ≡ some r → Before value factor ts r
+        go : (c : Bool) → begins 40 us ≡ c → cond c (and_then (inside (drop 1 us)) (λ q. close_bracket (flip odd q.0) q.1)) (named value odd us) ≡ Some r → Before value factor ts r
         go true g k = let y = begins-is 40 us g in inner (inside (drop 1 us)) refl y.0 y.1 y.2 k
         go false g k = word us refl k
 

@@ -2,7 +2,7 @@
 --     means-read          the tokens of a part are taken with its value, given brackets and fuel enough
 --     value-once          an expression and its `;` have one value
 --     value-formed        and are in form
-use Rattle.base.specs.{ℕ, zero, suc, ◌+◌, ◌-◌, ◌≤◌, arith, ◌≡◌, refl, sym, ◌∙◌, ap, Bool, true, false, not, cond, ◌&&◌, ◌||◌, none, some}
+use Rattle.base.specs.{ℕ, zero, suc, ◌+◌, ◌-◌, ◌≤◌, arith, ◌≡◌, refl, sym, ◌∙◌, ap, Bool, true, false, not, cond, ◌&&◌, ◌||◌, None, Some}
 use Rattle.base.specs.{List, [], ◌∷◌, ◌++◌, append_assoc, eqb, drop}
 use Rattle.model.specs.{and_then, flip, is_name_byte, is_letter, between, lead, is_sign, is_word, formed, Taken, negated_by_signs, begins, chain, quoted}
 use Rattle.model.specs.{close_bracket, atom, factor_of, product_of, sum_of, Part, product, factor, Means, HasValue}
@@ -38,7 +38,7 @@ signs_not b v [] = refl
 signs_not b v (t ∷ ts) = by_bool (is_sign b t) (λ e. cc (signs_not b (not v) ts)) (λ q. cc)
 
 abbrev others : Taken → Taken
-others o = and_then o (λ q. some (other q))
+others o = and_then o (λ q. Some (other q))
 
 flip_other : (v x : Bool) → flip (not v) x ≡ not (flip v x)
 unfolding flip
@@ -50,17 +50,17 @@ module _ (value : List ℕ → Bool) (inside : List (List ℕ) → Taken) where
   named-not : (odd : Bool) (ts : List (List ℕ)) → named value (not odd) ts ≡ others (named value odd ts)
   unfolding named quoted and_then
   named-not odd [] = refl
-  named-not odd (t ∷ ts) = by_bool (is_word t) (λ e. rw e (unfold and_then in ap (λ (x : Bool). some (negated_by_signs 39 x ts))
-      (flip_other odd (value t)) ∙ ap some (signs_not 39 (flip odd (value t)) ts))) (λ q. rw q (unfold and_then in refl))
+  named-not odd (t ∷ ts) = by_bool (is_word t) (λ e. rw e (unfold and_then in ap (λ (x : Bool). Some (negated_by_signs 39 x ts))
+      (flip_other odd (value t)) ∙ ap Some (signs_not 39 (flip odd (value t)) ts))) (λ q. rw q (unfold and_then in refl))
 
   atom-not : (odd : Bool) (ts : List (List ℕ)) → atom value inside (not odd) ts ≡ others (atom value inside odd ts)
   unfolding atom
   atom-not odd ts = by_bool (begins 40 ts) (λ e. cc (inner (inside (drop 1 ts)))) (λ q. cc (named-not odd ts))
     where
       inner : (o : Taken) → and_then o (λ q. close_bracket (flip (not odd) q.0) q.1) ≡ others (and_then o (λ q. close_bracket (flip odd q.0) q.1))
-      inner none = unfold and_then in refl
-      inner (some q) = unfold and_then in ap (λ (x : Bool). close_bracket x q.1) (flip_other odd q.0) ∙ by_bool (begins 41 q.1)
-          (λ e. rw e (unfold and_then in ap some (signs_not 39 (flip odd q.0) (drop 1 q.1)))) (λ q. rw q (unfold and_then in refl))
+      inner None = unfold and_then in refl
+      inner (Some q) = unfold and_then in ap (λ (x : Bool). close_bracket x q.1) (flip_other odd q.0) ∙ by_bool (begins 41 q.1)
+          (λ e. rw e (unfold and_then in ap Some (signs_not 39 (flip odd q.0) (drop 1 q.1)))) (λ q. rw q (unfold and_then in refl))
 
   -- a `!` more before a factor
   factor-not : (t : List ℕ) (ts : List (List ℕ)) → is_sign 33 t ≡ true → factor_of value inside (t ∷ ts) ≡ others (factor_of value inside ts)
@@ -78,11 +78,11 @@ module _ (b : ℕ) (join : Bool → Bool → Bool) (assoc : (x y z : Bool) → j
     (sign : (t : List ℕ) (ts : List (List ℕ)) → is_sign b t ≡ true → Ends (t ∷ ts)) where
   -- a part is taken before what ends it
   abbrev PartAt : List (List ℕ) → Bool → Type 0
-  PartAt ts v = (rest : List (List ℕ)) → Ends rest → part (ts ++ rest) ≡ some (v, rest)
+  PartAt ts v = (rest : List (List ℕ)) → Ends rest → part (ts ++ rest) ≡ Some (v, rest)
 
   -- behind a part the chain goes on, or ends
   abbrev onward : ℕ → Bool → List (List ℕ) → Taken
-  onward f v rest = cond (begins b rest) (chain b join part f v (drop 1 rest)) (some (v, rest))
+  onward f v rest = cond (begins b rest) (chain b join part f v (drop 1 rest)) (Some (v, rest))
 
   -- n parts are passed
   abbrev ChainAt : ℕ → List (List ℕ) → Bool → Type 0
@@ -100,11 +100,11 @@ module _ (b : ℕ) (join : Bool → Bool → Bool) (assoc : (x y z : Bool) → j
   chain_more n ts v t us w c s p f v0 rest e =
       ap (λ (k : ℕ). chain b join part k v0 ((ts ++ (t ∷ us)) ++ rest)) (let q : n + 1 + f ≡ n + suc f = omega arith in q)
       ∙ ap (chain b join part (n + suc f) v0) (append_assoc ts (t ∷ us) rest) ∙ c (suc f) v0 (t ∷ us ++ rest) (sign t (us ++ rest) s)
-      ∙ ap (λ (x : Bool). cond x (chain b join part (suc f) (join v0 v) (us ++ rest)) (some (join v0 v, t ∷ us ++ rest))) s
+      ∙ ap (λ (x : Bool). cond x (chain b join part (suc f) (join v0 v) (us ++ rest)) (Some (join v0 v, t ∷ us ++ rest))) s
       ∙ part_step us w p f (join v0 v) rest e ∙ ap (λ (x : Bool). onward f x rest) (assoc v0 v w)
 
   chain-whole : (n : ℕ) (ts : List (List ℕ)) (v : Bool) → ChainAt n ts v → (fuel : ℕ) → n ≤ fuel → (v0 : Bool) (rest : List (List ℕ)) → Ends rest → begins b rest ≡ false
-      → chain b join part fuel v0 (ts ++ rest) ≡ some (join v0 v, rest)
+      → chain b join part fuel v0 (ts ++ rest) ≡ Some (join v0 v, rest)
   chain-whole n ts v c fuel h v0 rest e g = cc (let q : fuel ≡ n + (fuel - n) = omega arith in q, c (fuel - n) v0 rest e)
 
 and_assoc : (x y z : Bool) → ((x && y) && z) ≡ (x && (y && z))
@@ -141,7 +141,7 @@ module _ (value : List ℕ → Bool) where
 
   -- a part of n members is taken, where k brackets may open
   abbrev Read : Part → ℕ → ℕ → ℕ → List (List ℕ) → Bool → Type 0
-  Read factor k fuel n ts v = (rest : List (List ℕ)) → factor_at k fuel (ts ++ rest) ≡ some (negated_by_signs 39 v rest)
+  Read factor k fuel n ts v = (rest : List (List ℕ)) → factor_at k fuel (ts ++ rest) ≡ Some (negated_by_signs 39 v rest)
   Read product k fuel n ts v = ChainAt 42 ◌&&◌ and_assoc (factor_at k fuel) EndsFactor times-ends n ts v
   Read sum k fuel n ts v = ChainAt 43 ◌||◌ or_assoc (product_at k fuel) EndsProduct plus-ends n ts v
 
@@ -153,14 +153,14 @@ module _ (value : List ℕ → Bool) where
     read : (k fuel : ℕ) → depth ≤ k → least ≤ fuel → Read p k fuel members ts v
 
   factor-part : (k fuel n : ℕ) (ts : List (List ℕ)) (v : Bool) → Read factor k fuel n ts v → PartAt 42 ◌&&◌ and_assoc (factor_at k fuel) EndsFactor times-ends ts v
-  factor-part k fuel n ts v r rest e = r rest ∙ ap some (signs_none 39 v rest e)
+  factor-part k fuel n ts v r rest e = r rest ∙ ap Some (signs_none 39 v rest e)
 
   product-part : (k fuel n : ℕ) (ts : List (List ℕ)) (v : Bool) → n ≤ fuel → Read product k fuel n ts v → PartAt 43 ◌||◌ or_assoc (product_at k fuel) EndsProduct plus-ends ts v
   unfolding product_of
   product-part k fuel n ts v h r rest e = chain-whole 42 ◌&&◌ and_assoc (factor_at k fuel) EndsFactor times-ends n ts v r fuel h true rest e.0 e.1
 
   sum-whole : (k fuel n : ℕ) (ts : List (List ℕ)) (v : Bool) → n ≤ fuel → Read sum k fuel n ts v → (rest : List (List ℕ)) → EndsProduct rest → begins 43 rest ≡ false
-      → sum_of value fuel (within value fuel k) (ts ++ rest) ≡ some (v, rest)
+      → sum_of value fuel (within value fuel k) (ts ++ rest) ≡ Some (v, rest)
   unfolding sum_of
   sum-whole k fuel n ts v h r rest e g = chain-whole 43 ◌||◌ or_assoc (product_at k fuel) EndsProduct plus-ends n ts v r fuel h false rest e g
 
@@ -169,14 +169,14 @@ module _ (value : List ℕ → Bool) where
   name-read t w k fuel rest =
       factor-plain value (within value fuel k) (t ∷ rest) (word-sign 33 (unfold is_name_byte is_letter between in refl) t w)
       ∙ ap (λ (c : Bool). cond c (and_then (within value fuel k rest) (λ q. close_bracket (flip false q.0) q.1)) (named value false (t ∷ rest))) (word-sign 40 (unfold is_name_byte is_letter between in refl) t w)
-      ∙ ap (λ (c : Bool). cond c (some (negated_by_signs 39 (value t) rest)) none) w
+      ∙ ap (λ (c : Bool). cond c (Some (negated_by_signs 39 (value t) rest)) None) w
 
   permuted-read : (ts : List (List ℕ)) (v : Bool) (t : List ℕ) → is_sign 33 t ≡ true → (k fuel n : ℕ) → Read factor k fuel n ts v → Read factor k fuel n (t ∷ ts) (not v)
   unfolding and_then
-  permuted-read ts v t e k fuel n r rest = factor-not value (within value fuel k) t (ts ++ rest) e ∙ ap others (r rest) ∙ ap some (sym (signs_not 39 v rest))
+  permuted-read ts v t e k fuel n r rest = factor-not value (within value fuel k) t (ts ++ rest) e ∙ ap others (r rest) ∙ ap Some (sym (signs_not 39 v rest))
 
   primed-read : (ts : List (List ℕ)) (v : Bool) (t : List ℕ) → is_sign 39 t ≡ true → (k fuel n : ℕ) → Read factor k fuel n ts v → Read factor k fuel n (ts ++ (t ∷ [])) (not v)
-  primed-read ts v t e k fuel n r rest = ap (factor_at k fuel) (append_assoc ts (t ∷ []) rest) ∙ r (t ∷ rest) ∙ ap some (signs_more 39 v t rest e)
+  primed-read ts v t e k fuel n r rest = ap (factor_at k fuel) (append_assoc ts (t ∷ []) rest) ∙ r (t ∷ rest) ∙ ap Some (signs_more 39 v t rest e)
 
   bracket_enough : (ts : List (List ℕ)) (v : Bool) (t u : List ℕ) → is_sign 40 t ≡ true → is_sign 41 u ≡ true → Enough sum ts v → Enough factor (t ∷ ts ++ (u ∷ [])) v
   bracket_enough ts v t u e g r = record { depth = suc r.depth; least = r.least; members = 0; few = omega arith; read = inner }
@@ -191,7 +191,7 @@ module _ (value : List ℕ → Bool) where
           (ap (sum_of value fuel (within value fuel k)) (append_assoc ts (u ∷ []) rest) ∙ sum-whole k fuel r.members ts v
           (omega (arith, r.few)) (r.read k fuel (omega arith) b) (u ∷ rest)
           (begins_other 41 39 u rest refl g, begins_other 41 42 u rest refl g) (begins_other 41 43 u rest refl g))
-          ∙ ap (λ (c : Bool). cond c (some (negated_by_signs 39 v rest)) none) g
+          ∙ ap (λ (c : Bool). cond c (Some (negated_by_signs 39 v rest)) None) g
 
   times-enough : (ts us : List (List ℕ)) (v w : Bool) (t : List ℕ) → is_sign 42 t ≡ true → Enough product ts v → Enough factor us w → Enough product (ts ++ (t ∷ us)) (v && w)
   times-enough ts us v w t e r s = record {
@@ -247,7 +247,7 @@ module _ (value : List ℕ → Bool) where
 
   -- an expression and its `;` are taken whole, given brackets and fuel enough
   whole : (ts : List (List ℕ)) (v : Bool) (a : HasValue value ts v) (k fuel : ℕ) → (means-read sum a.expression v a.means).depth ≤ k → (means-read sum a.expression v a.means).least ≤ fuel
-      → sum_of value fuel (within value fuel k) ts ≡ some (v, (59 ∷ []) ∷ [])
+      → sum_of value fuel (within value fuel k) ts ≡ Some (v, (59 ∷ []) ∷ [])
   unfolding begins is_sign lead
   whole ts v a k fuel deep long =
       let r = means-read sum a.expression v a.means in

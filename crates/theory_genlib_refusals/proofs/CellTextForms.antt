@@ -1,6 +1,6 @@
 -- The cell of a gate that passes 22 and 23: `gate_of` gives the one that the forms say, and none exactly where there is none, which 24 refuses.
 use Rattle.base.specs.{ℕ, zero, suc, ◌+◌, ◌/◌, ◌%◌, ◌^◌, ◌≤◌, ◌<◌, arith, ◌≡◌, refl, sym, ◌∙◌, ap, subst, Bool, true, false, not, cond}
-use Rattle.base.specs.{Option, some, List, [], ◌∷◌, map, Memᴰ, Memᴰ-head, Memᴰ-tail, Memᴰ-not-nil, Memᴰ-append_left}
+use Rattle.base.specs.{Option, Some, List, [], ◌∷◌, map, Memᴰ, Memᴰ-head, Memᴰ-tail, Memᴰ-not-nil, Memᴰ-append_left}
 use Rattle.base.specs.{Memᴰ-append_right, T, eqb, ltb, T_not, not_T, ltb→lt, nltb→le, lit<, length, get_or, drop, eqb_yes, yes_eqb, yes_ltb}
 use Rattle.base.specs.{no_ltb}
 use Rattle.model.specs.{bit, same, and_then, text, Distinct, tokens, thousandths, pins_of, shallow, name_value, index_of, const0, const1, Part}
@@ -108,7 +108,7 @@ value_row ps r d t v (pin_value {j} h n) = cc (
 -- ---- four delays
 
 module _ (lines : List (List (List ℕ))) (names : List (List ℕ)) where
-  delays_out : (ds : List ℕ) → delays_of lines names ≡ some ds → (length ds ≡ 4) × ((j : ℕ) → j < 4 → pin_delay lines names j ≡ some (get_or ds j 0))
+  delays_out : (ds : List ℕ) → delays_of lines names ≡ Some ds → (length ds ≡ 4) × ((j : ℕ) → j < 4 → pin_delay lines names j ≡ Some (get_or ds j 0))
   unfolding delays_of
   delays_out ds e =
       let a = then_out (pin_delay lines names 0) _ ds e in
@@ -116,17 +116,17 @@ module _ (lines : List (List (List ℕ))) (names : List (List ℕ)) where
       let c = then_out (pin_delay lines names 2) _ ds b.2 in
       let d = then_out (pin_delay lines names 3) _ ds c.2 in
       let q : a.0 ∷ b.0 ∷ c.0 ∷ d.0 ∷ [] ≡ ds = some-once d.2 in
-      (ap length (sym q), λ j h. subst (λ (x : List ℕ). pin_delay lines names j ≡ some (get_or x j 0)) q (go a.0 b.0 c.0 d.0 a.1 b.1 c.1 d.1 j h))
+      (ap length (sym q), λ j h. subst (λ (x : List ℕ). pin_delay lines names j ≡ Some (get_or x j 0)) q (go a.0 b.0 c.0 d.0 a.1 b.1 c.1 d.1 j h))
     where
-      go : (a b c d : ℕ) → pin_delay lines names 0 ≡ some a → pin_delay lines names 1 ≡ some b → pin_delay lines names 2 ≡ some c → pin_delay lines names 3 ≡ some d
-          → (j : ℕ) → j < 4 → pin_delay lines names j ≡ some (get_or (a ∷ b ∷ c ∷ d ∷ []) j 0)
+      go : (a b c d : ℕ) → pin_delay lines names 0 ≡ Some a → pin_delay lines names 1 ≡ Some b → pin_delay lines names 2 ≡ Some c → pin_delay lines names 3 ≡ Some d
+          → (j : ℕ) → j < 4 → pin_delay lines names j ≡ Some (get_or (a ∷ b ∷ c ∷ d ∷ []) j 0)
       go a b c d x y z w zero h = x
       go a b c d x y z w (suc zero) h = y
       go a b c d x y z w (suc (suc zero)) h = z
       go a b c d x y z w (suc (suc (suc zero))) h = w
       go a b c d x y z w (suc (suc (suc (suc j)))) h = absurd (omega arith)
 
-  delays_in_lem : (ds : List ℕ) → length ds ≡ 4 → ((j : ℕ) → j < 4 → pin_delay lines names j ≡ some (get_or ds j 0)) → delays_of lines names ≡ some ds
+  delays_in_lem : (ds : List ℕ) → length ds ≡ 4 → ((j : ℕ) → j < 4 → pin_delay lines names j ≡ Some (get_or ds j 0)) → delays_of lines names ≡ Some ds
   unfolding delays_of and_then
   delays_in_lem [] l f = absurd (omega arith)
   delays_in_lem (a ∷ []) l f = absurd (omega arith)
@@ -137,11 +137,11 @@ module _ (lines : List (List (List ℕ))) (names : List (List ℕ)) where
 
   here : (j : ℕ) → j < length names → pin_delay lines names j ≡ and_then (pin_line (get_or names j []) lines) delay_of
   unfolding pin_delay
-  here j h = ap (λ (b : Bool). cond b (and_then (pin_line (get_or names j []) lines) delay_of) (some 0)) (is_true (ltb j (length names)) (yes_ltb h))
+  here j h = ap (λ (b : Bool). cond b (and_then (pin_line (get_or names j []) lines) delay_of) (Some 0)) (is_true (ltb j (length names)) (yes_ltb h))
 
-  away : (j : ℕ) → length names ≤ j → pin_delay lines names j ≡ some 0
+  away : (j : ℕ) → length names ≤ j → pin_delay lines names j ≡ Some 0
   unfolding pin_delay
-  away j h = ap (λ (b : Bool). cond b (and_then (pin_line (get_or names j []) lines) delay_of) (some 0)) (is_false (ltb j (length names)) (no_ltb h))
+  away j h = ap (λ (b : Bool). cond b (and_then (pin_line (get_or names j []) lines) delay_of) (Some 0)) (is_false (ltb j (length names)) (no_ltb h))
 
 past : (ds : List ℕ) → length ds ≡ 4 → (j : ℕ) → 4 ≤ j → get_or ds j 0 ≡ 0
 past [] l j h = absurd (omega arith)
@@ -189,7 +189,7 @@ module _ (g : Group) (h : GateSays) (ps : List PinSays) (pins : List (List ℕ))
   table_none r k = table-above (drop 5 (tokens g.head.bytes)) r (subst (λ (x : List (List ℕ)). 2 ^ length x ≤ r) (sym are_pins) k)
 
   -- d0 to d3, by the pins in order
-  delay_there : (ds : List ℕ) → delays_of lines pins ≡ some ds → (length ds ≡ 4) × ((j : ℕ) → j < length pins → Delay (get_or pins j []) ps (get_or ds j 0)) × ((j : ℕ) → length pins ≤ j → get_or ds j 0 ≡ 0)
+  delay_there : (ds : List ℕ) → delays_of lines pins ≡ Some ds → (length ds ≡ 4) × ((j : ℕ) → j < length pins → Delay (get_or pins j []) ps (get_or ds j 0)) × ((j : ℕ) → length pins ≤ j → get_or ds j 0 ≡ 0)
   delay_there ds e =
       let o = delays_out lines pins ds e in (
         o.0,
@@ -204,16 +204,16 @@ module _ (g : Group) (h : GateSays) (ps : List PinSays) (pins : List (List ℕ))
   gate_with area delays =
       record { name = get_or (tokens g.head.bytes) 1 []; pins = length (pins_of (drop 5 (tokens g.head.bytes))); table = table_of (drop 5 (tokens g.head.bytes)); area = area; delays = delays }
 
-  pub cell_form : (c : Gate) → gate_of g ≡ some c → IsGate h ps pins c
+  pub cell_form : (c : Gate) → gate_of g ≡ Some c → IsGate h ps pins c
   unfolding gate_of gate_from line_tokens gate_with
   cell_form c e =
-      let a = then_out (thousandths (get_or (tokens g.head.bytes) 2 [])) (λ area. and_then (delays_of lines (pins_of (drop 5 (tokens g.head.bytes)))) (λ delays. some (gate_with area delays))) c e in
-      let b = then_out (delays_of lines (pins_of (drop 5 (tokens g.head.bytes)))) (λ delays. some (gate_with a.0 delays)) c a.2 in
+      let a = then_out (thousandths (get_or (tokens g.head.bytes) 2 [])) (λ area. and_then (delays_of lines (pins_of (drop 5 (tokens g.head.bytes)))) (λ delays. Some (gate_with area delays))) c e in
+      let b = then_out (delays_of lines (pins_of (drop 5 (tokens g.head.bytes)))) (λ delays. Some (gate_with a.0 delays)) c a.2 in
       subst (IsGate h ps pins) (some-once b.2) (
       let n : length (pins_of (drop 5 (tokens g.head.bytes))) ≡ length pins = ap length are_pins in let w = delay_there b.0
-      (subst (λ (x : List (List ℕ)). delays_of lines x ≡ some b.0) are_pins b.1) in record {
+      (subst (λ (x : List (List ℕ)). delays_of lines x ≡ Some b.0) are_pins b.1) in record {
         name = is.name;
-        area = thousandths_form h.area a.0 (subst (λ (x : List ℕ). thousandths x ≡ some a.0) is.area a.1);
+        area = thousandths_form h.area a.0 (subst (λ (x : List ℕ). thousandths x ≡ Some a.0) is.area a.1);
         number = n;
         rows = λ r k value c. subst (λ (b : Bool). Worth value 16 sum h.formula b) (sym (table-row r (subst (λ (x : ℕ). r < 2 ^ x) n k)))
             (row_worth r value c);
@@ -233,17 +233,17 @@ module _ (g : Group) (h : GateSays) (ps : List PinSays) (pins : List (List ℕ))
           (value_row pins r s.are_ordered.once)))) (λ t. table_none r (nltb→le r (2 ^ length pins) t)
           ∙ sym (i.above r (subst (λ (x : ℕ). 2 ^ x ≤ r) (sym i.number) (nltb→le r (2 ^ length pins) t))))
 
-  pub cell-back : (c : Gate) → IsGate h ps pins c → gate_of g ≡ some c
+  pub cell-back : (c : Gate) → IsGate h ps pins c → gate_of g ≡ Some c
   unfolding gate_of gate_from line_tokens gate_with and_then
   cell-back c i =
-      ap (λ (o : Option ℕ). and_then o (λ area. and_then (delays_of lines (pins_of (drop 5 (tokens g.head.bytes)))) (λ delays. some (gate_with area delays)))) (ap thousandths is.area ∙ thousandths-back i.area)
-      ∙ ap (λ (o : Option (List ℕ)). and_then o (λ delays. some (gate_with c.area delays)))
+      ap (λ (o : Option ℕ). and_then o (λ area. and_then (delays_of lines (pins_of (drop 5 (tokens g.head.bytes)))) (λ delays. Some (gate_with area delays)))) (ap thousandths is.area ∙ thousandths-back i.area)
+      ∙ ap (λ (o : Option (List ℕ)). and_then o (λ delays. Some (gate_with c.area delays)))
       (ap (delays_of lines) are_pins ∙ delays_in_lem lines pins c.delays i.four (λ j k. on (ltb j (length pins)) (λ t.
       here lines pins j (ltb→lt j (length pins) t) ∙ delay_back (get_or pins j []) f.are_lines (get_or c.delays j 0)
       (i.delays j (subst (λ (x : ℕ). j < x) (sym i.number) (ltb→lt j (length pins) t)))) (λ t.
       away lines pins j (nltb→le j (length pins) t)
-      ∙ ap some (sym (i.absent j (subst (λ (x : ℕ). x ≤ j) (sym i.number) (nltb→le j (length pins) t)))))))
-      ∙ ap some (parts (is.name ∙ sym i.name) (ap length are_pins ∙ sym i.number) (one_table c i))
+      ∙ ap Some (sym (i.absent j (subst (λ (x : ℕ). x ≤ j) (sym i.number) (nltb→le j (length pins) t)))))))
+      ∙ ap Some (parts (is.name ∙ sym i.name) (ap length are_pins ∙ sym i.number) (one_table c i))
     where
       parts : get_or (tokens g.head.bytes) 1 [] ≡ c.name → length (pins_of (drop 5 (tokens g.head.bytes))) ≡ c.pins → table_of (drop 5 (tokens g.head.bytes)) ≡ c.table → gate_with c.area c.delays ≡ c
       parts x y z =

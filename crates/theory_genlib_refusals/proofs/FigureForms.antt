@@ -1,5 +1,5 @@
 -- Figures: `is_figure` passes exactly figures, and `thousandths` gives a figure's thousandths exactly where it has at most three decimals and is at most 65.535.
-use Rattle.base.specs.{ℕ, suc, ◌+◌, ◌-◌, ◌*◌, ◌^◌, ◌≤◌, arith, ◌≡◌, refl, sym, ◌∙◌, ap, ap₂, subst, ◌↔◌, true, not, ◌&&◌, some, List, []}
+use Rattle.base.specs.{ℕ, suc, ◌+◌, ◌-◌, ◌*◌, ◌^◌, ◌≤◌, arith, ◌≡◌, refl, sym, ◌∙◌, ap, ap₂, subst, ◌↔◌, true, not, ◌&&◌, Some, List, []}
 use Rattle.base.specs.{◌∷◌, ◌++◌, append_assoc, append-nil, T, eqb, leb, length, take, drop, replicate, and_yes, yes_and, eqb_yes, leb_yes}
 use Rattle.base.specs.{yes_leb, drop-append_seam}
 use Rattle.model.specs.{all, as_digits, between, is_empty, is_digit, is_digits, span, is_fraction, wholes, decimals, is_figure, in_thousandths}
@@ -159,7 +159,7 @@ value_point {w} {f} {n} {m} d e h = cc (
   digits_value e,
 )
 
-pub thousandths_form : (w : List ℕ) (n : ℕ) → thousandths w ≡ some n → Usable w n
+pub thousandths_form : (w : List ℕ) (n : ℕ) → thousandths w ≡ Some n → Usable w n
 unfolding thousandths
 thousandths_form w n e =
     let t = only_out (is_figure w && (leb (length (decimals w)) 3 && leb (in_thousandths w) 65535)) (in_thousandths w) n e in
@@ -173,20 +173,20 @@ thousandths_form w n e =
         let l : length f ≤ 3 = subst (λ (x : List ℕ). length x ≤ 3) (decimals_point f d) h in
         subst (Thousandths (a ++ (46 ∷ f))) (sym (value_point d c l) ∙ k) (partly d c l)
 
-pub thousandths-back : {w : List ℕ} {n : ℕ} → Usable w n → thousandths w ≡ some n
+pub thousandths-back : {w : List ℕ} {n : ℕ} → Usable w n → thousandths w ≡ Some n
 unfolding thousandths
 thousandths-back {w} {n} u = go u.0 u.1
   where
-    made : (v : List ℕ) (m : ℕ) → Figure v → length (decimals v) ≤ 3 → in_thousandths v ≡ m → m ≤ 65535 → thousandths v ≡ some m
+    made : (v : List ℕ) (m : ℕ) → Figure v → length (decimals v) ≤ 3 → in_thousandths v ≡ m → m ≤ 65535 → thousandths v ≡ Some m
     made v m f h e k = unfold thousandths in only_yes (is_figure v && (leb (length (decimals v)) 3 && leb (in_thousandths v) 65535))
         (in_thousandths v) (yes_and (is_figure v) (leb (length (decimals v)) 3 && leb (in_thousandths v) 65535) (figure-back f)
         (yes_and (leb (length (decimals v)) 3) (leb (in_thousandths v) 65535) (yes_leb h)
-        (yes_leb (subst (λ (x : ℕ). x ≤ 65535) (sym e) k)))) ∙ ap some e
+        (yes_leb (subst (λ (x : ℕ). x ≤ 65535) (sym e) k)))) ∙ ap Some e
 
-    go : {v : List ℕ} {m : ℕ} → Thousandths v m → m ≤ 65535 → thousandths v ≡ some m
+    go : {v : List ℕ} {m : ℕ} → Thousandths v m → m ≤ 65535 → thousandths v ≡ Some m
     go (wholly {w = v} {n = m} d) k = made v (m * 1000) (whole d) (subst (λ (x : List ℕ). length x ≤ 3) (sym (decimals-whole d)) (omega arith)) (value-whole d) k
     go (partly {w = v} {f} {n = m} {m = r} d c l) k =
         made (v ++ (46 ∷ f)) (m * 1000 + r * 10 ^ (3 - length f)) (pointed d c) (subst (λ (x : List ℕ). length x ≤ 3) (sym (decimals_point f d)) l) (value_point d c l) k
 
-pub thousandths_exactly : (w : List ℕ) (n : ℕ) → (thousandths w ≡ some n) ↔ Usable w n
+pub thousandths_exactly : (w : List ℕ) (n : ℕ) → (thousandths w ≡ Some n) ↔ Usable w n
 thousandths_exactly w n = (thousandths_form w n, thousandths-back)

@@ -1,6 +1,6 @@
 -- A group of lines: 22 accepts it exactly where its lines have the form and every pin a line that fits; 23 exactly where it has at most four pins and brackets
 -- at most 16 deep.
-use Rattle.base.specs.{ℕ, ◌≤◌, ◌≡◌, refl, sym, ◌∙◌, ap, subst, ◌↔◌, Bool, true, false, cond, ◌&&◌, Option, none, some, List, [], ◌∷◌, ◌++◌}
+use Rattle.base.specs.{ℕ, ◌≤◌, ◌≡◌, refl, sym, ◌∙◌, ap, subst, ◌↔◌, Bool, true, false, cond, ◌&&◌, Option, None, Some, List, [], ◌∷◌, ◌++◌}
 use Rattle.base.specs.{map, Memᴰ, Memᴰ-head, Memᴰ-tail, Memᴰ-not-nil, Memᴰ-append_left, Memᴰ-append_right, T, leb}
 use Rattle.base.specs.{length, drop, and_yes, yes_and, leb_yes, yes_leb}
 use Rattle.model.specs.{all, keep, Line, ended, tokens, is_pin, pins_of, shallow, Group, line_is, is_gate_line, is_pin_line, has_line, is_there}
@@ -41,12 +41,12 @@ lines-back t (one_more {l} {ls} c r) =
     yes_and (line_is is_pin_line l) (all (line_is is_pin_line) ls) (yes_and (ended l) (is_pin_line (tokens l.bytes)) a.0 (pin-back c)) (lines-back a.1 r)
 
 -- a pin has a line exactly where one fits
-there-some : {A : Type 0} (o : Option A) → T (is_there o) → (a : A) × (o ≡ some a)
+there-some : {A : Type 0} (o : Option A) → T (is_there o) → (a : A) × (o ≡ Some a)
 unfolding is_there
-there-some none t = absurd t
-there-some (some a) t = (a, refl)
+there-some None t = absurd t
+there-some (Some a) t = (a, refl)
 
-some-there : {A : Type 0} (o : Option A) (a : A) → o ≡ some a → T (is_there o)
+some-there : {A : Type 0} (o : Option A) (a : A) → o ≡ Some a → T (is_there o)
 unfolding is_there
 some-there {A} o a e = subst (λ (x : Option A). T (is_there x)) (sym e) tt
 
@@ -57,7 +57,7 @@ first-fit pin no_more p m f = absurd (Memᴰ-not-nil m)
 first-fit pin (one_more {l} {ls} {p = q} {ps} c r) p m f = go (Rattle.model.specs.Genlib.fits pin (tokens l.bytes)) refl m (λ n. first-fit pin r p n f)
   where
     go : (b : Bool) → Rattle.model.specs.Genlib.fits pin (tokens l.bytes) ≡ b → Memᴰ p (q ∷ ps) → (Memᴰ p ps → T (has_line (map line_tokens ls) pin))
-        → T (is_there (cond b (some (tokens l.bytes)) (pin_line pin (map line_tokens ls))))
+        → T (is_there (cond b (Some (tokens l.bytes)) (pin_line pin (map line_tokens ls))))
     go true e k h = unfold is_there in tt
     go false e (Memᴰ-head y) h = absurd (subst T e ((Rattle.theory_genlib_refusals.proofs.PinForms.fits_exactly pin c).1 (subst (Fits pin) y f)))
     go false e (Memᴰ-tail k) h = unfold has_line is_there in h k

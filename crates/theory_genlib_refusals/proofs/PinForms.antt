@@ -1,6 +1,6 @@
 -- PIN lines: their contents are accepted exactly where they have the form; a line fits a pin, counts for it and gives its delay exactly where the forms say so.
 use Rattle.base.specs.{ℕ, max, arith, ◌≡◌, refl, sym, ◌∙◌, ap, subst, ◌⊎◌, inl, inr, ◌↔◌, ⊎_elim, Bool, true, false, not, cond, false≢true}
-use Rattle.base.specs.{◌&&◌, ◌||◌, Option, some, List, [], ◌∷◌, ◌++◌, map, nil≢cons, Memᴰ, Memᴰ-head, Memᴰ-tail}
+use Rattle.base.specs.{◌&&◌, ◌||◌, Option, Some, List, [], ◌∷◌, ◌++◌, map, nil≢cons, Memᴰ, Memᴰ-head, Memᴰ-tail}
 use Rattle.base.specs.{Memᴰ-not-nil, T, eqb, T_not, length, get_or, and_yes, yes_and, or_yes, eqb_yes}
 use Rattle.model.specs.{all, same, and_then, Line, text, is_name_byte, tokens, is_word_byte, is_sign, lead, is_word, is_figure, thousandths}
 use Rattle.model.specs.{pin_head, is_pin_line, pin_line, delay_of, line_tokens}
@@ -117,13 +117,13 @@ pub data Says : List Line → List PinSays → Type 0 where
   no_more : Says [] []
   one_more : {l : Line} {ls : List Line} {p : PinSays} {ps : List PinSays} → PinContents l.bytes p → Says ls ps → Says (l ∷ ls) (p ∷ ps)
 
-pub counts_form : (pin : List ℕ) {ls : List Line} {ps : List PinSays} → Says ls ps → (ts : List (List ℕ)) → pin_line pin (map line_tokens ls) ≡ some ts → Counts pin ps (pin_says ts)
+pub counts_form : (pin : List ℕ) {ls : List Line} {ps : List PinSays} → Says ls ps → (ts : List (List ℕ)) → pin_line pin (map line_tokens ls) ≡ Some ts → Counts pin ps (pin_says ts)
 unfolding pin_line line_tokens
 counts_form pin no_more ts e = none-some e
 counts_form pin (one_more {l} {ls} {p} {ps} c r) ts e = go (fits pin (tokens l.bytes)) refl (counts_form pin r ts) e
   where
-    go : (b : Bool) → fits pin (tokens l.bytes) ≡ b → (pin_line pin (map line_tokens ls) ≡ some ts → Counts pin ps (pin_says ts))
-        → cond b (some (tokens l.bytes)) (pin_line pin (map line_tokens ls)) ≡ some ts → Counts pin (p ∷ ps) (pin_says ts)
+    go : (b : Bool) → fits pin (tokens l.bytes) ≡ b → (pin_line pin (map line_tokens ls) ≡ Some ts → Counts pin ps (pin_says ts))
+        → cond b (Some (tokens l.bytes)) (pin_line pin (map line_tokens ls)) ≡ Some ts → Counts pin (p ∷ ps) (pin_says ts)
     go true q f x =
         let y : pin_says ts ≡ p = ap pin_says (sym (some-once x)) ∙ pin-says c in
         record { before = []; after = ps; is_all = ap (λ (z : PinSays). z ∷ ps) (sym y); others = λ k m. absurd (Memᴰ-not-nil m); fitting = subst (Fits pin) (sym y) ((fits_exactly pin c).0 (subst T (sym q) tt)) }
@@ -136,14 +136,14 @@ counts_form pin (one_more {l} {ls} {p} {ps} c r) ts e = go (fits pin (tokens l.b
         others before h z (Memᴰ-tail m) w = h z m w
 
 abbrev Found : List ℕ → List Line → PinSays → Type 0
-Found pin ls p = (ts : List (List ℕ)) × (pin_line pin (map line_tokens ls) ≡ some ts) × (pin_says ts ≡ p)
+Found pin ls p = (ts : List (List ℕ)) × (pin_line pin (map line_tokens ls) ≡ Some ts) × (pin_says ts ≡ p)
 
 pub counts-back : (pin : List ℕ) {ls : List Line} {ps : List PinSays} → Says ls ps → (p : PinSays) → Counts pin ps p → Found pin ls p
 counts-back pin no_more p k = absurd (by_list k.before (λ e. nil≢cons (rw e at k.is_all)) (λ x before q. nil≢cons (rw q at k.is_all)))
 counts-back pin (one_more {l} {ls} {p = q} {ps} c r) p k = on (fits pin (tokens l.bytes)) yes (λ n. no n (counts-back pin r p))
   where
     yes : T (fits pin (tokens l.bytes)) → Found pin (l ∷ ls) p
-    yes t = unfold pin_line line_tokens in (tokens l.bytes, ap (λ (b : Bool). cond b (some (tokens l.bytes)) (pin_line pin (map line_tokens ls))) (is_true (fits pin (tokens l.bytes)) t), pin-says c ∙ first k.before k.is_all k.others)
+    yes t = unfold pin_line line_tokens in (tokens l.bytes, ap (λ (b : Bool). cond b (Some (tokens l.bytes)) (pin_line pin (map line_tokens ls))) (is_true (fits pin (tokens l.bytes)) t), pin-says c ∙ first k.before k.is_all k.others)
       where
         first : (before : List PinSays) → q ∷ ps ≡ before ++ (p ∷ k.after) → ((x : PinSays) → Memᴰ x before → ¬ Fits pin x) → q ≡ p
         first [] e h = cons_head e
@@ -157,11 +157,11 @@ counts-back pin (one_more {l} {ls} {p = q} {ps} c r) p k = on (fits pin (tokens 
         later (x ∷ before) e h =
             unfold pin_line line_tokens in
             let g = f (record { before = before; after = k.after; is_all = cons_tail e; others = λ y m. h y (Memᴰ-tail m); fitting = k.fitting }) in
-            (g.0, ap (λ (b : Bool). cond b (some (tokens l.bytes)) (pin_line pin (map line_tokens ls))) (is_false (fits pin (tokens l.bytes)) n) ∙ g.1, g.2)
+            (g.0, ap (λ (b : Bool). cond b (Some (tokens l.bytes)) (pin_line pin (map line_tokens ls))) (is_false (fits pin (tokens l.bytes)) n) ∙ g.1, g.2)
 
 -- ---- its delay
 
-pub delay_form : (pin : List ℕ) {ls : List Line} {ps : List PinSays} → Says ls ps → (d : ℕ) → and_then (pin_line pin (map line_tokens ls)) delay_of ≡ some d → Delay pin ps d
+pub delay_form : (pin : List ℕ) {ls : List Line} {ps : List PinSays} → Says ls ps → (d : ℕ) → and_then (pin_line pin (map line_tokens ls)) delay_of ≡ Some d → Delay pin ps d
 unfolding delay_of
 delay_form pin {ls} r d e =
     let a = then_out (pin_line pin (map line_tokens ls)) delay_of d e in
@@ -177,14 +177,14 @@ delay_form pin {ls} r d e =
       larger = sym (some-once c.2);
     }
 
-pub delay_back : (pin : List ℕ) {ls : List Line} {ps : List PinSays} → Says ls ps → (d : ℕ) → Delay pin ps d → and_then (pin_line pin (map line_tokens ls)) delay_of ≡ some d
+pub delay_back : (pin : List ℕ) {ls : List Line} {ps : List PinSays} → Says ls ps → (d : ℕ) → Delay pin ps d → and_then (pin_line pin (map line_tokens ls)) delay_of ≡ Some d
 unfolding delay_of and_then
 delay_back pin {ls} r d h =
     let f = counts-back pin r h.line h.counts in
     ap (λ (o : Option (List (List ℕ))). and_then o delay_of) f.1
-    ∙ ap (λ (o : Option ℕ). and_then o (λ rise. and_then (thousandths (get_or f.0 7 [])) (λ fall. some (max rise fall)))) (ap (λ (x : PinSays). thousandths x.rise) f.2 ∙ thousandths-back h.is_rise)
-    ∙ ap (λ (o : Option ℕ). and_then o (λ fall. some (max h.rise fall))) (ap (λ (x : PinSays). thousandths x.fall) f.2 ∙ thousandths-back h.is_fall)
-    ∙ ap some (sym h.larger)
+    ∙ ap (λ (o : Option ℕ). and_then o (λ rise. and_then (thousandths (get_or f.0 7 [])) (λ fall. Some (max rise fall)))) (ap (λ (x : PinSays). thousandths x.rise) f.2 ∙ thousandths-back h.is_rise)
+    ∙ ap (λ (o : Option ℕ). and_then o (λ fall. Some (max h.rise fall))) (ap (λ (x : PinSays). thousandths x.fall) f.2 ∙ thousandths-back h.is_fall)
+    ∙ ap Some (sym h.larger)
 
-pub delay_exactly : (pin : List ℕ) {ls : List Line} {ps : List PinSays} → Says ls ps → (d : ℕ) → (and_then (pin_line pin (map line_tokens ls)) delay_of ≡ some d) ↔ Delay pin ps d
+pub delay_exactly : (pin : List ℕ) {ls : List Line} {ps : List PinSays} → Says ls ps → (d : ℕ) → (and_then (pin_line pin (map line_tokens ls)) delay_of ≡ Some d) ↔ Delay pin ps d
 delay_exactly pin r d = (delay_form pin r d, delay_back pin r d)

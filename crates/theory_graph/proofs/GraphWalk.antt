@@ -1,5 +1,5 @@
 -- A walk over a cut gives the AIGER value of its root when the leaves carry theirs.
-use Rattle.base.specs.{ℕ, suc, ◌≡◌, sym, ◌∙◌, ap, ap₂, Bool, true, false, not, cond, ◌&&◌, some, List, [], ◌∷◌, Memᴰ, Memᴰ-head}
+use Rattle.base.specs.{ℕ, suc, ◌≡◌, sym, ◌∙◌, ap, ap₂, Bool, true, false, not, cond, ◌&&◌, Some, List, [], ◌∷◌, Memᴰ, Memᴰ-head}
 use Rattle.base.specs.{Memᴰ-tail, Memᴰ-not-nil, T, eqb, eqb→eq, eqb_no}
 use Rattle.model.specs.{bit, or_else, constant, both, node, var_of, literal_value, node_value, leaf_bit, walk}
 use Rattle.model.specs.Graph.{Graph}
@@ -31,7 +31,7 @@ leaf_walk w r i v (x ∷ xs) rest c other = go (eqb v x) (eqb→eq v x) eqb_no (
     neither a b (Memᴰ-tail m) = b m
 
     go : (t : Bool) → (T t → v ≡ x) → (T (not t) → ¬ (v ≡ x)) → ((¬ Memᴰ v xs → rest ≡ w v) → or_else (leaf_bit xs (suc i) r v) rest ≡ w v)
-        → or_else (cond t (some (bit r i)) (leaf_bit xs (suc i) r v)) rest ≡ w v
+        → or_else (cond t (Some (bit r i)) (leaf_bit xs (suc i) r v)) rest ≡ w v
     go true same differ later = c.0 ∙ ap w (sym (same tt))
     go false same differ later = later (λ h. other (neither (differ tt) h))
 

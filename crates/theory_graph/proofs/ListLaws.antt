@@ -1,6 +1,6 @@
 -- Laws of the list functions of `model`: what `map`, `keep`, `each`, `below`, `elem` and `lowest` hold, and look-ups.
 use Rattle.base.specs.{ℕ, zero, suc, ◌+◌, ◌<◌, le_of_suc-le-suc, not-suc-le-zero, add-zero, add-suc, suc-add, zero-add, ◌≡◌, refl, sym, ◌∙◌}
-use Rattle.base.specs.{ap, ap₂, subst, Option, none, some, ⊎_elim, arith, or-true, Bool, true, false, not, cond, ◌||◌, true≢false}
+use Rattle.base.specs.{ap, ap₂, subst, Option, None, Some, ⊎_elim, arith, or-true, Bool, true, false, not, cond, ◌||◌, true≢false}
 use Rattle.base.specs.{false≢true, List, [], ◌∷◌, ◌++◌, map, Memᴰ, Memᴰ-head, Memᴰ-tail, Memᴰ-not-nil}
 use Rattle.base.specs.{Memᴰ-append_cases, Memᴰ-append_left, Memᴰ-append_right, T, eqb, eqb→eq, eqb_refl, leb, length, get_or, eqb_no}
 use Rattle.base.specs.{and_yes, yes_and, yes_eqb}
@@ -133,14 +133,14 @@ map_same f h (x ∷ xs) e = ap₂ (λ a b. a ∷ b) (e x (Memᴰ-head refl)) (ma
 pub elem-T : (v : ℕ) (xs : List ℕ) → Memᴰ v xs → T (elem v xs)
 elem-T v xs m = subst T (sym (elem_in v xs m)) tt
 
-smaller_in : (x v : ℕ) (o : Option ℕ) (xs : List ℕ) → ((u : ℕ) → o ≡ some u → Memᴰ u xs) → smaller x o ≡ some v → Memᴰ v (x ∷ xs)
+smaller_in : (x v : ℕ) (o : Option ℕ) (xs : List ℕ) → ((u : ℕ) → o ≡ Some u → Memᴰ u xs) → smaller x o ≡ Some v → Memᴰ v (x ∷ xs)
 unfolding smaller
-smaller_in x v none xs h e = let q : v ≡ x = cc in Memᴰ-head q
-smaller_in x v (some y) xs h e = by_bool (leb x y) (λ q. let r : v ≡ x = cc in Memᴰ-head r)
-    (λ p. let r : y ≡ v = cc in Memᴰ-tail (h v (ap some r)))
+smaller_in x v None xs h e = let q : v ≡ x = cc in Memᴰ-head q
+smaller_in x v (Some y) xs h e = by_bool (leb x y) (λ q. let r : v ≡ x = cc in Memᴰ-head r)
+    (λ p. let r : y ≡ v = cc in Memᴰ-tail (h v (ap Some r)))
 
 -- the lowest is one of them
-pub lowest_in_lem : (xs : List ℕ) (v : ℕ) → lowest xs ≡ some v → Memᴰ v xs
+pub lowest_in_lem : (xs : List ℕ) (v : ℕ) → lowest xs ≡ Some v → Memᴰ v xs
 unfolding lowest
 lowest_in_lem [] v e = let z : ◌≡◌ {A = ℕ} 0 1 = cc in absurd (native.Mathlib.Nat.not-suc-le-zero (native.Mathlib.Nat.le_of_eq (sym z)))
 lowest_in_lem (x ∷ xs) v e = smaller_in x v (lowest xs) xs (lowest_in_lem xs) e

@@ -1,5 +1,5 @@
 -- A value by its forms, with the equation that says which form it has.
-use Rattle.base.specs.{ℕ, zero, suc, ◌≡◌, refl, Bool, true, false, Option, none, some, List, [], ◌∷◌, Memᴰ, Memᴰ-head}
+use Rattle.base.specs.{ℕ, zero, suc, ◌≡◌, refl, Bool, true, false, Option, None, Some, List, [], ◌∷◌, Memᴰ, Memᴰ-head}
 use Rattle.base.specs.{Memᴰ-tail}
 use Rattle.model.specs.{Read, holds, fault}
 
@@ -8,9 +8,9 @@ module _ {ℓ} {X : Type ℓ} where
   by_bool true f g = f refl
   by_bool false f g = g refl
 
-  pub by_option : {A : Type 0} (o : Option A) → (o ≡ none → X) → ((a : A) → o ≡ some a → X) → X
-  by_option none f g = f refl
-  by_option (some a) f g = g a refl
+  pub by_option : {A : Type 0} (o : Option A) → (o ≡ None → X) → ((a : A) → o ≡ Some a → X) → X
+  by_option None f g = f refl
+  by_option (Some a) f g = g a refl
 
   pub by_read : {A : Type 0} (r : Read A) → ((a : A) → r ≡ holds a → X) → ((n k : ℕ) → r ≡ fault n k → X) → X
   by_read (holds a) f g = f a refl

@@ -1,6 +1,6 @@
 -- The values that `values` finds in topological order are those that AIGER's equations ask for, in an accepted graph.
 use Rattle.base.specs.{ℕ, zero, suc, ◌≡◌, refl, sym, ◌∙◌, ap, ap₂, subst, ◌⊎◌, inl, inr, ⊎_elim, Bool, true, false, not, ◌&&◌, true≢false}
-use Rattle.base.specs.{false≢true, Option, none, some, List, [], ◌∷◌, ◌++◌, map, Memᴰ, Memᴰ-head, Memᴰ-tail}
+use Rattle.base.specs.{false≢true, Option, None, Some, List, [], ◌∷◌, ◌++◌, map, Memᴰ, Memᴰ-head, Memᴰ-tail}
 use Rattle.base.specs.{Memᴰ-not-nil, Memᴰ-cases_cons, Memᴰ-append_left, Memᴰ-cast, T, eqb, eqb→eq, not_T, length, and_yes}
 use Rattle.model.specs.{elem, keep, lowest, find, run, flip, And, Node, constant, input, undefined, both, find_and, node, ready, and_on}
 use Rattle.model.specs.{order_from, topological_order, unordered, var_of, negated, literal_value, node_value, values, value_of, Distinct}
@@ -69,7 +69,7 @@ module _ (g : Graph) (ok : Accepted g) where
       distinct-once (map (λ (a : And). a.var) g.ands) [] (rw (mathlib.Core.List.append-nil (map (λ (a : And). a.var) g.ands))
       (distinct-behind (0 ∷ g.inputs) (map (λ (a : And). a.var) g.ands) ok.defined))
 
-  next-closed : (ordered : List ℕ) (v : ℕ) → lowest (map (λ (a : And). a.var) (keep (ready ordered) g.ands)) ≡ some v → (l r : ℕ) → node g v ≡ both l r
+  next-closed : (ordered : List ℕ) (v : ℕ) → lowest (map (λ (a : And). a.var) (keep (ready ordered) g.ands)) ≡ Some v → (l r : ℕ) → node g v ≡ both l r
       → Memᴰ (var_of l) ordered × Memᴰ (var_of r) ordered
   unfolding ready
   next-closed ordered v e l r q =
@@ -89,10 +89,10 @@ module _ (g : Graph) (ok : Accepted g) where
   place-closed (suc fuel) ordered before sub = go (lowest (map (λ (a : And). a.var) (keep (ready ordered) g.ands))) (next-closed ordered)
       (λ v. place-closed fuel (v ∷ ordered) (v ∷ before) (λ y z. by_member z Memᴰ-head (λ m. Memᴰ-tail (sub y m))))
     where
-      go : (o : Option ℕ) → ((v : ℕ) → o ≡ some v → (l r : ℕ) → node g v ≡ both l r → Memᴰ (var_of l) ordered × Memᴰ (var_of r) ordered)
+      go : (o : Option ℕ) → ((v : ℕ) → o ≡ Some v → (l r : ℕ) → node g v ≡ both l r → Memᴰ (var_of l) ordered × Memᴰ (var_of r) ordered)
           → ((v : ℕ) → Closed g (v ∷ before) (order_from fuel g.ands (v ∷ ordered))) → Closed g before (and_on o (λ v. order_from fuel g.ands (v ∷ ordered)))
-      go none h later = tt
-      go (some v) h later = ((λ l r q. let p = h v refl l r q in (sub (var_of l) p.0, sub (var_of r) p.1)), later v)
+      go None h later = tt
+      go (Some v) h later = ((λ l r q. let p = h v refl l r q in (sub (var_of l) p.0, sub (var_of r) p.1)), later v)
 
   not-both : (v : ℕ) (k : Node) → node g v ≡ k → is_both k ≡ false → (l r : ℕ) → ¬ (node g v ≡ both l r)
   unfolding is_both

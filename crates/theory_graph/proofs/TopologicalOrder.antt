@@ -1,5 +1,5 @@
 -- The topological order has no number twice, if the graph is accepted.
-use Rattle.base.specs.{ℕ, zero, suc, ◌≤◌, arith, ◌≡◌, refl, sym, ◌∙◌, subst, ◌⊎◌, inl, inr, ⊎_elim, Bool, not, ◌&&◌, Option, none, some}
+use Rattle.base.specs.{ℕ, zero, suc, ◌≤◌, arith, ◌≡◌, refl, sym, ◌∙◌, subst, ◌⊎◌, inl, inr, ⊎_elim, Bool, not, ◌&&◌, Option, None, Some}
 use Rattle.base.specs.{List, [], ◌∷◌, ◌++◌, map, Memᴰ, Memᴰ-head, Memᴰ-tail, Memᴰ-not-nil, Memᴰ-append_cases}
 use Rattle.base.specs.{Memᴰ-append_left, Memᴰ-append_right, Memᴰ-cast, T, leb, leb→le, T_not, length, and_yes}
 use Rattle.model.specs.{elem, keep, lowest, And, ready, and_on, order_from, topological_order, unordered, var_of, and_vars, Distinct}
@@ -11,7 +11,7 @@ use Rattle.theory_graph.proofs.ListLaws.{map_in, map_out, keep_in, keep_out, ele
 use Rattle.theory_graph.proofs.ListSplits.{by_option, by_bool}
 
 -- the AND that is ordered next is not ordered yet
-pub next_new : (ands : List And) (ordered : List ℕ) (v : ℕ) → lowest (map (λ (a : And). a.var) (keep (ready ordered) ands)) ≡ some v → ¬ Memᴰ v ordered
+pub next_new : (ands : List And) (ordered : List ℕ) (v : ℕ) → lowest (map (λ (a : And). a.var) (keep (ready ordered) ands)) ≡ Some v → ¬ Memᴰ v ordered
 unfolding ready
 next_new ands ordered v e m =
     let at = map_out (λ (a : And). a.var) (keep (ready ordered) ands) (lowest_in_lem (map (λ (a : And). a.var) (keep (ready ordered) ands)) v e) in
@@ -27,11 +27,11 @@ ordered_new zero ands ordered x m = absurd (Memᴰ-not-nil m)
 ordered_new (suc fuel) ands ordered x m =
     go (lowest (map (λ (a : And). a.var) (keep (ready ordered) ands))) (next_new ands ordered) m (λ v. ordered_new fuel ands (v ∷ ordered) x)
   where
-    go : (o : Option ℕ) → ((v : ℕ) → o ≡ some v → ¬ Memᴰ v ordered) → Memᴰ x (and_on o (λ v. order_from fuel ands (v ∷ ordered)))
+    go : (o : Option ℕ) → ((v : ℕ) → o ≡ Some v → ¬ Memᴰ v ordered) → Memᴰ x (and_on o (λ v. order_from fuel ands (v ∷ ordered)))
         → ((v : ℕ) → Memᴰ x (order_from fuel ands (v ∷ ordered)) → ¬ Memᴰ x (v ∷ ordered)) → ¬ Memᴰ x ordered
-    go none new n later = absurd (Memᴰ-not-nil n)
-    go (some v) new (Memᴰ-head e) later = λ k. new v refl (Memᴰ-cast (sym e) k)
-    go (some v) new (Memᴰ-tail n) later = λ k. later v n (Memᴰ-tail k)
+    go None new n later = absurd (Memᴰ-not-nil n)
+    go (Some v) new (Memᴰ-head e) later = λ k. new v refl (Memᴰ-cast (sym e) k)
+    go (Some v) new (Memᴰ-tail n) later = λ k. later v n (Memᴰ-tail k)
 
 ordered-once : (fuel : ℕ) (ands : List And) (ordered : List ℕ) → Distinct (order_from fuel ands ordered)
 unfolding order_from and_on
@@ -60,13 +60,13 @@ ordered-and zero ands ordered x m = absurd (Memᴰ-not-nil m)
 ordered-and (suc fuel) ands ordered x m =
     go (lowest (map (λ (a : And). a.var) (keep (ready ordered) ands))) (lowest_in_lem (map (λ (a : And). a.var) (keep (ready ordered) ands))) m (λ v. ordered-and fuel ands (v ∷ ordered) x)
   where
-    go : (o : Option ℕ) → ((v : ℕ) → o ≡ some v → Memᴰ v (map (λ (a : And). a.var) (keep (ready ordered) ands))) → Memᴰ x (and_on o (λ v. order_from fuel ands (v ∷ ordered)))
+    go : (o : Option ℕ) → ((v : ℕ) → o ≡ Some v → Memᴰ v (map (λ (a : And). a.var) (keep (ready ordered) ands))) → Memᴰ x (and_on o (λ v. order_from fuel ands (v ∷ ordered)))
         → ((v : ℕ) → Memᴰ x (order_from fuel ands (v ∷ ordered)) → Memᴰ x (map (λ (a : And). a.var) ands)) → Memᴰ x (map (λ (a : And). a.var) ands)
-    go none h n later = absurd (Memᴰ-not-nil n)
-    go (some v) h (Memᴰ-head s) later =
+    go None h n later = absurd (Memᴰ-not-nil n)
+    go (Some v) h (Memᴰ-head s) later =
         let o = map_out (λ (a : And). a.var) (keep (ready ordered) ands) (h v refl) in
         Memᴰ-cast (s ∙ o.2) (map_in (λ (a : And). a.var) (keep_out (ready ordered) ands o.1).0)
-    go (some v) h (Memᴰ-tail n) later = later v n
+    go (Some v) h (Memᴰ-tail n) later = later v n
 
 -- an ordered variable is at most M
 pub order_small : (g : Graph) → Accepted g → (v : ℕ) → Memᴰ v (topological_order g) → v ≤ g.size

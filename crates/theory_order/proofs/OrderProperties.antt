@@ -6,7 +6,7 @@
 --     unordered-lowest_iff         the place of refusal 15
 --     order-step                  what stands in the topological order is variable 0, an input, or an AND behind its operands
 use Rattle.base.specs.{ℕ, zero, suc, ◌≤◌, ◌<◌, arith, ◌≡◌, refl, sym, ◌∙◌, ap, subst, ◌⊎◌, inl, inr, ◌↔◌, ⊎_elim, Bool, not, ◌&&◌, Option}
-use Rattle.base.specs.{none, some, List, [], ◌∷◌, ◌++◌, map, append-nil, append_assoc, Memᴰ, Memᴰ-head, Memᴰ-tail}
+use Rattle.base.specs.{None, Some, List, [], ◌∷◌, ◌++◌, map, append-nil, append_assoc, Memᴰ, Memᴰ-head, Memᴰ-tail}
 use Rattle.base.specs.{Memᴰ-not-nil, Memᴰ-eq_of_singleton, Memᴰ-append_cases, Memᴰ-append_left, Memᴰ-append_right, Memᴰ-cast}
 use Rattle.base.specs.{T, T_not, not_T, length, and_yes, yes_and}
 use Rattle.model.specs.{elem, keep, lowest, And, var_of, ready, and_on, order_from, topological_order, unordered, and_vars, Follows, Order, Stands}
@@ -45,7 +45,7 @@ pub in_not : (v : ℕ) (xs : List ℕ) → ¬ Memᴰ v xs → T (not (elem v xs)
 in_not v xs h = not_T (elem v xs) (λ t. h (elem_out v xs (is_true (elem v xs) t)))
 
 module _ (g : Graph) where
-  pub next-step : (ordered : List ℕ) (v : ℕ) → lowest (map (λ (a : And). a.var) (keep (ready ordered) g.ands)) ≡ some v → OrderStep g ordered v
+  pub next-step : (ordered : List ℕ) (v : ℕ) → lowest (map (λ (a : And). a.var) (keep (ready ordered) g.ands)) ≡ Some v → OrderStep g ordered v
   unfolding ready
   next-step ordered v e =
       let at = map_out (λ (a : And). a.var) (keep (ready ordered) g.ands) (lowest_in_lem (map (λ (a : And). a.var) (keep (ready ordered) g.ands)) v e) in
@@ -71,12 +71,12 @@ module _ (g : Graph) where
   order-from-step (suc fuel) ordered pre v post e =
       go (lowest (map (λ (a : And). a.var) (keep (ready ordered) g.ands))) (next-step ordered) (λ w q. order-from-step fuel (w ∷ ordered) q v post) pre e
     where
-      go : (o : Option ℕ) → ((w : ℕ) → o ≡ some w → OrderStep g ordered w)
+      go : (o : Option ℕ) → ((w : ℕ) → o ≡ Some w → OrderStep g ordered w)
           → ((w : ℕ) (q : List ℕ) → order_from fuel g.ands (w ∷ ordered) ≡ q ++ (v ∷ post) → OrderStep g (w ∷ ordered ++ q) v)
           → (q : List ℕ) → and_on o (λ w. order_from fuel g.ands (w ∷ ordered)) ≡ q ++ (v ∷ post) → OrderStep g (ordered ++ q) v
-      go none next later q d = absurd (nil_split q v post d)
-      go (some w) next later [] d = subst (OrderStep g (ordered ++ [])) (cons_head d) (subst (λ (xs : List ℕ). OrderStep g xs w) (sym (append-nil ordered)) (next w refl))
-      go (some w) next later (x ∷ q) d = rw (← cons_head d) (step-more (w ∷ ordered ++ q) (ordered ++ (w ∷ q)) (λ y. first-between ordered q)
+      go None next later q d = absurd (nil_split q v post d)
+      go (Some w) next later [] d = subst (OrderStep g (ordered ++ [])) (cons_head d) (subst (λ (xs : List ℕ). OrderStep g xs w) (sym (append-nil ordered)) (next w refl))
+      go (Some w) next later (x ∷ q) d = rw (← cons_head d) (step-more (w ∷ ordered ++ q) (ordered ++ (w ∷ q)) (λ y. first-between ordered q)
           (λ y. between_first ordered q) (later w q (cons_tail d)))
 
   -- the ANDs of the topological order are an order
@@ -198,7 +198,7 @@ module _ (g : Graph) (defined : T (distinct (0 ∷ g.inputs ++ and_vars g))) whe
 
   -- "place, the lowest such variable": the lowest AND that stands in no order
   pub unordered-lowest_iff : (v : ℕ)
-      → lowest (unordered g) ≡ some v ↔ (Memᴰ v (and_vars g) × (¬ Stands g v) × ((u : ℕ) → Memᴰ u (and_vars g) → u < v → Stands g u))
+      → lowest (unordered g) ≡ Some v ↔ (Memᴰ v (and_vars g) × (¬ Stands g v) × ((u : ℕ) → Memᴰ u (and_vars g) → u < v → Stands g u))
   unordered-lowest_iff v = (
     (λ e. let k = (unordered_in g v).0 (lowest_in_lem (unordered g) v e) in (
       k.0,
@@ -209,6 +209,6 @@ module _ (g : Graph) (defined : T (distinct (0 ∷ g.inputs ++ and_vars g))) whe
     (λ h. let m : Memᴰ v
         (unordered g) = (unordered_in g v).1 (h.0, λ n. h.1 (ordered_stands v h.0 n)) in let r = lowest-some (unordered g) v m in
         let k = (unordered_in g r.0).0 (lowest_in_lem (unordered g) r.0 r.1) in let below : ¬ (r.0 < v) = λ l. k.1
-        (stands_ordered g r.0 (h.2 r.0 k.0 l)) in r.1 ∙ ap some
+        (stands_ordered g r.0 (h.2 r.0 k.0 l)) in r.1 ∙ ap Some
         (omega (arith, lowest-least (unordered g) r.0 r.1 v m, below))),
   )

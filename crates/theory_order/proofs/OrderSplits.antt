@@ -1,6 +1,6 @@
 -- Laws of lists: where an element stands in a list, how many can, what is kept by a narrower test, and the lowest of a list.
 use Rattle.base.specs.{ℕ, ◌≤◌, ◌<◌, le_refl, arith, ◌≡◌, refl, sym, ◌∙◌, ap, ap₂, subst, ◌⊎◌, inl, inr, ⊎_elim, Bool, true, false, not}
-use Rattle.base.specs.{cond, true≢false, Option, none, some, List, [], ◌∷◌, ◌++◌, append-nil, Memᴰ, Memᴰ-head, Memᴰ-tail}
+use Rattle.base.specs.{cond, true≢false, Option, None, Some, List, [], ◌∷◌, ◌++◌, append-nil, Memᴰ, Memᴰ-head, Memᴰ-tail}
 use Rattle.base.specs.{Memᴰ-not-nil, Memᴰ-append_cases, Memᴰ-append_left, Memᴰ-append_right, T, leb, length, length-append}
 use Rattle.base.specs.{leb_yes, leb_no}
 use Rattle.model.specs.{elem, keep, lowest, smaller, Distinct}
@@ -108,13 +108,13 @@ module _ {A : Type 0} (p q : A → Bool) (narrower : (a : A) → T (q a) → T (
 
 -- nothing stands in the list, or nothing below what is given
 abbrev Bound : Option ℕ → List ℕ → Type 0
-Bound none xs = (u : ℕ) → ¬ Memᴰ u xs
-Bound (some w) xs = (u : ℕ) → Memᴰ u xs → w ≤ u
+Bound None xs = (u : ℕ) → ¬ Memᴰ u xs
+Bound (Some w) xs = (u : ℕ) → Memᴰ u xs → w ≤ u
 
 smaller-bound : (x : ℕ) (o : Option ℕ) (xs : List ℕ) → Bound o xs → Bound (smaller x o) (x ∷ xs)
 unfolding smaller
-smaller-bound x none xs h = λ u y. by_member y (λ e. omega arith) (λ m. absurd (h u m))
-smaller-bound x (some y) xs h = λ u. go u (leb x y) leb_yes leb_no
+smaller-bound x None xs h = λ u y. by_member y (λ e. omega arith) (λ m. absurd (h u m))
+smaller-bound x (Some y) xs h = λ u. go u (leb x y) leb_yes leb_no
   where
     go : (u : ℕ) (b : Bool) → (T b → x ≤ y) → (T (not b) → y < x) → Memᴰ u (x ∷ xs) → cond b x y ≤ u
     go u true a b (Memᴰ-head e) = omega arith
@@ -128,13 +128,13 @@ lowest-bound [] = λ u m. Memᴰ-not-nil m
 lowest-bound (x ∷ xs) = smaller-bound x (lowest xs) xs (lowest-bound xs)
 
 -- the lowest is none where the list is empty
-pub lowest-none : (xs : List ℕ) → lowest xs ≡ none → (u : ℕ) → ¬ Memᴰ u xs
+pub lowest-none : (xs : List ℕ) → lowest xs ≡ None → (u : ℕ) → ¬ Memᴰ u xs
 lowest-none xs e = subst (λ (o : Option ℕ). Bound o xs) e (lowest-bound xs)
 
 -- nothing is below the lowest
-pub lowest-least : (xs : List ℕ) (v : ℕ) → lowest xs ≡ some v → (u : ℕ) → Memᴰ u xs → v ≤ u
+pub lowest-least : (xs : List ℕ) (v : ℕ) → lowest xs ≡ Some v → (u : ℕ) → Memᴰ u xs → v ≤ u
 lowest-least xs v e = subst (λ (o : Option ℕ). Bound o xs) e (lowest-bound xs)
 
 -- there is a lowest where there is any
-pub lowest-some : (xs : List ℕ) (u : ℕ) → Memᴰ u xs → (w : ℕ) × (lowest xs ≡ some w)
+pub lowest-some : (xs : List ℕ) (u : ℕ) → Memᴰ u xs → (w : ℕ) × (lowest xs ≡ Some w)
 lowest-some xs u m = by_option (lowest xs) (λ e. absurd (lowest-none xs e u m)) (λ q p. (q, p))

@@ -2,7 +2,7 @@
 -- counted as sets.
 --     over_limit_first_iff           the place of refusal 16
 --     over_limit_none_iff            it applies nowhere exactly where no ordered variable has too many
-use Rattle.base.specs.{ℕ, ◌≤◌, arith, ◌≡◌, refl, sym, ◌∙◌, ap, subst, ◌↔◌, ⊎_elim, Bool, true, false, not, cond, some, List, [], ◌∷◌, ◌++◌}
+use Rattle.base.specs.{ℕ, ◌≤◌, arith, ◌≡◌, refl, sym, ◌∙◌, ap, subst, ◌↔◌, ⊎_elim, Bool, true, false, not, cond, Some, List, [], ◌∷◌, ◌++◌}
 use Rattle.base.specs.{Memᴰ, Memᴰ-head, Memᴰ-tail, Memᴰ-not-nil, Memᴰ-cases_cons, T, ltb, ltb→lt, lt→ltb, length}
 use Rattle.model.specs.{keep, cut_limit, first_of, topological_order, cuts_of, over_limit, Many, FirstOverLimit}
 use Rattle.model.specs.Graph.{Graph}
@@ -21,7 +21,7 @@ pub record First (p : ℕ → Bool) (vs : List ℕ) (v : ℕ) : Type 0 where
   pub passes : T (p v)
   pub none_before : (u : ℕ) → Memᴰ u before → T (not (p u))
 
-first_in : (p : ℕ → Bool) (vs : List ℕ) (v : ℕ) → first_of (keep p vs) ≡ some v → First p vs v
+first_in : (p : ℕ → Bool) (vs : List ℕ) (v : ℕ) → first_of (keep p vs) ≡ Some v → First p vs v
 unfolding first_of keep
 first_in p [] v e = absurd (let z : ◌≡◌ {A = ℕ} 0 1 = cc in omega arith)
 first_in p (x ∷ xs) v e = by_bool (p x) (λ q. let s : x ≡ v = cc in record {
@@ -38,7 +38,7 @@ first_in p (x ∷ xs) v e = by_bool (p x) (λ q. let s : x ≡ v = cc in record 
   none_before = λ u m. (⊎_elim (λ s. subst (λ (b : Bool). T (not b)) (sym (ap p s ∙ r)) tt) (f.none_before u) (Memᴰ-cases_cons m));
 })
 
-first_out : (p : ℕ → Bool) (before : List ℕ) (v : ℕ) (behind : List ℕ) → T (p v) → ((u : ℕ) → Memᴰ u before → T (not (p u))) → first_of (keep p (before ++ (v ∷ behind))) ≡ some v
+first_out : (p : ℕ → Bool) (before : List ℕ) (v : ℕ) (behind : List ℕ) → T (p v) → ((u : ℕ) → Memᴰ u before → T (not (p u))) → first_of (keep p (before ++ (v ∷ behind))) ≡ Some v
 unfolding first_of keep
 first_out p [] v behind t h = ap (λ (b : Bool). first_of (cond b (v ∷ keep p behind) (keep p behind))) (is_true (p v) t)
 first_out p (x ∷ before) v behind t h =
@@ -68,7 +68,7 @@ module _ (g : Graph) (ok : Accepted g) where
       go false n = tt
 
   -- the place of refusal 16
-  pub over_limit_first_iff : (v : ℕ) → (first_of (over_limit g) ≡ some v) ↔ FirstOverLimit g v
+  pub over_limit_first_iff : (v : ℕ) → (first_of (over_limit g) ≡ Some v) ↔ FirstOverLimit g v
   unfolding over_limit cuts_of
   over_limit_first_iff v = (
     (λ e. let f = first_in test (topological_order g) v e in

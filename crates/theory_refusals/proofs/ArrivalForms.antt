@@ -1,7 +1,7 @@
 -- The arrivals' text is read exactly where it has the form, and 25 and 26 come exactly by their conditions.
 use mir.Facts.{not_T}
 use Rattle.base.specs.{ℕ, ◌+◌, ◌≤◌, ◌<◌, arith, ◌≡◌, refl, sym, ◌∙◌, ap, subst, ◌⊎◌, inl, inr, ◌↔◌, ⊎_elim, Bool, true, false, not}
-use Rattle.base.specs.{false≢true, ◌&&◌, Option, none, some, List, [], ◌∷◌, ◌++◌, map, append-nil, append_assoc, nil≢cons, Memᴰ}
+use Rattle.base.specs.{false≢true, ◌&&◌, Option, None, Some, List, [], ◌∷◌, ◌++◌, map, append-nil, append_assoc, nil≢cons, Memᴰ}
 use Rattle.base.specs.{Memᴰ-head, Memᴰ-tail, Memᴰ-not-nil, T, ltb, length, get_or, length-append, and_yes, yes_and, and_no}
 use Rattle.base.specs.{ltb_yes, ltb_no, T_not-not}
 use Rattle.model.specs.{all, elem, same, and_then, only, Line, ended, text, lines_from, Read, holds, fault, next, unless, from?, InputArrival}
@@ -23,10 +23,10 @@ titles w = only (same w (text "input arrival")) tt
 abbrev title_of : Line → Option (Unit {0})
 title_of l = and_then (only (ended l) l.bytes) titles
 
-titles_form : (w : List ℕ) (u : Unit {0}) → titles w ≡ some u → Title w u
+titles_form : (w : List ℕ) (u : Unit {0}) → titles w ≡ Some u → Title w u
 titles_form w u e = let p = only_out (same w (text "input arrival")) tt u e in subst (λ (x : List ℕ). Title x u) (sym (same-eq w (text "input arrival") p.0)) title
 
-titles_back : (w : List ℕ) (u : Unit {0}) → Title w u → titles w ≡ some u
+titles_back : (w : List ℕ) (u : Unit {0}) → Title w u → titles w ≡ Some u
 unfolding same text only
 titles_back w u title = refl
 
@@ -40,14 +40,14 @@ reads-title = reads-line false titles Title title_of (λ l. refl) titles_form ti
 abbrev is_title : Line → Bool
 is_title l = ended l && same l.bytes (text "input arrival")
 
-title-is : (l : Line) → title_of l ≡ some tt → T (is_title l)
+title-is : (l : Line) → title_of l ≡ Some tt → T (is_title l)
 title-is l e =
     let o = then_out (only (ended l) l.bytes) titles tt e in
     let p = only_out (ended l) l.bytes o.0 o.1 in
     let q = only_out (same o.0 (text "input arrival")) tt tt o.2 in
     yes_and (ended l) (same l.bytes (text "input arrival")) p.0 (subst (λ (x : List ℕ). T (same x (text "input arrival"))) (sym p.1) q.0)
 
-is-title : (l : Line) → T (is_title l) → title_of l ≡ some tt
+is-title : (l : Line) → T (is_title l) → title_of l ≡ Some tt
 unfolding and_then only
 is-title l t =
     let p = and_yes (ended l) (same l.bytes (text "input arrival")) t in
@@ -122,15 +122,15 @@ module _ (inputs : ℕ) where
   abbrev validated : List ℕ → List Line → ℕ → List ℕ → Read (List InputArrival)
   validated before ls at ns = unless (is_good inputs before (get_or ns 0 0)) 26 at (later before ls ns)
 
-  input-arrival-line : (before : List ℕ) (l : Line) (ls : List Line) (ns : List ℕ) → input_arrival_numbers l ≡ some ns → read_input_arrivals inputs before (l ∷ ls) ≡ validated before ls l.offset ns
+  input-arrival-line : (before : List ℕ) (l : Line) (ls : List Line) (ns : List ℕ) → input_arrival_numbers l ≡ Some ns → read_input_arrivals inputs before (l ∷ ls) ≡ validated before ls l.offset ns
   unfolding read_input_arrivals from? next
   input-arrival-line before l ls ns e = ap (λ (o : Option (List ℕ)). next (from? o 25 l.offset) (validated before ls l.offset)) e
 
-  input-arrival-none : (before : List ℕ) (l : Line) (ls : List Line) → input_arrival_numbers l ≡ none → read_input_arrivals inputs before (l ∷ ls) ≡ fault 25 l.offset
+  input-arrival-none : (before : List ℕ) (l : Line) (ls : List Line) → input_arrival_numbers l ≡ None → read_input_arrivals inputs before (l ∷ ls) ≡ fault 25 l.offset
   unfolding read_input_arrivals from? next
   input-arrival-none before l ls e = ap (λ (o : Option (List ℕ)). next (from? o 25 l.offset) (validated before ls l.offset)) e
 
-  input-arrival_passes : (before : List ℕ) (l : Line) (ls : List Line) (ns : List ℕ) → input_arrival_numbers l ≡ some ns → T (is_good inputs before (get_or ns 0 0)) → read_input_arrivals inputs before (l ∷ ls) ≡ later before ls ns
+  input-arrival_passes : (before : List ℕ) (l : Line) (ls : List Line) (ns : List ℕ) → input_arrival_numbers l ≡ Some ns → T (is_good inputs before (get_or ns 0 0)) → read_input_arrivals inputs before (l ∷ ls) ≡ later before ls ns
   input-arrival_passes before l ls ns e a = input-arrival-line before l ls ns e ∙ unless-yes (is_good inputs before (get_or ns 0 0)) 26 l.offset _ a
 
   record Run (s : List ℕ) (es : List InputArrival) : Type 0 where
@@ -182,7 +182,7 @@ module _ (inputs : ℕ) where
   input-arrival-result [] s rest es before lines known e =
       held (subst (λ (x : List ℕ). LatesIn inputs x (es ++ [])) (sym (append-nil s) ∙ ap (λ (y : List ℕ). s ++ y) (sym (lines_none (length s) rest e))) (subst (LatesIn inputs s) (sym (append-nil es)) lines))
   input-arrival-result (l ∷ ls) s rest es before lines known e = by_option (input_arrival_numbers l) (λ f. fails 25 (input-arrival-none before l ls f) (twenty_five (λ p.
-      let z : none ≡ some p.0 = sym f
+      let z : None ≡ Some p.0 = sym f
       ∙ begins-read reads-input-arrival (length s) rest l ls e p.0 p.1 in let y : false ≡ true = cc in false≢true y))) (λ ns q.
       let x = reads-input-arrival.form (length s) rest l ls e ns q in on (is_good inputs before (get_or ns 0 0)) (λ t.
       let text-is : (s ++ x.front) ++ x.behind ≡ s ++ rest = append_assoc s x.front x.behind ∙ ap (λ (y : List ℕ). s ++ y)

@@ -1,6 +1,6 @@
 -- A cell line is read exactly where its bytes have the form, and with the form's meaning; and the tests of 5, 6 and 27 are their conditions.
 use Rattle.base.specs.{ℕ, zero, suc, ◌/◌, ◌%◌, ◌^◌, ◌≤◌, ◌<◌, arith, ◌≡◌, refl, sym, ◌∙◌, ap, subst, Bool, true, false, cond, true≢false}
-use Rattle.base.specs.{◌&&◌, Option, some, List, [], ◌∷◌, ◌++◌, append-nil, T, eqb, leb, ltb, lit<, length, get_or, take, drop, length-append}
+use Rattle.base.specs.{◌&&◌, Option, Some, List, [], ◌∷◌, ◌++◌, append-nil, T, eqb, leb, ltb, lit<, length, get_or, take, drop, length-append}
 use Rattle.base.specs.{length-take, length-drop, take-append-drop, and_yes, yes_and, eqb_yes, yes_eqb, no_eqb, leb_yes, yes_leb, ltb_yes}
 use Rattle.base.specs.{yes_ltb}
 use Rattle.model.specs.{bit, all, and_then, only, ended, fields, numbers, hex_table, is_name as is_named, name_bytes, cell_of_fields, cell_of_line}
@@ -124,21 +124,21 @@ form_made false w p t [] ns table count named q tab few = let z : ⊥ = omega ar
 form_made false w p t (a ∷ ds) [] table count named q tab few = elim q [ ]
 form_made true w p t (a ∷ ds) [] table count named q tab few = elim q [ ]
 
-fields_form : (ranged : Bool) (w : List ℕ) (c : Cell) → cell_of_fields ranged (fields w) ≡ some c → CellFields ranged w c
+fields_form : (ranged : Bool) (w : List ℕ) (c : Cell) → cell_of_fields ranged (fields w) ≡ Some c → CellFields ranged w c
 fields_form ranged w c e =
     let j = joins w in
-    let f : cell_of_fields ranged (j.first ∷ j.others) ≡ some c = ap (cell_of_fields ranged) (sym j.are_fields) ∙ e in
+    let f : cell_of_fields ranged (j.first ∷ j.others) ≡ Some c = ap (cell_of_fields ranged) (sym j.are_fields) ∙ e in
     subst (λ (x : List ℕ). CellFields ranged x c) (sym j.is_whole) (many j.first j.others f (field_count ranged (j.first ∷ j.others) c f))
   where
     small : (r : Bool) (n : ℕ) → n < 3 → n ≡ cond r 12 8 → ⊥
     small true n h e = omega arith
     small false n h e = omega arith
 
-    many : (w : List ℕ) (ws : List (List ℕ)) → cell_of_fields ranged (w ∷ ws) ≡ some c → suc (length ws) ≡ cond ranged 12 8 → CellFields ranged (joined (w ∷ ws)) c
+    many : (w : List ℕ) (ws : List (List ℕ)) → cell_of_fields ranged (w ∷ ws) ≡ Some c → suc (length ws) ≡ cond ranged 12 8 → CellFields ranged (joined (w ∷ ws)) c
     many w [] f n = absurd (small ranged 1 (lit< tt) n)
     many w (p ∷ []) f n = absurd (small ranged 2 (lit< tt) n)
     many w (p ∷ t ∷ rest) f n =
-        let g : read_fields ranged w p t rest ≡ some c = sym (cell-fields ranged w p t rest) ∙ f in
+        let g : read_fields ranged w p t rest ≡ Some c = sym (cell-fields ranged w p t rest) ∙ f in
         let o = then_out (only (eqb (suc (suc (suc (length rest)))) (cond ranged 12 8) && is_named w) (w ∷ p ∷ t ∷ rest))
         (λ _. and_then (numbers (p ∷ rest)) (λ ns. and_then (hex_table t) (λ table. only (leb (get_or ns 0 0) 4) (made ranged w ns table)))) c g in
         let x = only_out (eqb (suc (suc (suc (length rest)))) (cond ranged 12 8) && is_named w) (w ∷ p ∷ t ∷ rest) o.0 o.1 in
@@ -182,7 +182,7 @@ behind ranged fs gs ds ls p four same_mins = record {
   back = refl;
 }
 
-fields_back : (ranged : Bool) (w : List ℕ) (c : Cell) → CellFields ranged w c → cell_of_fields ranged (fields w) ≡ some c
+fields_back : (ranged : Bool) (w : List ℕ) (c : Cell) → CellFields ranged w c → cell_of_fields ranged (fields w) ≡ Some c
 unfolding name_bytes and_then only
 fields_back ranged w c f =
     let b = behind ranged f.delay_fields f.min_fields c.delays c.mins f.delays f.four f.mins in

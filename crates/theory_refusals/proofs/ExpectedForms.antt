@@ -1,7 +1,7 @@
 -- Expected lines are read exactly where the text has them, and 11, 12 and 13 come exactly by their conditions.
 use mir.Facts.{not_T}
 use Rattle.base.specs.{ℕ, suc, ◌+◌, ◌-◌, ◌*◌, ◌/◌, ◌%◌, arith, ◌≡◌, refl, sym, ◌∙◌, ap, ap₂, subst, ◌⊎◌, inl, inr, ◌↔◌, ⊎_elim, Bool, true}
-use Rattle.base.specs.{false, not, cond, false≢true, ◌&&◌, ◌||◌, Option, none, some, List, [], ◌∷◌, ◌++◌, map, append-nil, append_assoc}
+use Rattle.base.specs.{false, not, cond, false≢true, ◌&&◌, ◌||◌, Option, None, Some, List, [], ◌∷◌, ◌++◌, map, append-nil, append_assoc}
 use Rattle.base.specs.{Memᴰ, Memᴰ-head, Memᴰ-tail, Memᴰ-not-nil, Memᴰ-append_cases, Memᴰ-append_left}
 use Rattle.base.specs.{Memᴰ-append_right, T, eqb, leb, length, get_or, length-append, and_yes, yes_and, leb_yes, yes_leb, eqb_yes, yes_eqb}
 use Rattle.base.specs.{eqb_no, no_eqb, T_not-not}
@@ -118,16 +118,16 @@ module _ (is_binary : Bool) (end m start : ℕ) where
   abbrev validated : List ℕ → List Kind → List Line → Kind → ℕ → List ℕ → Read (List Item)
   validated before ks ls k at ns = unless (is_lawful m k ns) 12 at (unless (is_new k before ns) 13 at (later before ks ls k at ns))
 
-  expected-line : (before : List ℕ) (k : Kind) (ks : List Kind) (l : Line) (ls : List Line) (ns : List ℕ) → item_literals (closed is_binary) k l ≡ some ns
+  expected-line : (before : List ℕ) (k : Kind) (ks : List Kind) (l : Line) (ls : List Line) (ns : List ℕ) → item_literals (closed is_binary) k l ≡ Some ns
       → read before (k ∷ ks) (l ∷ ls) ≡ validated before ks ls k l.offset ns
   unfolding read_expected from? next
   expected-line before k ks l ls ns e = ap (λ (o : Option (List ℕ)). next (from? o 11 l.offset) (validated before ks ls k l.offset)) e
 
-  expected-none : (before : List ℕ) (k : Kind) (ks : List Kind) (l : Line) (ls : List Line) → item_literals (closed is_binary) k l ≡ none → read before (k ∷ ks) (l ∷ ls) ≡ fault 11 l.offset
+  expected-none : (before : List ℕ) (k : Kind) (ks : List Kind) (l : Line) (ls : List Line) → item_literals (closed is_binary) k l ≡ None → read before (k ∷ ks) (l ∷ ls) ≡ fault 11 l.offset
   unfolding read_expected from? next
   expected-none before k ks l ls e = ap (λ (o : Option (List ℕ)). next (from? o 11 l.offset) (validated before ks ls k l.offset)) e
 
-  expected_passes : (before : List ℕ) (k : Kind) (ks : List Kind) (l : Line) (ls : List Line) (ns : List ℕ) → item_literals (closed is_binary) k l ≡ some ns → T (is_lawful m k ns) → T (is_new k before ns)
+  expected_passes : (before : List ℕ) (k : Kind) (ks : List Kind) (l : Line) (ls : List Line) (ns : List ℕ) → item_literals (closed is_binary) k l ≡ Some ns → T (is_lawful m k ns) → T (is_new k before ns)
       → read before (k ∷ ks) (l ∷ ls) ≡ later before ks ls k l.offset ns
   expected_passes before k ks l ls ns e a b = expected-line before k ks l ls ns e ∙ unless-yes (is_lawful m k ns) 12 l.offset _ a ∙ unless-yes (is_new k before ns) 13 l.offset _ b
 
@@ -249,7 +249,7 @@ module _ (is_binary : Bool) (end m start : ℕ) where
         is_place = at-end;
       })
   expected-result (l ∷ ls) (k ∷ ks) s rest is before lines known e ends = by_option (item_literals (closed is_binary) k l) (λ f. fails 11
-      (expected-none before k ks l ls f) (eleven (λ p. let z : none ≡ some p.0 = sym f
+      (expected-none before k ks l ls f) (eleven (λ p. let z : None ≡ Some p.0 = sym f
       ∙ begins-read (reads-expected is_binary k) (start + length s) rest l ls e p.0 p.1 in let y : false ≡ true = cc in false≢true y)))
       (λ ns q. let x = (reads-expected is_binary k).form (start + length s) rest l ls e ns q in let b = found-begins (reads-expected is_binary k) x in
       let is-validated = expected-line before k ks l ls ns q in on (is_lawful m k ns) (λ t. on (is_new k before ns)
@@ -275,7 +275,7 @@ module _ (is_binary : Bool) (end m start : ℕ) where
           → lines_from (start + length s') [] rest' ≡ ls → end ≡ start + (length s' + length rest')
           → Result (λ js. ExpectedHolds is_binary m start (map (λ (x : Item). x.kind) is' ++ ks) (s' ++ rest') (is' ++ js)) (ExpectedRefused is_binary m start (map (λ (x : Item). x.kind) is' ++ ks) (s' ++ rest')) (read before' ks ls)
 
-      accepted : (ns : List ℕ) → item_literals (closed is_binary) k l ≡ some ns → T (is_lawful m k ns) → T (is_new k before ns) → Found (ExpectedLine is_binary k) (start + length s) rest ls ns → Later → Here whole
+      accepted : (ns : List ℕ) → item_literals (closed is_binary) k l ≡ Some ns → T (is_lawful m k ns) → T (is_new k before ns) → Found (ExpectedLine is_binary k) (start + length s) rest ls ns → Later → Here whole
       accepted ns f a b x ih =
           let i = item_of k (start + length s) ns in
           let text-is : (s ++ x.front) ++ x.behind ≡ s ++ rest = append_assoc s x.front x.behind ∙ ap (λ (y : List ℕ). s ++ y) (sym x.whole) in

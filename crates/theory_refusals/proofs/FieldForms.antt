@@ -1,7 +1,7 @@
 -- The fields of a line: numbers, names and tables are read exactly where the bytes have the form, and with the form's meaning; a line's fields are the parts
 -- that one space joins.
 use Rattle.base.specs.{ℕ, zero, suc, ◌+◌, ◌-◌, ◌*◌, ◌/◌, ◌%◌, ◌≤◌, ◌<◌, not-suc-le-zero, le_refl, arith, ◌≡◌, refl, sym, ◌∙◌, ap, ap₂}
-use Rattle.base.specs.{subst, ◌⊎◌, inl, inr, ⊎_elim, Bool, true, false, not, cond, false≢true, ◌&&◌, ◌||◌, none, some, List, [], ◌∷◌, ◌++◌}
+use Rattle.base.specs.{subst, ◌⊎◌, inl, inr, ⊎_elim, Bool, true, false, not, cond, false≢true, ◌&&◌, ◌||◌, None, Some, List, [], ◌∷◌, ◌++◌}
 use Rattle.base.specs.{append_assoc, Memᴰ, Memᴰ-head, Memᴰ-tail, T, eqb, leb, ltb, length, and_yes, yes_and, or_yes, eqb_yes}
 use Rattle.base.specs.{yes_eqb, leb_yes, yes_leb, ltb_yes, ltb_no, yes_ltb, no_ltb}
 use Rattle.model.specs.{all, same, and_then, only, digits, decimal, as_digits, number, numbers, between, hex_digit, hex_from, hex_table}
@@ -66,7 +66,7 @@ decimal-only (more {w} {n} {d} p pos h) = cc (
   decimal-only p,
 )
 
-pub number_form : (w : List ℕ) (n : ℕ) → number w ≡ some n → Number w n
+pub number_form : (w : List ℕ) (n : ℕ) → number w ≡ Some n → Number w n
 unfolding number decimal
 number_form w n e =
     let t = only_out (leb (as_digits 0 w) 65535 && same w (decimal (as_digits 0 w))) (as_digits 0 w) n e in
@@ -74,22 +74,22 @@ number_form w n e =
     let q : w ≡ decimal n = same-eq w (decimal (as_digits 0 w)) p.1 ∙ ap decimal t.1 in
     (subst (λ (v : List ℕ). Decimal v n) (sym q) (digits_form (suc n) n (le_refl (suc n))), subst (λ (m : ℕ). m ≤ 65535) t.1 (leb_yes p.0))
 
-pub number-back : (w : List ℕ) (n : ℕ) → Number w n → number w ≡ some n
+pub number-back : (w : List ℕ) (n : ℕ) → Number w n → number w ≡ Some n
 number-back w n p = ap number (decimal-only p.0) ∙ number-written n p.1
 
 pub number-free : (s : ℕ) → s < 48 → {w : List ℕ} {n : ℕ} → Number w n → Free s w
 number-free s h {n = n} p = subst (Free s) (sym (decimal-only p.0)) (decimal-free s n h)
 
-pub numbers_form_lem : (ws : List (List ℕ)) (ns : List ℕ) → numbers ws ≡ some ns → Numbers ws ns
+pub numbers_form_lem : (ws : List (List ℕ)) (ns : List ℕ) → numbers ws ≡ Some ns → Numbers ws ns
 unfolding numbers
 numbers_form_lem [] ns e = let q : ◌≡◌ {A = List ℕ} [] ns = cc in subst (Numbers []) q no_numbers
 numbers_form_lem (w ∷ ws) ns e =
-    let a = then_out (number w) (λ n. and_then (numbers ws) (λ ms. some (n ∷ ms))) ns e in
-    let b = then_out (numbers ws) (λ ms. some (a.0 ∷ ms)) ns a.2 in
+    let a = then_out (number w) (λ n. and_then (numbers ws) (λ ms. Some (n ∷ ms))) ns e in
+    let b = then_out (numbers ws) (λ ms. Some (a.0 ∷ ms)) ns a.2 in
     let q : a.0 ∷ b.0 ≡ ns = cc in
     subst (Numbers (w ∷ ws)) q (a_number (number_form w a.0 a.1) (numbers_form_lem ws b.0 b.1))
 
-pub numbers-back : {ws : List (List ℕ)} {ns : List ℕ} → Numbers ws ns → numbers ws ≡ some ns
+pub numbers-back : {ws : List (List ℕ)} {ns : List ℕ} → Numbers ws ns → numbers ws ≡ Some ns
 unfolding numbers and_then
 numbers-back no_numbers = refl
 numbers-back (a_number {w} {n} {ws} {ns} p q) = cc (number-back w n p, numbers-back q)
@@ -179,7 +179,7 @@ name_free s h (name {b} {bs} l bytes short) = (above s b (let q : 48 ≤ b = let
 
 -- ---- tables
 
-hex_form : (b d : ℕ) → hex_digit b ≡ some d → Hex b d
+hex_form : (b d : ℕ) → hex_digit b ≡ Some d → Hex b d
 unfolding hex_digit
 hex_form b d e = go (between 48 57 b) (between 97 102 b) (λ t. within_form 48 57 b t) (λ t. within_form 97 102 b t) e
   where
@@ -190,12 +190,12 @@ hex_form b d e = go (between 48 57 b) (between 97 102 b) (λ t. within_form 48 5
     high w q = subst (λ (x : ℕ). Hex x d) (let z : 97 + (b - 97) ≡ b = omega arith in z)
         (subst (λ (y : ℕ). Hex (97 + (b - 97)) y) (let z : 10 + (b - 97) ≡ d = omega arith in z) (letter {d = b - 97} (omega arith)))
 
-    go : (x y : Bool) → (T x → Within 48 57 b) → (T y → Within 97 102 b) → cond x (some (b - 48)) (cond y (some (b - 87)) none) ≡ some d → Hex b d
+    go : (x y : Bool) → (T x → Within 48 57 b) → (T y → Within 97 102 b) → cond x (Some (b - 48)) (cond y (Some (b - 87)) None) ≡ Some d → Hex b d
     go true y u v f = low (u tt) (let q : b - 48 ≡ d = cc in q)
     go false true u v f = high (v tt) (let q : b - 87 ≡ d = cc in q)
     go false false u v f = absurd (let z : false ≡ true = cc in false≢true z)
 
-hex_back : (b d : ℕ) → Hex b d → hex_digit b ≡ some d
+hex_back : (b d : ℕ) → Hex b d → hex_digit b ≡ Some d
 unfolding hex_digit
 hex_back b d (figure h) = cc
     (is_true (between 48 57 (48 + d)) (within-back 48 57 (48 + d) (omega arith, omega arith)), let q : 48 + d - 48 ≡ d = omega arith in q)
@@ -207,14 +207,14 @@ hex_back b d (letter {d = k} h) = cc (
   let q : 97 + k - 87 ≡ 10 + k = omega arith in q,
 )
 
-pub table_form : (w : List ℕ) (n : ℕ) → hex_table w ≡ some n → Table w n
+pub table_form : (w : List ℕ) (n : ℕ) → hex_table w ≡ Some n → Table w n
 unfolding hex_table hex_from
 table_form w n e =
     let o = then_out (only (eqb (length w) 4) w) (hex_from 0) n e in
     let p = only_out (eqb (length w) 4) w o.0 o.1 in
     of_length_lem w (eqb_yes p.0) (ap (hex_from 0) p.1 ∙ o.2)
   where
-    digits_of : (a b c d : ℕ) → hex_from 0 (a ∷ b ∷ c ∷ d ∷ []) ≡ some n → Table (a ∷ b ∷ c ∷ d ∷ []) n
+    digits_of : (a b c d : ℕ) → hex_from 0 (a ∷ b ∷ c ∷ d ∷ []) ≡ Some n → Table (a ∷ b ∷ c ∷ d ∷ []) n
     digits_of a b c d f =
         let i = then_out (hex_digit a) (λ x. hex_from (0 * 16 + x) (b ∷ c ∷ d ∷ [])) n f in
         let j = then_out (hex_digit b) (λ x. hex_from ((0 * 16 + i.0) * 16 + x) (c ∷ d ∷ [])) n i.2 in
@@ -224,7 +224,7 @@ table_form w n e =
         subst (Table (a ∷ b ∷ c ∷ d ∷ [])) (let z : i.0 * 4096 + j.0 * 256 + k.0 * 16 + l.0 ≡ n = omega arith in z)
         (four (hex_form a i.0 i.1) (hex_form b j.0 j.1) (hex_form c k.0 k.1) (hex_form d l.0 l.1))
 
-    of_length_lem : (w : List ℕ) → length w ≡ 4 → hex_from 0 w ≡ some n → Table w n
+    of_length_lem : (w : List ℕ) → length w ≡ 4 → hex_from 0 w ≡ Some n → Table w n
     of_length_lem [] h f = let z : ⊥ = omega arith in absurd z
     of_length_lem (a ∷ []) h f = let z : ⊥ = omega arith in absurd z
     of_length_lem (a ∷ b ∷ []) h f = let z : ⊥ = omega arith in absurd z
@@ -232,7 +232,7 @@ table_form w n e =
     of_length_lem (a ∷ b ∷ c ∷ d ∷ []) h f = digits_of a b c d f
     of_length_lem (a ∷ b ∷ c ∷ d ∷ x ∷ xs) h f = let z : ⊥ = omega arith in absurd z
 
-pub table-back : (w : List ℕ) (n : ℕ) → Table w n → hex_table w ≡ some n
+pub table-back : (w : List ℕ) (n : ℕ) → Table w n → hex_table w ≡ Some n
 unfolding hex_table hex_from and_then only
 table-back w n (four {a} {b} {c} {d} {w = i} {x} {y} {z} p q r s) =
     cc (

@@ -1,7 +1,7 @@
 -- The header is read exactly where the text begins with a line of its form, and 7, 8, 9 and 19 come exactly by their conditions.
 use mir.Facts.{not_T}
 use Rattle.base.specs.{ℕ, suc, ◌+◌, ◌≤◌, ◌<◌, arith, ◌≡◌, refl, sym, ◌∙◌, ap, subst, inl, inr, ⊎_elim, Bool, true, false, not, false≢true}
-use Rattle.base.specs.{◌&&◌, ◌||◌, Option, none, some, List, [], ◌∷◌, ◌++◌, append_assoc, T, eqb, leb, lit<, length, get_or, drop, and_yes}
+use Rattle.base.specs.{◌&&◌, ◌||◌, Option, None, Some, List, [], ◌∷◌, ◌++◌, append_assoc, T, eqb, leb, lit<, length, get_or, drop, and_yes}
 use Rattle.base.specs.{yes_and, and_no, or_yes, eqb_yes, yes_eqb, eqb_no, no_eqb, leb_yes, leb_no}
 use Rattle.model.specs.{same, and_then, only, Line, text, next_of, lines_from, fields, numbers, Read, holds, fault, next, unless, from?}
 use Rattle.model.specs.{closed, header_of_numbers, header_of, in_limits, in_sequence, read_header}
@@ -22,7 +22,7 @@ abbrev read_fields : Line → List (List ℕ) → Option Header
 read_fields l ws =
     let is_binary = same (get_or ws 0 []) (text "aig") in
     and_then (only (closed is_binary l && (eqb (length ws) 6 && (is_binary || same (get_or ws 0 []) (text "aag")))) (drop 1 ws)) (λ vs.
-    and_then (numbers vs) (λ ns. some (header_of_numbers is_binary (next_of l) ns)))
+    and_then (numbers vs) (λ ns. Some (header_of_numbers is_binary (next_of l) ns)))
 
 head-fields : (l : Line) (ls : List Line) → header_of (l ∷ ls) ≡ read_fields l (fields l.bytes)
 unfolding header_of
@@ -48,18 +48,18 @@ word-is w t = go (same w (text "aig")) (λ u. same-eq w (text "aig") u) (λ u. s
     go false u v t = subst (λ (x : List ℕ). Word x false) (sym (v t)) aag
 
 -- a header is read from the line with which the text begins ..
-line_form : (t : List ℕ) (l : Line) (ls : List Line) → lines_from 0 [] t ≡ l ∷ ls → (h : Header) → header_of (l ∷ ls) ≡ some h → Begins HeaderLine t h
+line_form : (t : List ℕ) (l : Line) (ls : List Line) → lines_from 0 [] t ≡ l ∷ ls → (h : Header) → header_of (l ∷ ls) ≡ Some h → Begins HeaderLine t h
 unfolding header_of_numbers
 line_form t l ls e h r =
-    let from_fields : (w : List ℕ) (ws : List (List ℕ)) → l.bytes ≡ joined (w ∷ ws) → read_fields l (w ∷ ws) ≡ some h
+    let from_fields : (w : List ℕ) (ws : List (List ℕ)) → l.bytes ≡ joined (w ∷ ws) → read_fields l (w ∷ ws) ≡ Some h
     → Begins HeaderLine t h = λ w ws whole f. let b = same w (text "aig") in let o = then_out
     (only (closed b l && (eqb (suc (length ws)) 6 && (b || same w (text "aag")))) ws)
-    (λ vs. and_then (numbers vs) (λ ns. some (header_of_numbers b (next_of l) ns))) h f in let c = only_out
+    (λ vs. and_then (numbers vs) (λ ns. Some (header_of_numbers b (next_of l) ns))) h f in let c = only_out
     (closed b l && (eqb (suc (length ws)) 6 && (b || same w (text "aag")))) ws o.0 o.1 in let n = then_out (numbers o.0)
-    (λ ns. some (header_of_numbers b (next_of l) ns)) h o.2 in let x = and_yes (closed b l)
+    (λ ns. Some (header_of_numbers b (next_of l) ns)) h o.2 in let x = and_yes (closed b l)
     (eqb (suc (length ws)) 6 && (b || same w (text "aag"))) c.0 in let y = and_yes (eqb (suc (length ws)) 6) (b || same w (text "aag"))
-    x.1 in let p : Numbers ws n.0 = numbers_form_lem ws n.0 (ap numbers c.1 ∙ n.1) in let z : some
-    (header_of_numbers b (next_of l) n.0) ≡ some h = n.2 in let is : header_of_numbers b (next_of l) n.0 ≡ h = cc in let six : suc
+    x.1 in let p : Numbers ws n.0 = numbers_form_lem ws n.0 (ap numbers c.1 ∙ n.1) in let z : Some
+    (header_of_numbers b (next_of l) n.0) ≡ Some h = n.2 in let is : header_of_numbers b (next_of l) n.0 ≡ h = cc in let six : suc
     (length ws) ≡ 6 = eqb_yes y.0 in subst (Begins HeaderLine t) is
     (made w ws whole n.0 x.0 (omega (arith, numbers-count p, six)) p y.1) in
     let j = joins l.bytes in from_fields j.first j.others j.is_whole (cc (j.are_fields, head-fields l ls))
@@ -105,7 +105,7 @@ word-free s t {w} {b} p = ⊎_elim (λ h. subst (λ (x : ℕ). Free x w) (sym (e
     at-space aig = (refl, (refl, (refl, tt)))
 
 fields_read : (l : Line) (w : List ℕ) (ws : List (List ℕ)) (ns : List ℕ) (b : Bool) → Word w b → T (closed b l) → Numbers ws ns → length ns ≡ 5
-    → read_fields l (w ∷ ws) ≡ some (header_of_numbers b (next_of l) ns)
+    → read_fields l (w ∷ ws) ≡ Some (header_of_numbers b (next_of l) ns)
 unfolding same text and_then only
 fields_read l w ws ns b p end q count =
     cc (
@@ -124,7 +124,7 @@ fields_read l w ws ns b p end q count =
     or_word_lem aag = tt
     or_word_lem aig = tt
 
-line-back : (t : List ℕ) (h : Header) → Begins HeaderLine t h → header_of (lines_from 0 [] t) ≡ some h
+line-back : (t : List ℕ) (h : Header) → Begins HeaderLine t h → header_of (lines_from 0 [] t) ≡ Some h
 unfolding header_of_numbers
 line-back t h b =
     let k = b.is.line in
@@ -139,7 +139,7 @@ line-back t h b =
     ∙ head-fields e.0 (lines_from (0 + length (k.contents ++ k.ending)) [] b.behind)
     ∙ ap (read_fields e.0) (ap fields (e.2 ∙ x.whole) ∙ fields-joined x.word x.fields (free 32 tt (lit< tt)))
     ∙ fields_read e.0 x.word x.fields (h.size ∷ h.inputs ∷ h.latches ∷ h.outputs ∷ h.ands ∷ []) h.binary x.is_word e.3 x.numbers refl
-    ∙ ap (λ (n : ℕ). some (header_of_numbers h.binary n (h.size ∷ h.inputs ∷ h.latches ∷ h.outputs ∷ h.ands ∷ []))) after
+    ∙ ap (λ (n : ℕ). Some (header_of_numbers h.binary n (h.size ∷ h.inputs ∷ h.latches ∷ h.outputs ∷ h.ands ∷ []))) after
 
 -- ---- 7, 8, 9 and 19
 
@@ -176,22 +176,22 @@ out_of_sequence h t = by_bool h.binary (λ e. rw e (refl, eqb_no (rw e at t))) (
 abbrev validated : Header → Read Header
 validated h = unless (eqb h.latches 0) 8 0 (unless (in_limits h) 9 0 (unless (in_sequence h) 19 0 (holds h)))
 
-read-validated : (t : List ℕ) (h : Header) → header_of (lines_from 0 [] t) ≡ some h → read_header t ≡ validated h
+read-validated : (t : List ℕ) (h : Header) → header_of (lines_from 0 [] t) ≡ Some h → read_header t ≡ validated h
 unfolding read_header from? next
 read-validated t h e = ap (λ (o : Option Header). next (from? o 7 0) validated) e
 
-read_none : (t : List ℕ) → header_of (lines_from 0 [] t) ≡ none → read_header t ≡ fault 7 0
+read_none : (t : List ℕ) → header_of (lines_from 0 [] t) ≡ None → read_header t ≡ fault 7 0
 unfolding read_header from? next
 read_none t e = ap (λ (o : Option Header). next (from? o 7 0) validated) e
 
-begins-header : (t : List ℕ) (h : Header) → header_of (lines_from 0 [] t) ≡ some h → Begins HeaderLine t h
+begins-header : (t : List ℕ) (h : Header) → header_of (lines_from 0 [] t) ≡ Some h → Begins HeaderLine t h
 unfolding header_of
 begins-header t h e = by_list (lines_from 0 [] t) (λ l. let z : false ≡ true = cc in absurd (false≢true z))
     (λ q ls p. line_form t q ls p h (rw p at e))
 
 result : (t : List ℕ) → Result (HeaderHolds t) (HeaderFault t) (read_header t)
 result t = by_option (header_of (lines_from 0 [] t)) (λ e. comes (fault 7 0) (read_none t e)
-    (refused (seven (λ p. let z : none ≡ some p.0 = sym e ∙ line-back t p.0 p.1 in let y : false ≡ true = cc in false≢true y))))
+    (refused (seven (λ p. let z : None ≡ Some p.0 = sym e ∙ line-back t p.0 p.1 in let y : false ≡ true = cc in false≢true y))))
     (λ h q. let b = begins-header t h q in on (eqb h.latches 0) (λ u. on (in_limits h) (λ v. on (in_sequence h) (λ w. comes (holds h)
     (read-validated t h q ∙ unless-yes (eqb h.latches 0) 8 0 _ u ∙ unless-yes (in_limits h) 9 0 _ v
     ∙ unless-yes (in_sequence h) 19 0 (holds h) w)

@@ -1,7 +1,7 @@
 -- The library's text is read exactly where it has the form, and 2 to 6 and 27 come exactly by their conditions.
 use mir.Facts.{not_T}
 use Rattle.base.specs.{ℕ, suc, ◌+◌, ◌≤◌, ◌<◌, arith, ◌≡◌, refl, sym, ◌∙◌, ap, ap₂, subst, ⊎_elim, Bool, true, false, not, cond, false≢true}
-use Rattle.base.specs.{◌&&◌, ◌||◌, Option, none, some, List, [], ◌∷◌, ◌++◌, reverse, reverse-append, reverse-cons, append-nil, append_assoc}
+use Rattle.base.specs.{◌&&◌, ◌||◌, Option, None, Some, List, [], ◌∷◌, ◌++◌, reverse, reverse-append, reverse-cons, append-nil, append_assoc}
 use Rattle.base.specs.{nil≢cons, Memᴰ, Memᴰ-head, Memᴰ-tail, Memᴰ-not-nil, Memᴰ-append_cases, Memᴰ-append_left}
 use Rattle.base.specs.{Memᴰ-append_right, T, ltb, length, length-append, and_yes, yes_and, or_yes, ltb_yes, yes_ltb, ltb_no, T_not-not}
 use Rattle.model.specs.{all, any, same, and_then, only, Line, ended, text, lines_from, Read, holds, fault, next, unless, from?, name_of}
@@ -21,21 +21,21 @@ use Rattle.theory_refusals.proofs.CellForms.{reads-cell, clean_form, clean_back,
 -- ---- the names line
 
 abbrev pub names : List ℕ → Option Bool
-names w = cond (same w (text "cell pins table area d0 d1 d2 d3")) (some false) (cond (same w (text "cell pins table area d0 d1 d2 d3 l0 l1 l2 l3")) (some true) none)
+names w = cond (same w (text "cell pins table area d0 d1 d2 d3")) (Some false) (cond (same w (text "cell pins table area d0 d1 d2 d3 l0 l1 l2 l3")) (Some true) None)
 
 abbrev pub names_of : Line → Option Bool
 names_of l = and_then (only (ended l) l.bytes) names
 
-names_form : (w : List ℕ) (r : Bool) → names w ≡ some r → Names w r
+names_form : (w : List ℕ) (r : Bool) → names w ≡ Some r → Names w r
 names_form w r e = go (same w (text "cell pins table area d0 d1 d2 d3")) (same w (text "cell pins table area d0 d1 d2 d3 l0 l1 l2 l3"))
     (λ t. same-eq w (text "cell pins table area d0 d1 d2 d3") t) (λ t. same-eq w (text "cell pins table area d0 d1 d2 d3 l0 l1 l2 l3") t) e
   where
-    go : (x y : Bool) → (T x → w ≡ text "cell pins table area d0 d1 d2 d3") → (T y → w ≡ text "cell pins table area d0 d1 d2 d3 l0 l1 l2 l3") → cond x (some false) (cond y (some true) none) ≡ some r → Names w r
+    go : (x y : Bool) → (T x → w ≡ text "cell pins table area d0 d1 d2 d3") → (T y → w ≡ text "cell pins table area d0 d1 d2 d3 l0 l1 l2 l3") → cond x (Some false) (cond y (Some true) None) ≡ Some r → Names w r
     go true y u v f = subst (λ (z : List ℕ). Names z r) (sym (u tt)) (subst (Names (text "cell pins table area d0 d1 d2 d3")) (let q : false ≡ r = cc in q) shorter)
     go false true u v f = subst (λ (z : List ℕ). Names z r) (sym (v tt)) (subst (Names (text "cell pins table area d0 d1 d2 d3 l0 l1 l2 l3")) (let q : true ≡ r = cc in q) longer)
     go false false u v f = absurd (let q : false ≡ true = cc in false≢true q)
 
-names-back : (w : List ℕ) (r : Bool) → Names w r → names w ≡ some r
+names-back : (w : List ℕ) (r : Bool) → Names w r → names w ≡ Some r
 unfolding same text
 names-back w r shorter = refl
 names-back w r longer = refl
@@ -55,7 +55,7 @@ names_tests shorter = (tt, refl)
 names_tests longer = (tt, refl)
 
 -- the names line passes the reader's test, and no other line does
-pub names-read : (l : Line) (r : Bool) → names_of l ≡ some r → T (ended l && (is_shorter l || is_longer l)) × (is_longer l ≡ r)
+pub names-read : (l : Line) (r : Bool) → names_of l ≡ Some r → T (ended l && (is_shorter l || is_longer l)) × (is_longer l ≡ r)
 unfolding is_shorter is_longer
 names-read l r e =
     let o = then_out (only (ended l) l.bytes) names r e in
@@ -63,14 +63,14 @@ names-read l r e =
     let t = names_tests (names_form l.bytes r (ap names p.1 ∙ o.2)) in
     (yes_and (ended l) (is_shorter l || is_longer l) p.0 t.0, t.1)
 
-names-passed : (l : Line) → T (ended l && (is_shorter l || is_longer l)) → (r : Bool) × (names_of l ≡ some r)
+names-passed : (l : Line) → T (ended l && (is_shorter l || is_longer l)) → (r : Bool) × (names_of l ≡ Some r)
 unfolding is_shorter is_longer and_then only
 names-passed l t =
     let p = and_yes (ended l) (is_shorter l || is_longer l) t in
     let q = either (same l.bytes (text "cell pins table area d0 d1 d2 d3")) (same l.bytes (text "cell pins table area d0 d1 d2 d3 l0 l1 l2 l3")) p.1 in
     (q.0, (by_bool (ended l) (λ e. rw e) (λ q. rw q (absurd (rw q at p.0)))) ∙ q.1)
   where
-    either : (x y : Bool) → T (x || y) → (r : Bool) × (cond x (some false) (cond y (some true) none) ≡ some r)
+    either : (x y : Bool) → T (x || y) → (r : Bool) × (cond x (Some false) (cond y (Some true) None) ≡ Some r)
     either true y u = (false, refl)
     either false true u = (true, refl)
     either false false u = absurd u
@@ -121,12 +121,12 @@ abbrev validated : Bool → ℕ → List Cell → Line → List Line → Cell �
 validated ranged k before l ls c =
     unless (is_new c before) 5 l.offset (unless (is_clean c) 6 l.offset (unless (no_lower c.mins c.delays) 27 l.offset (later ranged k before ls c)))
 
-line-cell : (ranged : Bool) (k : ℕ) (before : List Cell) (l : Line) (ls : List Line) (c : Cell) → k < 32 → cell_of_line ranged l ≡ some c
+line-cell : (ranged : Bool) (k : ℕ) (before : List Cell) (l : Line) (ls : List Line) (c : Cell) → k < 32 → cell_of_line ranged l ≡ Some c
     → read_cells ranged k before (l ∷ ls) ≡ validated ranged k before l ls c
 unfolding read_cells from? next
 line-cell ranged k before l ls c h e = cc (unless-yes (ltb k 32) 3 l.offset _ (yes_ltb h))
 
-line-none : (ranged : Bool) (k : ℕ) (before : List Cell) (l : Line) (ls : List Line) → k < 32 → cell_of_line ranged l ≡ none → read_cells ranged k before (l ∷ ls) ≡ fault 4 l.offset
+line-none : (ranged : Bool) (k : ℕ) (before : List Cell) (l : Line) (ls : List Line) → k < 32 → cell_of_line ranged l ≡ None → read_cells ranged k before (l ∷ ls) ≡ fault 4 l.offset
 unfolding read_cells from? next
 line-none ranged k before l ls h e = cc (unless-yes (ltb k 32) 3 l.offset _ (yes_ltb h))
 
@@ -229,9 +229,9 @@ cells-result ranged (l ∷ ls) s rest cs cells e =
         → Result (λ ds. CellsIn ranged (s' ++ rest') (cs' ++ ds)) (LibraryFault (s' ++ rest')) (read_cells ranged (length cs') (reverse cs') ls)
 
     capacity : length cs < 32 → (o : Option Cell) → cell_of_line ranged l ≡ o → Later → Here all
-    capacity few none f ih = fails 4 (line-none ranged (length cs) (reverse cs) l ls few f) (four few (λ p. let z : none ≡ some p.0 = sym f
+    capacity few None f ih = fails 4 (line-none ranged (length cs) (reverse cs) l ls few f) (four few (λ p. let z : None ≡ Some p.0 = sym f
         ∙ begins-read (reads-cell ranged) (length s) rest l ls e p.0 p.1 in let y : false ≡ true = cc in false≢true y))
-    capacity few (some c) f ih =
+    capacity few (Some c) f ih =
         let x = (reads-cell ranged).form (length s) rest l ls e c f in
         let b = found-begins (reads-cell ranged) x in
         let is = line-cell ranged (length cs) (reverse cs) l ls c few f in
@@ -260,8 +260,8 @@ result t = go (lines_from 0 [] t) refl
     go [] e = refused (two (λ p. none-begins reads-names 0 t e p.0 p.1))
     go (l ∷ ls) e = by_option (names_of l) (λ f. result_as (fault 2 0) (read_library_lines (l ∷ ls)) (unless_no
         (ended l && (is_shorter l || is_longer l)) 2 0 (read_cells (is_longer l) 0 [] ls) (not_T (ended l && (is_shorter l || is_longer l))
-        (λ u. let p = names-passed l u in let z : none ≡ some p.0 = sym f ∙ p.1 in let y : false ≡ true = cc in false≢true y))) (refused
-        (two (λ p. let z : none ≡ some p.0 = sym f
+        (λ u. let p = names-passed l u in let z : None ≡ Some p.0 = sym f ∙ p.1 in let y : false ≡ true = cc in false≢true y))) (refused
+        (two (λ p. let z : None ≡ Some p.0 = sym f
         ∙ begins-read reads-names 0 t l ls e p.0 p.1 in let y : false ≡ true = cc in false≢true y)))) (λ r q.
         let x = reads-names.form 0 t l ls e r q in let is = names-read l r q in result_as (read_cells r 0 [] ls) (read_library_lines (l ∷ ls))
         (cc (unless-yes (ended l && (is_shorter l || is_longer l)) 2 0 (read_cells (is_longer l) 0 [] ls) is.0, is.1)) (result-map

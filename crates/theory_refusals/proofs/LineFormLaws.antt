@@ -1,5 +1,5 @@
 -- Lines: a text's first line as `lines_from` finds it is the line with which the text begins by the form, and the lines behind it are those of what stands behind.
-use Rattle.base.specs.{ℕ, suc, ◌+◌, ◌≤◌, ◌<◌, arith, ◌≡◌, refl, sym, ◌∙◌, ap, Bool, true, false, cond, Option, some, List, [], ◌∷◌, ◌++◌}
+use Rattle.base.specs.{ℕ, suc, ◌+◌, ◌≤◌, ◌<◌, arith, ◌≡◌, refl, sym, ◌∙◌, ap, Bool, true, false, cond, Option, Some, List, [], ◌∷◌, ◌++◌}
 use Rattle.base.specs.{reverse, reverse-cons, append_assoc, cons≢nil, nil≢cons, head-eq_of_cons-eq, tail-eq_of_cons-eq, T, eqb, leb, lit<}
 use Rattle.base.specs.{length, length-append, length-reverse, and_yes, eqb_yes, leb_yes}
 use Rattle.model.specs.{all, and_then, only, Line, next_of, closing, lines_from, closed}
@@ -123,11 +123,11 @@ pub record Found {A : Type 0} (P : List ℕ → A → Type 0) (at : ℕ) (t : Li
 pub record Line? {A : Type 0} (p : Line → Option A) (at : ℕ) (s rest : List ℕ) (a : A) : Type 0 where
   pub line : Line
   pub lines : lines_from at [] (s ++ rest) ≡ line ∷ lines_from (at + length s) [] rest
-  pub read : p line ≡ some a
+  pub read : p line ≡ Some a
   pub next : next_of line ≡ at + length s
 
 pub record Reads {A : Type 0} (p : Line → Option A) (P : List ℕ → A → Type 0) : Type 0 where
-  pub form : (at : ℕ) (t : List ℕ) (l : Line) (ls : List Line) → lines_from at [] t ≡ l ∷ ls → (a : A) → p l ≡ some a → Found P at t ls a
+  pub form : (at : ℕ) (t : List ℕ) (l : Line) (ls : List Line) → lines_from at [] t ≡ l ∷ ls → (a : A) → p l ≡ Some a → Found P at t ls a
   pub back : (at : ℕ) (s rest : List ℕ) (a : A) → P s a → Line? p at s rest a
 
 -- contents and an end
@@ -152,12 +152,12 @@ ended-lines is_binary at w e rest both f g = (
 
 -- a line's reader that goes by the contents, and by the end that the form asks for
 module _ {A : Type 0} (is_binary : Bool) (q : List ℕ → Option A) (Q : List ℕ → A → Type 0) (p : Line → Option A) where
-  pub reads-line : ((l : Line) → p l ≡ and_then (only (closed is_binary l) l.bytes) q) → ((w : List ℕ) (a : A) → q w ≡ some a → Q w a) → ((w : List ℕ) (a : A) → Q w a → q w ≡ some a)
+  pub reads-line : ((l : Line) → p l ≡ and_then (only (closed is_binary l) l.bytes) q) → ((w : List ℕ) (a : A) → q w ≡ Some a → Q w a) → ((w : List ℕ) (a : A) → Q w a → q w ≡ Some a)
       → ((s : ℕ) → s < 32 → (w : List ℕ) (a : A) → Q w a → Free s w) → Reads p (LineOf is_binary Q)
   unfolding and_then only
   reads-line is form back free = record { form = found; back = line }
     where
-      found : (at : ℕ) (t : List ℕ) (l : Line) (ls : List Line) → lines_from at [] t ≡ l ∷ ls → (a : A) → p l ≡ some a → Found (LineOf is_binary Q) at t ls a
+      found : (at : ℕ) (t : List ℕ) (l : Line) (ls : List Line) → lines_from at [] t ≡ l ∷ ls → (a : A) → p l ≡ Some a → Found (LineOf is_binary Q) at t ls a
       found at t l ls e a r =
           let o = then_out (only (closed is_binary l) l.bytes) q a (sym (is l) ∙ r) in
           let c = only_out (closed is_binary l) l.bytes o.0 o.1 in
@@ -188,7 +188,7 @@ module _ {A : Type 0} {p : Line → Option A} {P : List ℕ → A → Type 0} (r
   found-begins f = record { front = f.front; behind = f.behind; whole = f.whole; is = f.is }
 
   -- the first line of a text that begins so is read so
-  pub begins-read : (at : ℕ) (t : List ℕ) (l : Line) (ls : List Line) → lines_from at [] t ≡ l ∷ ls → (a : A) → Begins P t a → p l ≡ some a
+  pub begins-read : (at : ℕ) (t : List ℕ) (l : Line) (ls : List Line) → lines_from at [] t ≡ l ∷ ls → (a : A) → Begins P t a → p l ≡ Some a
   begins-read at t l ls e a b =
       let k = r.back at b.front b.behind a b.is in
       ap p (head-eq_of_cons-eq (sym e ∙ ap (lines_from at []) b.whole ∙ k.lines)) ∙ k.read

@@ -1,5 +1,5 @@
 -- Lines of numbers are read exactly where their bytes have the form.
-use Rattle.base.specs.{ℕ, ◌<◌, arith, ◌≡◌, refl, sym, ◌∙◌, ap, subst, Bool, false, ◌&&◌, Option, some, List, [], ◌∷◌, eqb, lit<, length}
+use Rattle.base.specs.{ℕ, ◌<◌, arith, ◌≡◌, refl, sym, ◌∙◌, ap, subst, Bool, false, ◌&&◌, Option, Some, List, [], ◌∷◌, eqb, lit<, length}
 use Rattle.base.specs.{eqb_yes, yes_eqb}
 use Rattle.model.specs.{and_then, only, Line, fields, numbers, closed, Kind, an_input, an_output, an_and, how_many, item_literals, input_arrival_numbers}
 use Rattle.promises.specs.{Numbers, NumberFields, NumberLine, joined, Wants, input_wants, output_wants, and_wants, ExpectedLine}
@@ -13,20 +13,20 @@ use Rattle.theory_refusals.proofs.LineFormLaws.{Reads, reads-line}
 abbrev counted : ℕ → List (List ℕ) → Option (List ℕ)
 counted n ws = and_then (only (eqb (length ws) n) ws) numbers
 
-fields_form : (n : ℕ) (w ns : List ℕ) → counted n (fields w) ≡ some ns → NumberFields n w ns
+fields_form : (n : ℕ) (w ns : List ℕ) → counted n (fields w) ≡ Some ns → NumberFields n w ns
 fields_form n w ns e =
     let j = joins w in
-    let f : counted n (j.first ∷ j.others) ≡ some ns = ap (counted n) (sym j.are_fields) ∙ e in
+    let f : counted n (j.first ∷ j.others) ≡ Some ns = ap (counted n) (sym j.are_fields) ∙ e in
     let o = then_out (only (eqb (length (j.first ∷ j.others)) n) (j.first ∷ j.others)) numbers ns f in
     let p = only_out (eqb (length (j.first ∷ j.others)) n) (j.first ∷ j.others) o.0 o.1 in
     let q : Numbers (j.first ∷ j.others) ns = numbers_form_lem (j.first ∷ j.others) ns (ap numbers p.1 ∙ o.2) in
     record { fields = j.first ∷ j.others; whole = j.is_whole; numbers = q; count = sym (numbers-count q) ∙ eqb_yes p.0 }
 
-fields_back : (n : ℕ) → 0 < n → (w ns : List ℕ) → NumberFields n w ns → counted n (fields w) ≡ some ns
+fields_back : (n : ℕ) → 0 < n → (w ns : List ℕ) → NumberFields n w ns → counted n (fields w) ≡ Some ns
 unfolding and_then only
 fields_back n h w ns f = go f.fields f.whole f.numbers
   where
-    go : (ws : List (List ℕ)) → w ≡ joined ws → Numbers ws ns → counted n (fields w) ≡ some ns
+    go : (ws : List (List ℕ)) → w ≡ joined ws → Numbers ws ns → counted n (fields w) ≡ Some ns
     go [] e p = let z : ⊥ = omega (arith, numbers-count p, f.count) in absurd z
     go (v ∷ ws) e p = cc (
       fields-joined v ws (numbers-free 32 (lit< tt) p),

@@ -1,5 +1,5 @@
 -- The outcome of a call is refused exactly by the conditions of `Outcomes`.
-use Rattle.base.specs.{ℕ, arith, ◌≡◌, refl, sym, ◌∙◌, ap, ap₂, subst, ◌⊎◌, inl, inr, ◌↔◌, ⊎_elim, Bool, true, false, Option, none, some}
+use Rattle.base.specs.{ℕ, arith, ◌≡◌, refl, sym, ◌∙◌, ap, ap₂, subst, ◌⊎◌, inl, inr, ◌↔◌, ⊎_elim, Bool, true, false, Option, None, Some}
 use Rattle.base.specs.{List, [], ◌∷◌, ◌++◌, T, leb, length}
 use Rattle.model.specs.{lowest, holds, fault, first_of, unordered, and_vars, over_limit, timed_by, Outcome, refused, mapped, map_graph, map_ordered}
 use Rattle.model.specs.{map_cut, map_chosen, printed, uncovered, gates, figures_of, netlist_text, min_arrival_of, timing_lines, followed, chosen, Call}
@@ -65,23 +65,23 @@ module _ (bytes : ℕ) (ranged : Bool) (listed cells : List Cell) (g : Graph) wh
 
   ordered-number : (o : Option ℕ) (n k : ℕ) → ends (map_ordered listed cells g o) ≡ refused n k → (n ≡ 15) ⊎ (n ≡ 16) ⊎ (n ≡ 17) ⊎ (n ≡ 18)
   unfolding map_ordered
-  ordered-number (some v) n k e = inl (sym (same_number (sym (ends-refused 15 v) ∙ e)))
-  ordered-number none n k e = inr (cut-number (over_limit g) n k e)
+  ordered-number (Some v) n k e = inl (sym (same_number (sym (ends-refused 15 v) ∙ e)))
+  ordered-number None n k e = inr (cut-number (over_limit g) n k e)
 
   -- 15
-  fifteen-is : (o : Option ℕ) (v : ℕ) → (ends (map_ordered listed cells g o) ≡ refused 15 v) ↔ (o ≡ some v)
+  fifteen-is : (o : Option ℕ) (v : ℕ) → (ends (map_ordered listed cells g o) ≡ refused 15 v) ↔ (o ≡ Some v)
   unfolding map_ordered
-  fifteen-is (some u) v = ((λ e. ap some (same_place (sym (ends-refused 15 u) ∙ e))), λ q. ap (λ (x : Option ℕ). ends (map_ordered listed cells g x)) q ∙ ends-refused 15 v)
-  fifteen-is none v = (
+  fifteen-is (Some u) v = ((λ e. ap Some (same_place (sym (ends-refused 15 u) ∙ e))), λ q. ap (λ (x : Option ℕ). ends (map_ordered listed cells g x)) q ∙ ends-refused 15 v)
+  fifteen-is None v = (
     (λ e. absurd (⊎_elim (λ q. omega arith) (⊎_elim (λ p. omega arith) (λ r. omega arith))
         (cut-number (over_limit g) 15 v e))),
     λ q. ap (λ (x : Option ℕ). ends (map_ordered listed cells g x)) q ∙ ends-refused 15 v,
   )
 
   -- 16
-  sixteen-is : (vs : List ℕ) (v : ℕ) → (ends (map_cut listed cells g vs) ≡ refused 16 v) ↔ (first_of vs ≡ some v)
+  sixteen-is : (vs : List ℕ) (v : ℕ) → (ends (map_cut listed cells g vs) ≡ refused 16 v) ↔ (first_of vs ≡ Some v)
   unfolding map_cut map_chosen chosen first_of
-  sixteen-is (u ∷ us) v = ((λ e. ap some (same_place (sym (ends-refused 16 u) ∙ e))), λ q. let z : u ≡ v = cc in ends-refused 16 u ∙ ap (refused 16) z)
+  sixteen-is (u ∷ us) v = ((λ e. ap Some (same_place (sym (ends-refused 16 u) ∙ e))), λ q. let z : u ≡ v = cc in ends-refused 16 u ∙ ap (refused 16) z)
   sixteen-is [] v = (
     (λ e. absurd (⊎_elim (λ q. omega arith) (λ p. omega arith) (printed-number (chosen cells g)
         (uncovered (chosen cells g) 0 g.outputs) 16 v e))),

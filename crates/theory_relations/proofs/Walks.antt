@@ -1,6 +1,6 @@
 -- A cut's function by the walk as a relation, against the definition that computes it.
 --     walk_iff                    the walk of a cut gives a value exactly where the computed one is it
-use Rattle.base.specs.{ℕ, suc, ◌+◌, ◌<◌, zero-add, arith, ◌≡◌, refl, sym, ◌∙◌, ap, ap₂, subst, ◌↔◌, Bool, true, false, not, cond, ◌&&◌, some, List}
+use Rattle.base.specs.{ℕ, suc, ◌+◌, ◌<◌, zero-add, arith, ◌≡◌, refl, sym, ◌∙◌, ap, ap₂, subst, ◌↔◌, Bool, true, false, not, cond, ◌&&◌, Some, List}
 use Rattle.base.specs.{[], ◌∷◌, Memᴰ, Memᴰ-head, Memᴰ-tail, Memᴰ-not-nil, T, eqb, eqb→eq, eqb_no}
 use Rattle.model.specs.{bit, flip, or_else, And, constant, both, node, find_and, elem, var_of, negated, node_value, literal_value, leaf_bit, walk, Distinct}
 use Rattle.model.specs.{IsCut}
@@ -27,7 +27,7 @@ by_leaf P (x ∷ xs) i r v rest found other = go (eqb v x) (eqb→eq v x) eqb_no
     neither a b (Memᴰ-head e) = a e
     neither a b (Memᴰ-tail m) = b m
 
-    go : (t : Bool) → (T t → v ≡ x) → (T (not t) → ¬ (v ≡ x)) → (¬ (v ≡ x) → P (or_else (leaf_bit xs (suc i) r v) rest)) → P (or_else (cond t (some (bit r i)) (leaf_bit xs (suc i) r v)) rest)
+    go : (t : Bool) → (T t → v ≡ x) → (T (not t) → ¬ (v ≡ x)) → (¬ (v ≡ x) → P (or_else (leaf_bit xs (suc i) r v) rest)) → P (or_else (cond t (Some (bit r i)) (leaf_bit xs (suc i) r v)) rest)
     go true yes' no' behind = subst (λ (j : ℕ). P (bit r j)) (let e : i + 0 ≡ i = omega arith in e) (found 0 (rw (yes' tt) first))
     go false yes' no' behind = behind (no' tt)
 

@@ -1,5 +1,5 @@
 -- A netlist is read exactly where its lines are those that are expected, and 29 comes exactly by its condition, for listed cells of different names.
-use Rattle.base.specs.{ℕ, zero, ◌+◌, arith, ◌≡◌, refl, sym, ◌∙◌, ap, subst, Bool, Option, none, some, List, [], ◌∷◌, ◌++◌, append-nil}
+use Rattle.base.specs.{ℕ, zero, ◌+◌, arith, ◌≡◌, refl, sym, ◌∙◌, ap, subst, Bool, Option, None, Some, List, [], ◌∷◌, ◌++◌, append-nil}
 use Rattle.base.specs.{append_assoc, T, length, length-append}
 use Rattle.model.specs.{Line, lines_from, holds, fault, read_counted}
 use Rattle.model.specs.declared.Cell.{Cell}
@@ -15,7 +15,7 @@ use Rattle.promises.specs.CountRefusals.{twenty_nine, Netlists}
 use Rattle.theory_tally.proofs.CountSteps.{line_step, reads-step}
 use Rattle.theory_tally.proofs.CountRun.{left, goes_on, stops, ends, finished, finished?, counted-left}
 
-none-some : {d : Expected} → ◌≡◌ {A = Option Expected} none (some d) → ⊥
+none-some : {d : Expected} → ◌≡◌ {A = Option Expected} None (Some d) → ⊥
 none-some e = let z : ◌≡◌ {A = ℕ} 0 1 = cc in omega arith
 
 module _ (ranged : Bool) (cells : List Cell) (fits : T (library_fits cells)) where

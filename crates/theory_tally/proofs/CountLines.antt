@@ -1,6 +1,6 @@
 -- The line that is expected in a counted netlist: it is taken exactly where its contents have the form, and then what the form says is expected.
 use Rattle.base.specs.{ℕ, zero, suc, ◌+◌, ◌^◌, ◌≤◌, ◌<◌, le_refl, arith, ◌≡◌, refl, sym, ◌∙◌, ap, ap₂, subst, Bool, true, false, not, cond}
-use Rattle.base.specs.{◌&&◌, some, List, [], ◌∷◌, ◌++◌, map, head-eq_of_cons-eq, tail-eq_of_cons-eq, T, eqb, leb, ltb, lit<, length}
+use Rattle.base.specs.{◌&&◌, Some, List, [], ◌∷◌, ◌++◌, map, head-eq_of_cons-eq, tail-eq_of_cons-eq, T, eqb, leb, ltb, lit<, length}
 use Rattle.base.specs.{and_yes, yes_and}
 use Rattle.model.specs.{all, same, from, below, text, decimal, fields, is_name, name_of, cell_at, are_digits, is_label, is_phase_net, is_bound}
 use Rattle.model.specs.{of_form, of_list, is_name_list, gate_form, gate_of, is_wire, is_figures, is_timing}
@@ -71,7 +71,7 @@ record Listed (k : ℕ) (cs : List Cell) (w : List ℕ) (m : ℕ) : Type 0 where
   listed : place < length cs
   words : Words (cell_at cs place) w
 
-gate-listed : (k : ℕ) (cs : List Cell) (w : List ℕ) (m : ℕ) → gate_of k cs w ≡ some m → Listed k cs w m
+gate-listed : (k : ℕ) (cs : List Cell) (w : List ℕ) (m : ℕ) → gate_of k cs w ≡ Some m → Listed k cs w m
 unfolding gate_of cell_at
 gate-listed k [] w m e = let z : ◌≡◌ {A = ℕ} 0 1 = cc in absurd (omega arith)
 gate-listed k (c ∷ cs) w m e = go (of_form (gate_form c) (fields w)) (unfold gate_form below in λ t. let ps = map (λ (j : ℕ). is_bound (65 + j))
@@ -83,17 +83,17 @@ gate-listed k (c ∷ cs) w m e = go (of_form (gate_form c) (fields w)) (unfold g
       are_nets = pins_form 0 c.pins b.1 b.4;
     }) e (gate-listed (suc k) cs w m)
   where
-    go : (b : Bool) → (T b → Words c w) → cond b (some k) (gate_of (suc k) cs w) ≡ some m → (gate_of (suc k) cs w ≡ some m → Listed (suc k) cs w m) → Listed k (c ∷ cs) w m
+    go : (b : Bool) → (T b → Words c w) → cond b (Some k) (gate_of (suc k) cs w) ≡ Some m → (gate_of (suc k) cs w ≡ Some m → Listed (suc k) cs w m) → Listed k (c ∷ cs) w m
     go true f q later = let z : k ≡ m = cc in record { place = 0; is_place = omega arith; listed = omega arith; words = f tt }
     go false f q later = let s = later q in record { place = suc s.place; is_place = omega (arith, s.is_place); listed = omega (arith, s.listed); words = s.words }
 
-gate-some : (k : ℕ) (cs : List Cell) (w : List ℕ) (i : ℕ) → i < length cs → T (of_form (gate_form (cell_at cs i)) (fields w)) → (m : ℕ) × (gate_of k cs w ≡ some m)
+gate-some : (k : ℕ) (cs : List Cell) (w : List ℕ) (i : ℕ) → i < length cs → T (of_form (gate_form (cell_at cs i)) (fields w)) → (m : ℕ) × (gate_of k cs w ≡ Some m)
 unfolding gate_of cell_at
 gate-some k [] w i h t = absurd (omega arith)
 gate-some k (c ∷ cs) w i h t = go (of_form (gate_form c) (fields w)) refl i h t (gate-some (suc k) cs w)
   where
     go : (b : Bool) → of_form (gate_form c) (fields w) ≡ b → (i : ℕ) → i < length (c ∷ cs) → T (of_form (gate_form (cell_at (c ∷ cs) i)) (fields w))
-        → ((j : ℕ) → j < length cs → T (of_form (gate_form (cell_at cs j)) (fields w)) → (m : ℕ) × (gate_of (suc k) cs w ≡ some m)) → (m : ℕ) × (cond b (some k) (gate_of (suc k) cs w) ≡ some m)
+        → ((j : ℕ) → j < length cs → T (of_form (gate_form (cell_at cs j)) (fields w)) → (m : ℕ) × (gate_of (suc k) cs w ≡ Some m)) → (m : ℕ) × (cond b (Some k) (gate_of (suc k) cs w) ≡ Some m)
     go true e i h t later = (k, refl)
     go false e zero h t later = absurd (subst T e t)
     go false e (suc i) h t later = later i (omega arith) t
@@ -223,13 +223,13 @@ module _ (cells : List Cell) (fits : T (library_fits cells)) where
     are_nets = g.are_nets;
   }
 
-  pub gate_form_lem : (w : List ℕ) (i : ℕ) → gate_of 0 cells w ≡ some i → GateWords cells w i
+  pub gate_form_lem : (w : List ℕ) (i : ℕ) → gate_of 0 cells w ≡ Some i → GateWords cells w i
   gate_form_lem w i e =
       let l = gate-listed 0 cells w i e in
       let q : l.place ≡ i = omega (arith, l.is_place) in
       subst (GateWords cells w) q (record { listed = l.listed; nets = l.words.nets; whole = of_fields w _ l.words.are_fields; are_nets = l.words.are_nets })
 
-  pub gate-back : (w : List ℕ) (i : ℕ) → GateWords cells w i → gate_of 0 cells w ≡ some i
+  pub gate-back : (w : List ℕ) (i : ℕ) → GateWords cells w i → gate_of 0 cells w ≡ Some i
   gate-back w i g =
       let x = gate-words w i g in
       let m = gate-some 0 cells w i g.listed (unfold gate_form below in let ps = map (λ (j : ℕ). is_bound (65 + j))
@@ -238,7 +238,7 @@ module _ (cells : List Cell) (fits : T (library_fits cells)) where
       (field (same_refl (text ".gate"))
       (field (same_refl (name_of (cell_at cells i))) (pins-fit 0 (cell_at cells i).pins x.nets 65 refl x.are_nets))))) in
       let l = gate-listed 0 cells w m.0 m.1 in
-      m.1 ∙ ap some (omega (
+      m.1 ∙ ap Some (omega (
         arith,
         l.is_place,
         (name-once cells fits l.place i l.listed g.listed

@@ -1,6 +1,6 @@
 -- The reading of a netlist, line by line: what is left to read where a line is expected. A line that may stand there leads on to what is expected behind it, any other is
 -- refused with 29 at its offset, a missing one at the text's length.
-use Rattle.base.specs.{ℕ, zero, suc, ◌-◌, arith, ◌≡◌, refl, sym, ◌∙◌, ap, Bool, true, false, cond, ◌&&◌, Option, none, some, List, [], ◌∷◌}
+use Rattle.base.specs.{ℕ, zero, suc, ◌-◌, arith, ◌≡◌, refl, sym, ◌∙◌, ap, Bool, true, false, cond, ◌&&◌, Option, None, Some, List, [], ◌∷◌}
 use Rattle.base.specs.{◌++◌, map, append-nil, append_assoc, T, not_T, length, get_or, and_yes, yes_and}
 use Rattle.model.specs.{same, each, from, below, and_then, only, Line, ended_by_ten, text, fields, lines_from, closed, Read, holds, fault, next}
 use Rattle.model.specs.{is_name_list, gate_of, is_wire, is_figures, is_timing, expected_lines, nothing_left, gate_in, gates_in, after_gates, area_of, preamble}
@@ -89,17 +89,17 @@ module _ (end : ℕ) (ranged : Bool) (cells : List Cell) where
 
   -- ---- a line that may stand there, and one that may not
 
-  took : (d : Expected) (l : Line) (e : Expected) → line_step ranged cells d l ≡ some e → T (ended_by_ten l) × (step_of ranged cells d l.bytes ≡ some e)
+  took : (d : Expected) (l : Line) (e : Expected) → line_step ranged cells d l ≡ Some e → T (ended_by_ten l) × (step_of ranged cells d l.bytes ≡ Some e)
   took d l e q =
       let o = then_out (only (closed true l) l.bytes) (step_of ranged cells d) e q in
       let p = only_out (closed true l) l.bytes o.0 o.1 in
       (p.0, ap (step_of ranged cells d) p.1 ∙ o.2)
 
-  refused : (d : Expected) (l : Line) → line_step ranged cells d l ≡ none → T (ended_by_ten l) → step_of ranged cells d l.bytes ≡ none
+  refused : (d : Expected) (l : Line) → line_step ranged cells d l ≡ None → T (ended_by_ten l) → step_of ranged cells d l.bytes ≡ None
   unfolding and_then only
   refused d l q t = sym (ap (λ (b : Bool). and_then (only b l.bytes) (step_of ranged cells d)) (is_true (ended_by_ten l) t)) ∙ q
 
-  none_fails : {A : Type 0} (b : Bool) (a : A) → only b a ≡ none → ¬ T b
+  none_fails : {A : Type 0} (b : Bool) (a : A) → only b a ≡ None → ¬ T b
   unfolding only
   none_fails true a e t = let z : ◌≡◌ {A = ℕ} 0 1 = cc in omega arith
   none_fails false a e t = t
@@ -110,23 +110,23 @@ module _ (end : ℕ) (ranged : Bool) (cells : List Cell) where
       (pairs_are 0 n, timings_are ranged n))
 
   -- gate lines
-  gate-lines-some : (n : ℕ) (us : List ℕ) (l : Line) (ls : List Line) (i : ℕ) → gate_in cells l ≡ some i → gate_lines n us (l ∷ ls) ≡ gate_lines n (us ++ (i ∷ [])) ls
+  gate-lines-some : (n : ℕ) (us : List ℕ) (l : Line) (ls : List Line) (i : ℕ) → gate_in cells l ≡ Some i → gate_lines n us (l ∷ ls) ≡ gate_lines n (us ++ (i ∷ [])) ls
   unfolding gates_in after_gates
   gate-lines-some n us l ls i e =
-      ap (λ (o : Option ℕ). run n (us ++ elim o [ some j ↦ j ∷ gates_in cells ls | none ↦ [] ]) (elim o [ some j ↦ after_gates cells ls | none ↦ l ∷ ls ])) e
+      ap (λ (o : Option ℕ). run n (us ++ elim o [ Some j ↦ j ∷ gates_in cells ls | None ↦ [] ]) (elim o [ Some j ↦ after_gates cells ls | None ↦ l ∷ ls ])) e
       ∙ ap (λ (x : List ℕ). run n x (after_gates cells ls)) (sym (append_assoc us (i ∷ []) (gates_in cells ls)))
 
-  gate-lines-none : (n : ℕ) (us : List ℕ) (l : Line) (ls : List Line) → gate_in cells l ≡ none → gate_lines n us (l ∷ ls) ≡ left (wire_expected n n us) (l ∷ ls)
+  gate-lines-none : (n : ℕ) (us : List ℕ) (l : Line) (ls : List Line) → gate_in cells l ≡ None → gate_lines n us (l ∷ ls) ≡ left (wire_expected n n us) (l ∷ ls)
   unfolding gates_in after_gates
-  gate-lines-none n us l ls e = ap (λ (o : Option ℕ). run n (us ++ elim o [ some j ↦ j ∷ gates_in cells ls | none ↦ [] ])
-      (elim o [ some j ↦ after_gates cells ls | none ↦ l ∷ ls ])) e ∙ ap (λ (x : List ℕ). run n x (l ∷ ls)) (append-nil us)
+  gate-lines-none n us l ls e = ap (λ (o : Option ℕ). run n (us ++ elim o [ Some j ↦ j ∷ gates_in cells ls | None ↦ [] ])
+      (elim o [ Some j ↦ after_gates cells ls | None ↦ l ∷ ls ])) e ∙ ap (λ (x : List ℕ). run n x (l ∷ ls)) (append-nil us)
       ∙ run_is n us (l ∷ ls)
 
   gate_in_lem : (l : Line) → T (ended_by_ten l) → gate_in cells l ≡ gate_of 0 cells l.bytes
   unfolding gate_in
-  gate_in_lem l t = ap (λ (b : Bool). cond b (gate_of 0 cells l.bytes) none) (is_true (ended_by_ten l) t)
+  gate_in_lem l t = ap (λ (b : Bool). cond b (gate_of 0 cells l.bytes) None) (is_true (ended_by_ten l) t)
 
-  wire-on : (k n : ℕ) (us : List ℕ) (l : Line) (ls : List Line) (e : Expected) → T (ended_by_ten l) → wire_step k n us l.bytes ≡ some e → left (wire_expected k n us) (l ∷ ls) ≡ left e ls
+  wire-on : (k n : ℕ) (us : List ℕ) (l : Line) (ls : List Line) (e : Expected) → T (ended_by_ten l) → wire_step k n us l.bytes ≡ Some e → left (wire_expected k n us) (l ∷ ls) ≡ left e ls
   unfolding left wire_step pair_tests
   wire-on zero n us l ls e t q =
       let p = only_out (same (text ".end") l.bytes) (figures_expected n us) e q in
@@ -135,7 +135,7 @@ module _ (end : ℕ) (ranged : Bool) (cells : List Cell) where
       let p = only_out (is_wire l.bytes) (cover_expected k n us) e q in
       expected-yes is_wire _ l ls (fin us) t p.0 ∙ ap (λ (d : Expected). left d ls) p.1
 
-  pub goes_on : (d : Expected) (l : Line) (ls : List Line) (e : Expected) → line_step ranged cells d l ≡ some e → left d (l ∷ ls) ≡ left e ls
+  pub goes_on : (d : Expected) (l : Line) (ls : List Line) (e : Expected) → line_step ranged cells d l ≡ Some e → left d (l ∷ ls) ≡ left e ls
   unfolding left step_of time_step gate_step
   goes_on model_expected l ls e q =
       let a = took model_expected l e q in
@@ -168,12 +168,12 @@ module _ (end : ℕ) (ranged : Bool) (cells : List Cell) where
       let p = only_out (is_timing l.bytes) (timing_expected k us) e a.1 in
       unfold time_tests in expected-yes is_timing (time_tests k) l ls (fin us) a.0 p.0 ∙ ap (λ (d : Expected). left d ls) p.1
 
-  wire_off : (k n : ℕ) (us : List ℕ) (l : Line) (ls : List Line) → (T (ended_by_ten l) → wire_step k n us l.bytes ≡ none) → left (wire_expected k n us) (l ∷ ls) ≡ fault 29 l.offset
+  wire_off : (k n : ℕ) (us : List ℕ) (l : Line) (ls : List Line) → (T (ended_by_ten l) → wire_step k n us l.bytes ≡ None) → left (wire_expected k n us) (l ∷ ls) ≡ fault 29 l.offset
   unfolding left wire_step pair_tests
   wire_off zero n us l ls q = expected_no (same (text ".end")) _ l ls (fin us) (λ t. none_fails (same (text ".end") l.bytes) (figures_expected n us) (q t))
   wire_off (suc k) n us l ls q = expected_no is_wire _ l ls (fin us) (λ t. none_fails (is_wire l.bytes) (cover_expected k n us) (q t))
 
-  pub stops : (d : Expected) (l : Line) (ls : List Line) → line_step ranged cells d l ≡ none → left d (l ∷ ls) ≡ fault 29 l.offset
+  pub stops : (d : Expected) (l : Line) (ls : List Line) → line_step ranged cells d l ≡ None → left d (l ∷ ls) ≡ fault 29 l.offset
   unfolding left step_of time_step gate_step
   stops model_expected l ls q = expected_no (same (text ".model top")) _ l ls _ (λ t. none_fails (same (text ".model top") l.bytes) inputs_expected (refused model_expected l q t))
   stops inputs_expected l ls q = expected_no (is_name_list (text ".inputs") 112) _ l ls _ (λ t. none_fails (is_name_list (text ".inputs") 112 l.bytes) outputs_expected (refused inputs_expected l q t))
@@ -182,9 +182,9 @@ module _ (end : ℕ) (ranged : Bool) (cells : List Cell) where
   stops (gate_expected n us) l ls q = on (ended_by_ten l) (λ t. go (gate_of 0 cells l.bytes) refl t (refused (gate_expected n us) l q t)) (λ t. gate-lines-none n us l ls (
       unfold gate_in in cc (is_false (ended_by_ten l) t)) ∙ wire_off n n us l ls (λ u. absurd (lib.Dec.T_not (ended_by_ten l) t u)))
     where
-      go : (o : Option ℕ) → gate_of 0 cells l.bytes ≡ o → T (ended_by_ten l) → gate_step o n us l.bytes ≡ none → gate_lines n us (l ∷ ls) ≡ fault 29 l.offset
-      go none f t r = unfold gate_step in gate-lines-none n us l ls (gate_in_lem l t ∙ f) ∙ wire_off n n us l ls (λ u. r)
-      go (some i) f t r = unfold gate_step in let z : ◌≡◌ {A = ℕ} 0 1 = cc in absurd (omega arith)
+      go : (o : Option ℕ) → gate_of 0 cells l.bytes ≡ o → T (ended_by_ten l) → gate_step o n us l.bytes ≡ None → gate_lines n us (l ∷ ls) ≡ fault 29 l.offset
+      go None f t r = unfold gate_step in gate-lines-none n us l ls (gate_in_lem l t ∙ f) ∙ wire_off n n us l ls (λ u. r)
+      go (Some i) f t r = unfold gate_step in let z : ◌≡◌ {A = ℕ} 0 1 = cc in absurd (omega arith)
   stops (wire_expected k n us) l ls q = wire_off k n us l ls (refused (wire_expected k n us) l q)
   stops (cover_expected k n us) l ls q = expected_no (same (text "1 1")) _ l ls (fin us) (λ t. none_fails (same (text "1 1") l.bytes) (wire_expected k n us) (refused (cover_expected k n us) l q t))
   stops (figures_expected n us) l ls q = expected_no (is_figures (length us) (area_of cells us)) _ l ls (fin us) (λ t.

@@ -1,5 +1,5 @@
 -- What a reader of a netlist takes where a line is expected, and what is then expected: exactly what `CountForms.Next` says.
-use Rattle.base.specs.{ℕ, zero, suc, ◌-◌, ◌<◌, arith, ◌≡◌, refl, sym, ◌∙◌, ap, subst, Bool, true, cond, Option, none, some, List, [], ◌∷◌}
+use Rattle.base.specs.{ℕ, zero, suc, ◌-◌, ◌<◌, arith, ◌≡◌, refl, sym, ◌∙◌, ap, subst, Bool, true, cond, Option, None, Some, List, [], ◌∷◌}
 use Rattle.base.specs.{◌++◌, T, lit<, length}
 use Rattle.model.specs.{all, same, and_then, only, Line, text, fields, split, onto, closed, name_of, cell_at, is_name_list, gate_of, is_wire}
 use Rattle.model.specs.{is_figures, is_timing, area_of}
@@ -23,12 +23,12 @@ wire_step zero n us w = only (same (text ".end") w) (figures_expected n us)
 wire_step (suc k) n us w = only (is_wire w) (cover_expected k n us)
 
 unfoldable pub time_step : ℕ → List ℕ → List ℕ → Option Expected
-time_step zero us w = none
+time_step zero us w = None
 time_step (suc k) us w = only (is_timing w) (timing_expected k us)
 
 unfoldable pub gate_step : Option ℕ → ℕ → List ℕ → List ℕ → Option Expected
-gate_step none n us w = wire_step n n us w
-gate_step (some i) n us w = some (gate_expected n (us ++ (i ∷ [])))
+gate_step None n us w = wire_step n n us w
+gate_step (Some i) n us w = Some (gate_expected n (us ++ (i ∷ [])))
 
 -- what is expected behind a line with these contents, if it may stand there
 unfoldable pub step_of : Bool → List Cell → Expected → List ℕ → Option Expected
@@ -45,14 +45,14 @@ abbrev pub line_step : Bool → List Cell → Expected → Line → Option Expec
 line_step ranged cells d l = and_then (only (closed true l) l.bytes) (step_of ranged cells d)
 
 -- a line that is one text
-is-text : (key w : List ℕ) (d e : Expected) → only (same key w) d ≡ some e → (key ≡ w) × (d ≡ e)
+is-text : (key w : List ℕ) (d e : Expected) → only (same key w) d ≡ Some e → (key ≡ w) × (d ≡ e)
 is-text key w d e q = let p = only_out (same key w) d e q in (same-eq key w p.0, p.1)
 
 module _ (ranged : Bool) (cells : List Cell) (fits : T (library_fits cells)) where
   abbrev Step : Expected → List ℕ → Expected → Type 0
   Step = Next ranged cells
 
-  wire-step : (k n : ℕ) (us w : List ℕ) (e : Expected) → wire_step k n us w ≡ some e → Step (wire_expected k n us) w e
+  wire-step : (k n : ℕ) (us w : List ℕ) (e : Expected) → wire_step k n us w ≡ Some e → Step (wire_expected k n us) w e
   unfolding wire_step
   wire-step zero n us w e q = let p = is-text (text ".end") w (figures_expected n us) e q in rw (← p.0) (rw (← p.1) end)
   wire-step (suc k) n us w e q =
@@ -60,7 +60,7 @@ module _ (ranged : Bool) (cells : List Cell) (fits : T (library_fits cells)) whe
       let f = wire_form w p.0 in
       subst (λ (x : List ℕ). Step (wire_expected (suc k) n us) x e) (sym f.4) (subst (Step (wire_expected (suc k) n us) _) p.1 (wire f.2 f.3))
 
-  step_form : (d : Expected) (w : List ℕ) (e : Expected) → step_of ranged cells d w ≡ some e → Step d w e
+  step_form : (d : Expected) (w : List ℕ) (e : Expected) → step_of ranged cells d w ≡ Some e → Step d w e
   unfolding step_of time_step gate_step
   step_form model_expected w e q = let p = is-text (text ".model top") w inputs_expected e q in rw (← p.0) (rw (← p.1) model)
   step_form inputs_expected w e q =
@@ -87,24 +87,24 @@ module _ (ranged : Bool) (cells : List Cell) (fits : T (library_fits cells)) whe
       subst (λ (x : List ℕ). Step (timing_expected (suc k) us) x e) (sym f.6) (subst (Step (timing_expected (suc k) us) _) p.1 (timing f.3 f.4 f.5))
 
   -- what follows the gate lines is none of them
-  not-gate : {k n : ℕ} {us w : List ℕ} {e : Expected} → Step (wire_expected k n us) w e → gate_of 0 cells w ≡ none
+  not-gate : {k n : ℕ} {us w : List ℕ} {e : Expected} → Step (wire_expected k n us) w e → gate_of 0 cells w ≡ None
   unfolding same text fields split onto
   not-gate (wire {v = v} {o} h l) = no_gate_lem 0 cells _ (text ".names") (v ∷ o ∷ []) (fields-joined (text ".names") (v ∷ o ∷ []) (wire-free 32 (lit< tt) h l)) refl
   not-gate end = no_gate_lem 0 cells (text ".end") (text ".end") [] refl refl
 
-  wire-step-back : {k n : ℕ} {us w : List ℕ} {e : Expected} → Step (wire_expected k n us) w e → wire_step k n us w ≡ some e
+  wire-step-back : {k n : ℕ} {us w : List ℕ} {e : Expected} → Step (wire_expected k n us) w e → wire_step k n us w ≡ Some e
   unfolding wire_step
   wire-step-back (wire {k} {n} {us} {v} {o} h l) = only_yes (is_wire (joined (text ".names" ∷ v ∷ o ∷ []))) (cover_expected k n us) (wire-back h l)
   wire-step-back (end {n} {us}) = only_yes (same (text ".end") (text ".end")) (figures_expected n us) (same_refl (text ".end"))
 
-  step_back : {d : Expected} {w : List ℕ} {e : Expected} → Step d w e → step_of ranged cells d w ≡ some e
+  step_back : {d : Expected} {w : List ℕ} {e : Expected} → Step d w e → step_of ranged cells d w ≡ Some e
   unfolding step_of time_step gate_step text all
   step_back model = only_yes (same (text ".model top") (text ".model top")) inputs_expected (same_refl (text ".model top"))
   step_back (inputs {ws} l) = only_yes (is_name_list (text ".inputs") 112 (joined (text ".inputs" ∷ ws))) outputs_expected (names-back (text ".inputs") tt (lit< tt) l)
   step_back (outputs {ws} l) =
       let y : length (fields (joined (text ".outputs" ∷ ws))) ≡ suc (length ws) = ap length (names-fields (text ".outputs") tt (lit< tt) l) in
       only_yes (is_name_list (text ".outputs") 111 (joined (text ".outputs" ∷ ws))) (gate_expected (length (fields (joined (text ".outputs" ∷ ws))) - 1) []) (names-back (text ".outputs") tt (lit< tt) l)
-      ∙ ap (λ (n : ℕ). some (gate_expected n [])) (let z : length (fields (joined (text ".outputs" ∷ ws))) - 1 ≡ length ws = omega arith in z)
+      ∙ ap (λ (n : ℕ). Some (gate_expected n [])) (let z : length (fields (joined (text ".outputs" ∷ ws))) - 1 ≡ length ws = omega arith in z)
   step_back (gate {n} {i} {us} {w} g) = ap (λ (o : Option ℕ). gate_step o n us w) (gate-back cells fits w i g)
   step_back (behind {n} {us} {w} h) = ap (λ (o : Option ℕ). gate_step o n us w) (not-gate h) ∙ wire-step-back h
   step_back (wire h l) = wire-step-back (wire h l)

@@ -1,6 +1,6 @@
 -- What `specs.TallyDemands` reads, by computing: the lines that name a cell, and reports.
 use Prim.Native.String.{String}
-use Rattle.base.specs.{ℕ, Bool, true, false, ◌&&◌, none, some, List, [], ◌∷◌, T, eqb}
+use Rattle.base.specs.{ℕ, Bool, true, false, ◌&&◌, None, Some, List, [], ◌∷◌, T, eqb}
 use Rattle.model.specs.{all, same, text, holds, fault, read_library, cell_at}
 use Rattle.cases.proofs.{library, listing}
 use Rattle.promises.specs.TallyDemands.{gates_naming, Row, read_report, cell_row}
@@ -22,11 +22,11 @@ are_rows (p ∷ ps) (r ∷ rs) = let later = are_rows ps rs in p r && later
 
 unfoldable pub reads : String → List (Row → Bool) → Bool
 unfolding text read_report are_rows
-reads s ps = elim (read_report (text s)) [ some rs ↦ are_rows ps rs | none ↦ false ]
+reads s ps = elim (read_report (text s)) [ Some rs ↦ are_rows ps rs | None ↦ false ]
 
 unfoldable pub is_none : String → Bool
 unfolding text read_report
-is_none s = elim (read_report (text s)) [ some rs ↦ false | none ↦ true ]
+is_none s = elim (read_report (text s)) [ Some rs ↦ false | None ↦ true ]
 
 -- what the lines of B's library have to say after B's netlist and this one
 unfoldable pub says : ℕ → String → ℕ → ℕ → ℕ → Bool

@@ -1,5 +1,5 @@
 -- Lines that meet what is expected: read through to the end.
-use Rattle.base.specs.{ℕ, suc, ◌+◌, arith, ◌≡◌, refl, sym, ◌∙◌, ap, subst, Bool, true, false, cond, ◌&&◌, Option, none, some, List, [], ◌∷◌}
+use Rattle.base.specs.{ℕ, suc, ◌+◌, arith, ◌≡◌, refl, sym, ◌∙◌, ap, subst, Bool, true, false, cond, ◌&&◌, Option, None, Some, List, [], ◌∷◌}
 use Rattle.base.specs.{◌++◌, map, Memᴰ, Memᴰ-head, Memᴰ-tail, T, length}
 use Rattle.model.specs.{same, below, Line, text, fields, holds, unless, name_of, cell_at, named, is_bound, of_form, gate_form, gate_of, expected_lines}
 use Rattle.model.specs.{gate_in, gates_in, after_gates}
@@ -36,28 +36,28 @@ abbrev pub AreGates : List Cell → List (List ℕ) → List ℕ → Type 0
 AreGates cells [] [] = Unit {0}
 AreGates cells [] (i ∷ is) = ⊥
 AreGates cells (w ∷ ws) [] = ⊥
-AreGates cells (w ∷ ws) (i ∷ is) = (gate_of 0 cells w ≡ some i) × AreGates cells ws is
+AreGates cells (w ∷ ws) (i ∷ is) = (gate_of 0 cells w ≡ Some i) × AreGates cells ws is
 
-module _ (cells : List Cell) (l : Line) (ls : List Line) (no : gate_in cells l ≡ none) where
+module _ (cells : List Cell) (l : Line) (ls : List Line) (no : gate_in cells l ≡ None) where
   pub gates_met : (at : ℕ) (ws : List (List ℕ)) (is : List ℕ) → AreGates cells ws is → gates_in cells (lines_of_words at ws ++ (l ∷ ls)) ≡ is
   unfolding gates_in lines_of_words gate_in
-  gates_met at [] [] a = ap (λ (o : Option ℕ). elim o [ some i ↦ i ∷ gates_in cells ls | none ↦ [] ]) no
+  gates_met at [] [] a = ap (λ (o : Option ℕ). elim o [ Some i ↦ i ∷ gates_in cells ls | None ↦ [] ]) no
   gates_met at [] (i ∷ is) a = absurd a
   gates_met at (w ∷ ws) [] a = absurd a
   gates_met at (w ∷ ws) (i ∷ is) a = rw (a.0, gates_in) (ap (λ (ks : List ℕ). i ∷ ks) (gates_met (at + suc (length w)) ws is a.1))
 
   pub behind_met : (at : ℕ) (ws : List (List ℕ)) (is : List ℕ) → AreGates cells ws is → after_gates cells (lines_of_words at ws ++ (l ∷ ls)) ≡ l ∷ ls
   unfolding after_gates lines_of_words gate_in
-  behind_met at [] [] a = ap (λ (o : Option ℕ). elim o [ some i ↦ after_gates cells ls | none ↦ l ∷ ls ]) no
+  behind_met at [] [] a = ap (λ (o : Option ℕ). elim o [ Some i ↦ after_gates cells ls | None ↦ l ∷ ls ]) no
   behind_met at [] (i ∷ is) a = absurd a
   behind_met at (w ∷ ws) [] a = absurd a
   behind_met at (w ∷ ws) (i ∷ is) a = rw (a.0, after_gates) (behind_met (at + suc (length w)) ws is a.1)
 
 -- a line of another keyword is no gate's
-pub no_gate_lem : (k : ℕ) (cs : List Cell) (l w : List ℕ) (ws : List (List ℕ)) → fields l ≡ w ∷ ws → same (text ".gate") w ≡ false → gate_of k cs l ≡ none
+pub no_gate_lem : (k : ℕ) (cs : List Cell) (l w : List ℕ) (ws : List (List ℕ)) → fields l ≡ w ∷ ws → same (text ".gate") w ≡ false → gate_of k cs l ≡ None
 unfolding gate_of
 no_gate_lem k [] l w ws e n = refl
-no_gate_lem k (c ∷ cs) l w ws e n = ap (λ (b : Bool). cond b (some k) (gate_of (suc k) cs l)) other ∙ no_gate_lem (suc k) cs l w ws e n
+no_gate_lem k (c ∷ cs) l w ws e n = ap (λ (b : Bool). cond b (Some k) (gate_of (suc k) cs l)) other ∙ no_gate_lem (suc k) cs l w ws e n
   where
     other : of_form (gate_form c) (fields l) ≡ false
     other = unfold of_form gate_form in (ap (of_form (gate_form c)) e ∙ ap (λ (b : Bool). b && of_form (same (name_of c) ∷ map (λ (j : ℕ). is_bound (65 + j)) (below c.pins) ++ (is_bound 79 ∷ [])) ws) n)
@@ -65,7 +65,7 @@ no_gate_lem k (c ∷ cs) l w ws e n = ap (λ (b : Bool). cond b (some k) (gate_o
 -- a gate's line is that of the first listed cell of its name
 pub record Found (k : ℕ) (cs : List Cell) (c : Cell) (l : List ℕ) : Type 0 where
   pub index : ℕ
-  pub is_gate : gate_of k cs l ≡ some (k + index)
+  pub is_gate : gate_of k cs l ≡ Some (k + index)
   pub is_cell : cell_at cs index ≡ c
 
 module _ (c : Cell) (l : List ℕ) (yes : of_form (gate_form c) (fields l) ≡ true) (no : (d : Cell) → same (name_of d) (name_of c) ≡ false → of_form (gate_form d) (fields l) ≡ false) where
@@ -77,14 +77,14 @@ module _ (c : Cell) (l : List ℕ) (yes : of_form (gate_form c) (fields l) ≡ t
           → (Memᴰ c cs → named cs (name_of c) ≡ c → Found (suc k) cs c l) → Found k (d ∷ cs) c l
       go true q f i later = record {
         index = 0;
-        is_gate = ap (λ (b : Bool). cond b (some k) (gate_of (suc k) cs l)) (ap (λ (x : Cell). of_form (gate_form x) (fields l)) f ∙ yes) ∙ ap some (let z : k ≡ k + 0 = omega arith in z);
+        is_gate = ap (λ (b : Bool). cond b (Some k) (gate_of (suc k) cs l)) (ap (λ (x : Cell). of_form (gate_form x) (fields l)) f ∙ yes) ∙ ap Some (let z : k ≡ k + 0 = omega arith in z);
         is_cell = f;
       }
       go false q f (Memᴰ-head s) later = absurd (subst T (sym (ap (λ (x : Cell). same (name_of x) (name_of c)) (sym s)) ∙ q) (same_refl (name_of c)))
       go false q f (Memᴰ-tail i) later = record {
         index = suc (later i f).index;
-        is_gate = ap (λ (b : Bool). cond b (some k) (gate_of (suc k) cs l)) (no d q) ∙ (later i f).is_gate
-            ∙ ap some (let z : suc k + (later i f).index ≡ k + suc (later i f).index = omega arith in z);
+        is_gate = ap (λ (b : Bool). cond b (Some k) (gate_of (suc k) cs l)) (no d q) ∙ (later i f).is_gate
+            ∙ ap Some (let z : suc k + (later i f).index ≡ k + suc (later i f).index = omega arith in z);
         is_cell = (later i f).is_cell;
       }
   gate-found k [] m e = elim m [ ]

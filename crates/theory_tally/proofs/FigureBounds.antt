@@ -1,5 +1,5 @@
 -- What the `# gates` line of a counted netlist says, by its own words, is what is counted of its gates.
-use Rattle.base.specs.{ℕ, zero, suc, ◌+◌, arith, ◌≡◌, refl, sym, ◌∙◌, ap, ap₂, subst, Bool, true, false, cond, ◌&&◌, Option, none, some}
+use Rattle.base.specs.{ℕ, zero, suc, ◌+◌, arith, ◌≡◌, refl, sym, ◌∙◌, ap, ap₂, subst, Bool, true, false, cond, ◌&&◌, Option, None, Some}
 use Rattle.base.specs.{List, [], ◌∷◌, ◌++◌, map, map-append, reverse, reverse-cons, append_assoc, append-nil, T, eqb, eqb→eq, length, get_or}
 use Rattle.base.specs.{and_yes}
 use Rattle.model.specs.{each, same, and_then, only, from, below, Line, ended_by_ten, text, decimal, parts, closing, lines_from, fields, split}
@@ -114,7 +114,7 @@ unfolding each from
 apart-pairs k zero = tt
 apart-pairs k (suc n) = (apart-wire, (apart-same (text "1 1") (unfold begins_gates fields split onto same text in refl), apart-pairs (suc k) n))
 
-other_gate : (k : ℕ) (cells : List Cell) (w : List ℕ) (i : ℕ) → gate_of k cells w ≡ some i → Other w
+other_gate : (k : ℕ) (cells : List Cell) (w : List ℕ) (i : ℕ) → gate_of k cells w ≡ Some i → Other w
 unfolding gate_of gate_form
 other_gate k [] w i e = let z : ◌≡◌ {A = ℕ} 0 1 = cc in absurd (omega arith)
 other_gate k (c ∷ cs) w i e = by_bool (of_form (gate_form c) (fields w)) (λ f. let r = keys_first (text ".gate" ∷ [])
@@ -150,13 +150,13 @@ unfolding after_gates gate_in
 gates_out cells [] = record { passed = []; are_these = refl; ten = tt; others = tt }
 gates_out cells (l ∷ ls) = go (gate_in cells l) refl (gates_out cells ls)
   where
-    gate : (b : Bool) (i : ℕ) → ended_by_ten l ≡ b → cond b (gate_of 0 cells l.bytes) none ≡ some i → T (ended_by_ten l) × Other l.bytes
+    gate : (b : Bool) (i : ℕ) → ended_by_ten l ≡ b → cond b (gate_of 0 cells l.bytes) None ≡ Some i → T (ended_by_ten l) × Other l.bytes
     gate true i q e = (subst T (sym q) tt, other_gate 0 cells l.bytes i e)
     gate false i q e = let z : ◌≡◌ {A = ℕ} 0 1 = cc in absurd (omega arith)
 
-    go : (o : Option ℕ) → gate_in cells l ≡ o → Gates ls (after_gates cells ls) → Gates (l ∷ ls) (elim o [ some i ↦ after_gates cells ls | none ↦ l ∷ ls ])
-    go none e later = record { passed = []; are_these = refl; ten = tt; others = tt }
-    go (some i) e later =
+    go : (o : Option ℕ) → gate_in cells l ≡ o → Gates ls (after_gates cells ls) → Gates (l ∷ ls) (elim o [ Some i ↦ after_gates cells ls | None ↦ l ∷ ls ])
+    go None e later = record { passed = []; are_these = refl; ten = tt; others = tt }
+    go (Some i) e later =
         let g = gate (ended_by_ten l) i refl e in
         record { passed = l ∷ later.passed; are_these = ap (λ (xs : List Line). l ∷ xs) later.are_these; ten = (g.0, later.ten); others = (g.1, later.others) }
 
@@ -181,7 +181,7 @@ module _ (n a : ℕ) where
   said = record { gates = n; area = a }
 
   figures_said : (ws : List (List ℕ)) → of_form (same (text "#") ∷ same (text "gates") ∷ same (decimal n) ∷ same (text "area") ∷ same (decimal a) ∷ same (text "arrival") ∷ are_digits ∷ []) ws ≡ true
-      → (begins_gates ws ≡ true) × (gates_line ws ≡ some said)
+      → (begins_gates ws ≡ true) × (gates_line ws ≡ Some said)
   unfolding said
   figures_said ws e =
       let r = keys_first (text "#" ∷ text "gates" ∷ decimal n ∷ text "area" ∷ decimal a ∷ [])
@@ -191,12 +191,12 @@ module _ (n a : ℕ) where
             ∙ (unfold gates_line same text and_then only in (cc (figure-back n, figure-back a))),
       )
 
-  figures-first : (qs : List (List ℕ → Bool)) (ws : List (List ℕ)) → Meets (is_figures n a ∷ qs) ws → gates_line (gates_words ws) ≡ some said
+  figures-first : (qs : List (List ℕ → Bool)) (ws : List (List ℕ)) → Meets (is_figures n a ∷ qs) ws → gates_line (gates_words ws) ≡ Some said
   unfolding gates_words is_figures
   figures-first qs [] m = absurd m
   figures-first qs (w ∷ ws) m = let r = figures_said (fields w) m.0 in cc (r.0, r.1)
 
-  behind-figures : (ranged : Bool) (outs : ℕ) (ws : List (List ℕ)) → Meets (behind_gates ranged outs n a) ws → gates_line (gates_words ws) ≡ some said
+  behind-figures : (ranged : Bool) (outs : ℕ) (ws : List (List ℕ)) → Meets (behind_gates ranged outs n a) ws → gates_line (gates_words ws) ≡ Some said
   unfolding behind_gates wire_pairs below
   behind-figures ranged outs ws m =
       let p = past (each (λ (_ : ℕ). is_wire ∷ same (text "1 1") ∷ []) (from 0 outs)) _ ws (apart-pairs 0 outs) m in
@@ -207,7 +207,7 @@ module _ (n a : ℕ) where
 
 -- "gives a gate count or area that isn't that of the gates above it" is refused
 pub figures_in_lem : (ranged : Bool) (cells : List Cell) (s used : List ℕ) → read_counted ranged cells s ≡ holds used
-    → figures_in s ≡ some (record { gates = length used; area = area_of cells used })
+    → figures_in s ≡ Some (record { gates = length used; area = area_of cells used })
 unfolding read_counted figures_in said
 figures_in_lem ranged cells s used e =
     let a = next_out (expected_lines (length s) preamble (lines_from 0 [] s)) _ used e in
@@ -223,4 +223,4 @@ figures_in_lem ranged cells s used e =
     (sym (lines-parts 0 [] s tt ten) ∙ ap bytes_of all ∙ map-append (λ (l : Line). l.bytes) f.passed (g.passed ++ h.passed) ∙ ap (λ (x : List (List ℕ)). bytes_of f.passed ++ x) (map-append (λ (l : Line). l.bytes) g.passed h.passed))
     ∙ ap gates_line (others-past (bytes_of f.passed) (bytes_of g.passed ++ bytes_of h.passed) (others_met preamble (bytes_of f.passed) apart-preamble f.met) ∙ others-past (bytes_of g.passed) (bytes_of h.passed) g.others)
     ∙ behind-figures (length (gates_in cells a.0)) (area_of cells (gates_in cells a.0)) ranged (outputs_of (lines_from 0 [] s)) (bytes_of h.passed) h.met
-    ∙ ap (λ (us : List ℕ). some (record { gates = length us; area = area_of cells us })) (holds-once c.2)
+    ∙ ap (λ (us : List ℕ). Some (record { gates = length us; area = area_of cells us })) (holds-once c.2)

@@ -1,6 +1,6 @@
 -- The gates that are counted of a netlist are its gate lines, cell by cell: by the netlist's bytes alone.
 use Rattle.base.specs.{ℕ, zero, suc, ◌+◌, ◌<◌, zero-add, arith, ◌≡◌, refl, sym, ◌∙◌, ap, ap₂, subst, Bool, true, false, not, cond, ◌&&◌}
-use Rattle.base.specs.{Option, none, some, List, [], ◌∷◌, ◌++◌, map, map-append, append-nil, Memᴰ, Memᴰ-head, Memᴰ-tail, T}
+use Rattle.base.specs.{Option, None, Some, List, [], ◌∷◌, ◌++◌, map, map-append, append-nil, Memᴰ, Memᴰ-head, Memᴰ-tail, T}
 use Rattle.base.specs.{eqb, T_not, length, get_or, eq-eqb, ne_eqb, and_yes}
 use Rattle.model.specs.{each, same, from, below, Line, ended_by_ten, text, decimal, lines_from, fields, split, onto, holds, name_of, cell_at}
 use Rattle.model.specs.{read_library, is_name_list, is_wire, is_figures, is_timing, of_form, of_list, is_phase_net, is_label, are_digits, is_bound}
@@ -56,12 +56,12 @@ record Says (cs : List Cell) (k m : ℕ) (w : List ℕ) : Type 0 where
   later : List (List ℕ)
   words : fields w ≡ text ".gate" ∷ name_of (cell_at cs place) ∷ later
 
-gate-says : (k : ℕ) (cs : List Cell) (w : List ℕ) (m : ℕ) → gate_of k cs w ≡ some m → Says cs k m w
+gate-says : (k : ℕ) (cs : List Cell) (w : List ℕ) (m : ℕ) → gate_of k cs w ≡ Some m → Says cs k m w
 unfolding gate_of gate_form cell_at
 gate-says k [] w m e = let z : ◌≡◌ {A = ℕ} 0 1 = cc in absurd (omega arith)
 gate-says k (c ∷ cs) w m e = go (of_form (gate_form c) (fields w)) refl e (gate-says (suc k) cs w m)
   where
-    go : (b : Bool) → of_form (gate_form c) (fields w) ≡ b → cond b (some k) (gate_of (suc k) cs w) ≡ some m → (gate_of (suc k) cs w ≡ some m → Says cs (suc k) m w) → Says (c ∷ cs) k m w
+    go : (b : Bool) → of_form (gate_form c) (fields w) ≡ b → cond b (Some k) (gate_of (suc k) cs w) ≡ Some m → (gate_of (suc k) cs w ≡ Some m → Says cs (suc k) m w) → Says (c ∷ cs) k m w
     go true f q later =
         let r = keys_first (text ".gate" ∷ name_of c ∷ []) (map (λ (j : ℕ). is_bound (65 + j)) (below c.pins) ++ (is_bound 79 ∷ [])) (fields w) f in
         let z : k ≡ m = cc in
@@ -70,7 +70,7 @@ gate-says k (c ∷ cs) w m e = go (of_form (gate_form c) (fields w)) refl e (gat
         let s = later q in
         record { place = suc s.place; is_place = omega (arith, s.is_place); listed = omega (arith, s.listed); later = s.later; words = s.words }
 
-line-names : (cells : List Cell) → T (library_fits cells) → (i k : ℕ) (w : List ℕ) → i < length cells → gate_of 0 cells w ≡ some k → names_cell (name_of (cell_at cells i)) w ≡ eqb i k
+line-names : (cells : List Cell) → T (library_fits cells) → (i k : ℕ) (w : List ℕ) → i < length cells → gate_of 0 cells w ≡ Some k → names_cell (name_of (cell_at cells i)) w ≡ eqb i k
 unfolding names_cell
 line-names cells t i k w h e =
     let s = gate-says 0 cells w k e in
@@ -169,20 +169,20 @@ unfolding after_gates gates_in gate_in
 all-gates cells [] = record { passed = []; are_these = refl; ten = tt; are = tt }
 all-gates cells (l ∷ ls) = by_option (gate_in cells l) (λ e. record {
   passed = [];
-  are_these = sym (ap (λ (x : Option ℕ). elim x [ some i ↦ after_gates cells ls | none ↦ l ∷ ls ]) e);
+  are_these = sym (ap (λ (x : Option ℕ). elim x [ Some i ↦ after_gates cells ls | None ↦ l ∷ ls ]) e);
   ten = tt;
-  are = subst (AreGates cells []) (sym (ap (λ (x : Option ℕ). elim x [ some i ↦ i ∷ gates_in cells ls | none ↦ [] ]) e)) tt;
+  are = subst (AreGates cells []) (sym (ap (λ (x : Option ℕ). elim x [ Some i ↦ i ∷ gates_in cells ls | None ↦ [] ]) e)) tt;
 }) (λ i q. let g = gate (ended_by_ten l) i refl q in record {
   passed = l ∷ (all-gates cells ls).passed;
   are_these = ap (λ (xs : List Line). l ∷ xs) (all-gates cells ls).are_these
       ∙ ap (λ (xs : List Line). l ∷ ((all-gates cells ls).passed ++ xs))
-      (sym (ap (λ (x : Option ℕ). elim x [ some j ↦ after_gates cells ls | none ↦ l ∷ ls ]) q));
+      (sym (ap (λ (x : Option ℕ). elim x [ Some j ↦ after_gates cells ls | None ↦ l ∷ ls ]) q));
   ten = (g.0, (all-gates cells ls).ten);
   are = subst (AreGates cells (l.bytes ∷ bytes_of (all-gates cells ls).passed))
-      (sym (ap (λ (x : Option ℕ). elim x [ some j ↦ j ∷ gates_in cells ls | none ↦ [] ]) q)) (g.1, (all-gates cells ls).are);
+      (sym (ap (λ (x : Option ℕ). elim x [ Some j ↦ j ∷ gates_in cells ls | None ↦ [] ]) q)) (g.1, (all-gates cells ls).are);
 })
   where
-    gate : (b : Bool) (i : ℕ) → ended_by_ten l ≡ b → cond b (gate_of 0 cells l.bytes) none ≡ some i → T (ended_by_ten l) × (gate_of 0 cells l.bytes ≡ some i)
+    gate : (b : Bool) (i : ℕ) → ended_by_ten l ≡ b → cond b (gate_of 0 cells l.bytes) None ≡ Some i → T (ended_by_ten l) × (gate_of 0 cells l.bytes ≡ Some i)
     gate true i q e = (subst T (sym q) tt, e)
     gate false i q e = let z : ◌≡◌ {A = ℕ} 0 1 = cc in absurd (omega arith)
 

@@ -1,5 +1,5 @@
 -- Every netlist that the mapper prints is counted, with its own figures.
-use Rattle.base.specs.{ℕ, suc, ◌+◌, ◌-◌, ◌≤◌, ◌<◌, arith, ◌≡◌, refl, sym, ◌∙◌, ap, ap₂, subst, Bool, true, false, none, List, [], ◌∷◌, ◌++◌}
+use Rattle.base.specs.{ℕ, suc, ◌+◌, ◌-◌, ◌≤◌, ◌<◌, arith, ◌≡◌, refl, sym, ◌∙◌, ap, ap₂, subst, Bool, true, false, None, List, [], ◌∷◌, ◌++◌}
 use Rattle.base.specs.{map, append-nil, Memᴰ, Memᴰ-head, Memᴰ-tail, T, length, le-leb, lt-ltb}
 use Rattle.model.specs.{each, same, from, below, Line, text, lines_from, split, onto, fields, Read, holds, next, unless, name_of, cell_at}
 use Rattle.model.specs.{read_library, is_ranged, absent, chosen, Gate, out_name, sum, figures_of, min_arrival_of, Call, read_texts, choice_text}
@@ -68,7 +68,7 @@ record Opened (cells : List Cell) (at : ℕ) (ws : List (List ℕ)) : Type 0 whe
   line : Line
   rest : List Line
   is_first : lines_of_words at ws ≡ line ∷ rest
-  not_gate : gate_in cells line ≡ none
+  not_gate : gate_in cells line ≡ None
 
 opened : (cells : List Cell) (at : ℕ) (ls : List ℕ) (more : List (List ℕ)) → Opened cells at (wire_rows 0 ls ++ (text ".end" ∷ more))
 unfolding wire_rows lines_of_words gate_in

@@ -1,5 +1,5 @@
 -- A tally and its report say of the counted netlists what `specs.TallyDemands` asks.
-use Rattle.base.specs.{ℕ, zero, suc, ◌+◌, ◌*◌, ◌<◌, add-mul, arith, ◌≡◌, refl, sym, ◌∙◌, ap, ap₂, Option, some, List, [], ◌∷◌, ◌++◌, map}
+use Rattle.base.specs.{ℕ, zero, suc, ◌+◌, ◌*◌, ◌<◌, add-mul, arith, ◌≡◌, refl, sym, ◌∙◌, ap, ap₂, Option, Some, List, [], ◌∷◌, ◌++◌, map}
 use Rattle.base.specs.{append_assoc, append-nil, Memᴰ, Memᴰ-head, Memᴰ-tail, leb, ltb, lit<, length, take, get_or}
 use Rattle.model.specs.{one, each, keep, and_then, only, from, below, text, decimal, lines_from, holds, name_of, cell_at, read_library, is_ranged}
 use Rattle.model.specs.{sum, names_line, empty_tally, in_width, read_counted, times, counted, count_text, report_line, cell_line, total_line}
@@ -110,19 +110,19 @@ figures_clear a b c = (λ s h. decimal-free s a h, (λ s h. decimal-free s b h, 
 row_of : List ℕ → ℕ → ℕ → ℕ → Row
 row_of name a b c = record { name = name; gates = a; area = b; netlists = c }
 
-row_read : (at : ℕ) (name : List ℕ) (a b c : ℕ) → Clear name → read_row (line_of_bytes at (names_of name (row_words a b c))) ≡ some (row_of name a b c)
+row_read : (at : ℕ) (name : List ℕ) (a b c : ℕ) → Clear name → read_row (line_of_bytes at (names_of name (row_words a b c))) ≡ Some (row_of name a b c)
 unfolding read_row row_words row_of and_then only
 row_read at name a b c k =
     cc (names-fields name (row_words a b c) (k 32 (lit< tt)) (figures_clear a b c), figure-back a, figure-back b, figure-back c)
 
 first-row : (at : ℕ) (name : List ℕ) (a b c : ℕ) (rest : List ℕ) → Clear name
-    → read_rows (lines_from at [] (report_line name a b c ++ rest)) ≡ and_then (read_rows (lines_from (at + suc (length (names_of name (row_words a b c)))) [] rest)) (λ rs. some (row_of name a b c ∷ rs))
+    → read_rows (lines_from at [] (report_line name a b c ++ rest)) ≡ and_then (read_rows (lines_from (at + suc (length (names_of name (row_words a b c)))) [] rest)) (λ rs. Some (row_of name a b c ∷ rs))
 unfolding read_rows and_then
 first-row at name a b c rest k =
     let w = names-whole name (row_words a b c) (k 10 (lit< tt), k 13 (lit< tt)) (figures_clear a b c) in
     ap (λ (x : List ℕ). read_rows (lines_from at [] x)) (cc (row_shape name a b c, names-ended name (row_words a b c) rest))
     ∙ ap read_rows (line_first at (names_of name (row_words a b c)) rest w.0 w.1)
-    ∙ ap (λ (o : Option Row). and_then o (λ r. and_then (read_rows (lines_from (at + suc (length (names_of name (row_words a b c)))) [] rest)) (λ rs. some (r ∷ rs)))) (row_read at name a b c k)
+    ∙ ap (λ (o : Option Row). and_then o (λ r. and_then (read_rows (lines_from (at + suc (length (names_of name (row_words a b c)))) [] rest)) (λ rs. Some (r ∷ rs)))) (row_read at name a b c k)
 
 -- ---- the whole report
 
@@ -137,7 +137,7 @@ total_clear s h = unfold text in (
 
 -- a cell's line, before what follows
 cell-first : (cells : List Cell) (t : Tally) (i at : ℕ) (rest : List ℕ) → Clear (name_of (cell_at cells i))
-    → (next : ℕ) × (read_rows (lines_from at [] (cell_line cells t i ++ rest)) ≡ and_then (read_rows (lines_from next [] rest)) (λ rs. some (tally_row cells t i ∷ rs)))
+    → (next : ℕ) × (read_rows (lines_from at [] (cell_line cells t i ++ rest)) ≡ and_then (read_rows (lines_from next [] rest)) (λ rs. Some (tally_row cells t i ∷ rs)))
 unfolding cell_line tally_row
 cell-first cells t i at rest k = (
   at + suc (length (names_of (name_of (cell_at cells i)) (row_words (get_or t.gates i 0) (get_or t.areas i 0) (get_or t.occurs i 0)))),
@@ -145,7 +145,7 @@ cell-first cells t i at rest k = (
 )
 
 rows-read : (cells : List Cell) (t : Tally) (a b c at : ℕ) (is : List ℕ) → ((i : ℕ) → Memᴰ i is → Clear (name_of (cell_at cells i)))
-    → read_rows (lines_from at [] (each (cell_line cells t) is ++ report_line (text "total") a b c)) ≡ some (map (tally_row cells t) is ++ (row_of (text "total") a b c ∷ []))
+    → read_rows (lines_from at [] (each (cell_line cells t) is ++ report_line (text "total") a b c)) ≡ Some (map (tally_row cells t) is ++ (row_of (text "total") a b c ∷ []))
 unfolding each and_then lines_from read_rows
 rows-read cells t a b c at [] h = cc (append-nil (report_line (text "total") a b c), first-row at (text "total") a b c [] total_clear)
 rows-read cells t a b c at (i ∷ is) h =
@@ -182,7 +182,7 @@ module _ (library : List ℕ) (cells : List Cell) (e : read_library library ≡ 
     by_place (λ (c : Cell). f (cell_row ns c)) cells,
   )
 
-  whole-read : (ns : List (List ℕ)) (t : Tally) (h : Tallied cells ns t) → read_rows (lines_from 0 [] (report_text cells t)) ≡ some (map (cell_row ns) cells ++ (total_row h.sums.lines (length ns) ∷ []))
+  whole-read : (ns : List (List ℕ)) (t : Tally) (h : Tallied cells ns t) → read_rows (lines_from 0 [] (report_text cells t)) ≡ Some (map (cell_row ns) cells ++ (total_row h.sums.lines (length ns) ∷ []))
   unfolding report_text total_line below row_of
   whole-read ns t h = cc (
     rows-read cells t (sum (take (length cells) t.gates)) (sum (take (length cells) t.areas)) t.netlists 0

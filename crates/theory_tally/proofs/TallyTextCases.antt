@@ -1,16 +1,16 @@
 -- What a `# gates` line says, by computing: B's netlist, and lines that say nothing.
-use Rattle.base.specs.{ℕ, Bool, true, false, ◌&&◌, Option, none, some, List, [], ◌∷◌, T, eqb}
+use Rattle.base.specs.{ℕ, Bool, true, false, ◌&&◌, Option, None, Some, List, [], ◌∷◌, T, eqb}
 use Rattle.model.specs.{all, text}
 use Rattle.cases.proofs.{listing}
 use Rattle.promises.specs.Sums.{GatesLine, figures_in}
 
 unfoldable pub says : ℕ → ℕ → Option GatesLine → Bool
-says gates area none = false
-says gates area (some l) = eqb l.gates gates && eqb l.area area
+says gates area None = false
+says gates area (Some l) = eqb l.gates gates && eqb l.area area
 
 unfoldable pub silent : Option GatesLine → Bool
-silent none = true
-silent (some l) = false
+silent None = true
+silent (Some l) = false
 
 unfoldable pub cases : List Bool
 unfolding listing text figures_in says silent

@@ -1,5 +1,5 @@
 -- The cells of a netlist that is counted: they are listed, and no more than the text has bytes.
-use Rattle.base.specs.{ℕ, suc, ◌+◌, ◌≤◌, ◌<◌, arith, ◌≡◌, refl, sym, ap, subst, Bool, true, false, cond, ◌&&◌, Option, none, some, List, []}
+use Rattle.base.specs.{ℕ, suc, ◌+◌, ◌≤◌, ◌<◌, arith, ◌≡◌, refl, sym, ap, subst, Bool, true, false, cond, ◌&&◌, Option, None, Some, List, []}
 use Rattle.base.specs.{◌∷◌, Memᴰ, Memᴰ-head, Memᴰ-tail, Memᴰ-not-nil, T, eqb, leb, ltb, length}
 use Rattle.model.specs.{Line, ended_by_ten, lines_from, fields, holds, read_library, is_ranged, of_form, gate_form, gate_of, in_width, expected_lines}
 use Rattle.model.specs.{nothing_left, gate_in, gates_in, after_gates, area_of, preamble, behind_gates, outputs_of, read_counted, counted, count_text}
@@ -10,20 +10,20 @@ use Rattle.theory_text.proofs.{lines_step, holds-once, unless_out, next_out}
 
 -- ---- listed
 
-gate-below : (k : ℕ) (cells : List Cell) (w : List ℕ) (i : ℕ) → gate_of k cells w ≡ some i → i < k + length cells
+gate-below : (k : ℕ) (cells : List Cell) (w : List ℕ) (i : ℕ) → gate_of k cells w ≡ Some i → i < k + length cells
 unfolding gate_of
 gate-below k [] w i e = let z : ◌≡◌ {A = ℕ} 0 1 = cc in absurd (omega arith)
 gate-below k (c ∷ cs) w i e = go (of_form (gate_form c) (fields w)) e (gate-below (suc k) cs w i)
   where
-    go : (b : Bool) → cond b (some k) (gate_of (suc k) cs w) ≡ some i → (gate_of (suc k) cs w ≡ some i → i < suc k + length cs) → i < k + suc (length cs)
+    go : (b : Bool) → cond b (Some k) (gate_of (suc k) cs w) ≡ Some i → (gate_of (suc k) cs w ≡ Some i → i < suc k + length cs) → i < k + suc (length cs)
     go true q later = let z : k ≡ i = cc in omega arith
     go false q later = let z : i < suc k + length cs = later q in omega arith
 
-in_below : (cells : List Cell) (l : Line) (i : ℕ) → gate_in cells l ≡ some i → i < length cells
+in_below : (cells : List Cell) (l : Line) (i : ℕ) → gate_in cells l ≡ Some i → i < length cells
 unfolding gate_in
 in_below cells l i e = go (ended_by_ten l) e
   where
-    go : (b : Bool) → cond b (gate_of 0 cells l.bytes) none ≡ some i → i < length cells
+    go : (b : Bool) → cond b (gate_of 0 cells l.bytes) None ≡ Some i → i < length cells
     go true q = omega (arith, gate-below 0 cells l.bytes i q)
     go false q = let z : ◌≡◌ {A = ℕ} 0 1 = cc in absurd (omega arith)
 
@@ -32,10 +32,10 @@ unfolding gates_in
 gates-listed cells [] i m = absurd (Memᴰ-not-nil m)
 gates-listed cells (l ∷ ls) i m = go (gate_in cells l) refl m (gates-listed cells ls i)
   where
-    go : (o : Option ℕ) → gate_in cells l ≡ o → Memᴰ i (elim o [ some k ↦ k ∷ gates_in cells ls | none ↦ [] ]) → (Memᴰ i (gates_in cells ls) → i < length cells) → i < length cells
-    go none e q later = absurd (Memᴰ-not-nil q)
-    go (some k) e (Memᴰ-head h) later = let z : k < length cells = in_below cells l k e in omega (arith, h)
-    go (some k) e (Memᴰ-tail q) later = later q
+    go : (o : Option ℕ) → gate_in cells l ≡ o → Memᴰ i (elim o [ Some k ↦ k ∷ gates_in cells ls | None ↦ [] ]) → (Memᴰ i (gates_in cells ls) → i < length cells) → i < length cells
+    go None e q later = absurd (Memᴰ-not-nil q)
+    go (Some k) e (Memᴰ-head h) later = let z : k < length cells = in_below cells l k e in omega (arith, h)
+    go (Some k) e (Memᴰ-tail q) later = later q
 
 -- ---- few
 
@@ -44,9 +44,9 @@ unfolding gates_in
 gates-few cells [] = omega arith
 gates-few cells (l ∷ ls) = go (gate_in cells l) (gates-few cells ls)
   where
-    go : (o : Option ℕ) → length (gates_in cells ls) ≤ length ls → length {A = ℕ} (elim o [ some k ↦ k ∷ gates_in cells ls | none ↦ [] ]) ≤ suc (length ls)
-    go none h = omega arith
-    go (some k) h = omega arith
+    go : (o : Option ℕ) → length (gates_in cells ls) ≤ length ls → length {A = ℕ} (elim o [ Some k ↦ k ∷ gates_in cells ls | None ↦ [] ]) ≤ suc (length ls)
+    go None h = omega arith
+    go (Some k) h = omega arith
 
 expected-few : (end : ℕ) (ps : List (List ℕ → Bool)) (ls ms : List Line) → expected_lines end ps ls ≡ holds ms → length ms ≤ length ls
 unfolding expected_lines

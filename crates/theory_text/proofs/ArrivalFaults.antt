@@ -4,7 +4,7 @@
 --     texts-listed        each listed input arrives as its line says, and the others at 0
 --     reads-untimed       with an empty arrivals' text a call reads what the library and the graph hold
 use Rattle.base.specs.{ℕ, suc, ◌+◌, ◌≤◌, ◌<◌, zero-le, arith, ◌≡◌, refl, sym, ◌∙◌, ap, ap₂, subst, fun_ext, Bool, true, false, not, ◌&&◌}
-use Rattle.base.specs.{Option, some, List, [], ◌∷◌, map, Memᴰ, Memᴰ-head, Memᴰ-tail, Memᴰ-not-nil, Memᴰ-cast, T, eqb}
+use Rattle.base.specs.{Option, Some, List, [], ◌∷◌, map, Memᴰ, Memᴰ-head, Memᴰ-tail, Memᴰ-not-nil, Memᴰ-cast, T, eqb}
 use Rattle.base.specs.{leb, ltb, le→leb, lit<, length, get_or, and_yes, ltb_yes, yes_and, yes_ltb}
 use Rattle.model.specs.{all, each, elem, same, and_then, only, Line, ended, text, decimal, lines_from, fields, numbers, need, Read, holds}
 use Rattle.model.specs.{fault, next, unless, from?, and_vars, read_header, read_graph, numbers_line, InputArrival, input_arrival_numbers, read_input_arrivals, read_input_arrival_lines}
@@ -37,7 +37,7 @@ second-small [] h = zero-le
 second-small (a ∷ []) h = zero-le
 second-small (a ∷ b ∷ ns) h = h b (Memᴰ-tail (Memᴰ-head refl))
 
-arrival-small : (l : Line) (ns : List ℕ) → input_arrival_numbers l ≡ some ns → get_or ns 1 0 ≤ 65535
+arrival-small : (l : Line) (ns : List ℕ) → input_arrival_numbers l ≡ Some ns → get_or ns 1 0 ≤ 65535
 unfolding input_arrival_numbers
 arrival-small l ns e =
     let a = then_out (only (ended l && eqb (length (fields l.bytes)) 2) (fields l.bytes)) numbers ns e in
@@ -83,7 +83,7 @@ input-arrival-read inputs s es = λ x. by_list (lines_from 0 [] s) (λ e. subst 
 abbrev input_arrival_line : InputArrival → List ℕ
 input_arrival_line e = numbers_line e.index (e.arrival ∷ [])
 
-line-back : (at i a : ℕ) → i ≤ 65535 → a ≤ 65535 → input_arrival_numbers (line_of_bytes at (words i (a ∷ []))) ≡ some (i ∷ a ∷ [])
+line-back : (at i a : ℕ) → i ≤ 65535 → a ≤ 65535 → input_arrival_numbers (line_of_bytes at (words i (a ∷ []))) ≡ Some (i ∷ a ∷ [])
 unfolding input_arrival_numbers and_then only all
 line-back at i a h k =
     ap (λ (ws : List (List ℕ)). and_then (only (eqb (length ws) 2) ws) numbers) (fields-numbers (decimal i) (decimal-free 32 i (lit< tt)) (a ∷ []))

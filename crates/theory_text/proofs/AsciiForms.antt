@@ -2,7 +2,7 @@
 --     ascii-means         a graph that some text means is meant by its ASCII form too
 --     means-outcome       two texts that mean the same graph have the same outcome
 use Rattle.base.specs.{ℕ, suc, ◌+◌, ◌*◌, ◌%◌, ◌≤◌, arith, ◌≡◌, refl, sym, ◌∙◌, ap, ap₂, subst, fun_ext, ◌⊎◌, inl, inr, ⊎_elim, Bool, true}
-use Rattle.base.specs.{false, not, cond, ◌&&◌, ◌||◌, Option, some, List, [], ◌∷◌, ◌++◌, map, append_assoc, append-nil, map-append}
+use Rattle.base.specs.{false, not, cond, ◌&&◌, ◌||◌, Option, Some, List, [], ◌∷◌, ◌++◌, map, append_assoc, append-nil, map-append}
 use Rattle.base.specs.{Memᴰ, Memᴰ-not-nil, Memᴰ-append_cases, Memᴰ-append_left, Memᴰ-append_right, Memᴰ-cast, T, eqb, leb}
 use Rattle.base.specs.{le→leb, lit<, length, get_or, drop, replicate, yes_and, yes_eqb, no_eqb}
 use Rattle.model.specs.{all, elem, keep, each, same, and_then, only, Line, next_of, text, decimal, lines_from, numbers, Read, holds, next}
@@ -239,11 +239,11 @@ module _ (g : Graph) (fits : GraphFits g) (known : Known g) (untimed : (λ (v : 
       ∙ ap (λ (o : Option Header). next (from? o 7 0) rest) (unfold header_of and_then only same text in let made : List (List ℕ)
       → Option Header = λ ws. let binary = same (get_or ws 0 []) (text "aig") in and_then
       (only (closed binary (line_of_bytes 0 head_bytes) && (eqb (length ws) 6 && (binary || same (get_or ws 0 []) (text "aag")))) (drop 1 ws))
-      (λ vs. and_then (numbers vs) (λ ns. some (header_of_numbers binary (next_of (line_of_bytes 0 head_bytes)) ns))) in ap made
+      (λ vs. and_then (numbers vs) (λ ns. Some (header_of_numbers binary (next_of (line_of_bytes 0 head_bytes)) ns))) in ap made
       (fields-word (97 ∷ 97 ∷ 103 ∷ []) (words g.size counts) (refl, (refl, (refl, tt)))
       ∙ ap (λ (ws : List (List ℕ)). (97 ∷ 97 ∷ 103 ∷ []) ∷ ws)
       (fields-numbers (decimal g.size) (decimal-free 32 g.size (lit< tt)) counts)) ∙ ap
-      (λ (o : Option (List ℕ)). and_then o (λ ns. some (header_of_numbers false (next_of (line_of_bytes 0 head_bytes)) ns)))
+      (λ (o : Option (List ℕ)). and_then o (λ ns. Some (header_of_numbers false (next_of (line_of_bytes 0 head_bytes)) ns)))
       (numbers-back (g.size ∷ counts) few))
       ∙ ap (λ (b : Bool). unless b 9 0 (holds ascii_header))
       (is_true (in_limits ascii_header)

@@ -1,6 +1,6 @@
 -- What a printed netlist says of the texts: the graph is accepted, no AND has too many cuts, every output is chosen a source, and the text
 -- and its figures are those of the chosen gates.
-use Rattle.base.specs.{ℕ, suc, ◌≡◌, refl, sym, ◌∙◌, ap, subst, Bool, true, false, cond, false≢true, Option, none, some, List, [], ◌∷◌, ◌++◌}
+use Rattle.base.specs.{ℕ, suc, ◌≡◌, refl, sym, ◌∙◌, ap, subst, Bool, true, false, cond, false≢true, Option, None, Some, List, [], ◌∷◌, ◌++◌}
 use Rattle.base.specs.{cons≢nil, Memᴰ, Memᴰ-head, Memᴰ-tail, leb, length}
 use Rattle.model.specs.{lowest, smaller, holds, unordered, over_limit, absent, chosen, Outcome, refused, mapped, map_graph, map_ordered, map_cut}
 use Rattle.model.specs.{map_chosen, printed, uncovered, Call, Design, read_texts, map_texts, map_design, within, min_arrival_of, timing_lines, followed}
@@ -59,8 +59,8 @@ module _ (listed cells : List Cell) (g : Graph) (t : List ℕ) (f : Figures) whe
       outs p c (k ∷ ks) q h = absurd (refused_never h)
 
       none-lowest : (u : ℕ) (o : Option ℕ) → ¬ (map_ordered listed cells g (smaller u o) ≡ mapped t f)
-      none-lowest u none h = refused_never h
-      none-lowest u (some w) h = refused_never h
+      none-lowest u None h = refused_never h
+      none-lowest u (Some w) h = refused_never h
 
 -- a netlist that fits is the graph's
 within-mapped : (bytes : ℕ) (o : Outcome) (t : List ℕ) (f : Figures) → within bytes o ≡ mapped t f → o ≡ mapped t f

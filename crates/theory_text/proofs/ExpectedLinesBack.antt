@@ -1,6 +1,6 @@
 -- Expected lines that are written read back: a line of numbers gives its numbers, and lines that define nothing twice give their items.
 use Rattle.base.specs.{ℕ, suc, ◌+◌, ◌*◌, ◌%◌, ◌≤◌, ◌<◌, arith, ◌≡◌, refl, sym, ◌∙◌, ap, subst, Bool, true, false, not, cond, ◌&&◌, ◌||◌}
-use Rattle.base.specs.{Option, some, List, [], ◌∷◌, ◌++◌, map, append_assoc, append-nil, Memᴰ, Memᴰ-head, Memᴰ-tail}
+use Rattle.base.specs.{Option, Some, List, [], ◌∷◌, ◌++◌, map, append_assoc, append-nil, Memᴰ, Memᴰ-head, Memᴰ-tail}
 use Rattle.base.specs.{Memᴰ-not-nil, Memᴰ-cast, T, eqb, leb, leb→le, le→leb, not_T, lit<, length, get_or, drop, yes_and, yes_eqb}
 use Rattle.model.specs.{all, elem, keep, each, same, and_then, only, decimal, lines_from, fields, number, numbers, Read, holds, next, unless}
 use Rattle.model.specs.{from?, var_of, closed, Kind, how_many, defines, Item, item_literals, read_expected, uses, defined_by, is_kind, same_kind}
@@ -13,18 +13,18 @@ use Rattle.theory_text.proofs.GraphItems.{head, kinds_of, defined_cons}
 
 -- ---- a line of numbers
 
-pub number-back : (n : ℕ) → n ≤ 65535 → number (decimal n) ≡ some n
+pub number-back : (n : ℕ) → n ≤ 65535 → number (decimal n) ≡ Some n
 unfolding number only
 number-back n h = ap (λ (m : ℕ). only (leb m 65535 && same (decimal n) (decimal m)) m) (decimal-value n) ∙ ap (λ (b : Bool). only b n)
     (is_true (leb n 65535 && same (decimal n) (decimal n))
     (yes_and (leb n 65535) (same (decimal n) (decimal n)) (le→leb n 65535 h) (same_refl (decimal n))))
 
-pub numbers-back : (ns : List ℕ) → T (all (λ (n : ℕ). leb n 65535) ns) → numbers (map decimal ns) ≡ some ns
+pub numbers-back : (ns : List ℕ) → T (all (λ (n : ℕ). leb n 65535) ns) → numbers (map decimal ns) ≡ Some ns
 unfolding numbers and_then all
 numbers-back [] t = refl
-numbers-back (n ∷ ns) t = ap (λ (o : Option ℕ). and_then o (λ k. and_then (numbers (map decimal ns)) (λ ks. some (k ∷ ks))))
+numbers-back (n ∷ ns) t = ap (λ (o : Option ℕ). and_then o (λ k. and_then (numbers (map decimal ns)) (λ ks. Some (k ∷ ks))))
     (number-back n (leb→le n 65535 (all_of (λ (k : ℕ). leb k 65535) (n ∷ ns) t n (Memᴰ-head refl))))
-    ∙ ap (λ (o : Option (List ℕ)). and_then o (λ ks. some (n ∷ ks)))
+    ∙ ap (λ (o : Option (List ℕ)). and_then o (λ ks. Some (n ∷ ks)))
     (numbers-back ns (all_in (λ (k : ℕ). leb k 65535) ns (λ k m. all_of (λ (j : ℕ). leb j 65535) (n ∷ ns) t k (Memᴰ-tail m))))
 
 -- numbers with one space between
@@ -79,7 +79,7 @@ pub record Row (size : ℕ) (i : Item) : Type 0 where
 
 -- its literals read back from its line
 row_back : (size at : ℕ) (i : Item) → size ≤ 4095 → Row size i
-    → item_literals (closed false) i.kind (line_of_bytes at (words (get_or i.literals 0 0) (drop 1 i.literals))) ≡ some i.literals
+    → item_literals (closed false) i.kind (line_of_bytes at (words (get_or i.literals 0 0) (drop 1 i.literals))) ≡ Some i.literals
 unfolding item_literals and_then only
 row_back size at i small r =
     ap (λ (ns : List ℕ). item_literals (closed false) i.kind (line_of_bytes at (words (get_or ns 0 0) (drop 1 ns)))) r.is_literals
@@ -90,7 +90,7 @@ row_back size at i small r =
     (yes_eqb (ap suc (lib.ListN.length-map r.more decimal) ∙ r.long))) ∙ numbers-back (r.first ∷ r.more)
     (all_in (λ (n : ℕ). leb n 65535) (r.first ∷ r.more) (λ n m. le→leb n 65535 (let q : n ≤ 2 * size + 1 = leb→le n (2 * size + 1)
     (all_of (λ (k : ℕ). leb k (2 * size + 1)) i.literals r.low n (rw r.is_literals m)) in omega arith)))
-    ∙ ap some (sym r.is_literals)
+    ∙ ap Some (sym r.is_literals)
 
 -- the lines of such items read back, if they define nothing twice
 pub rows_back : (end size : ℕ) → size ≤ 4095 → (at : ℕ) (before : List ℕ) (is : List Item) → ((i : Item) → Memᴰ i is → Row size i) → Distinct (defined_by is)

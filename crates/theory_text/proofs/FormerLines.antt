@@ -1,6 +1,6 @@
 -- Under the shorter names line a library's text is read as it was before there were ranges, and so is a call.
 use Rattle.base.specs.{ℕ, zero, suc, ◌^◌, ◌≤◌, le_refl, le_of_suc-le-suc, not-suc-le-zero, arith, ◌≡◌, refl, ◌∙◌, ap, ap₂, subst, Bool}
-use Rattle.base.specs.{true, false, not, ◌&&◌, ◌||◌, Option, some, List, [], ◌∷◌, T, eqb, leb, ltb, le→leb, length, get_or, take, drop}
+use Rattle.base.specs.{true, false, not, ◌&&◌, ◌||◌, Option, Some, List, [], ◌∷◌, T, eqb, leb, ltb, le→leb, length, get_or, take, drop}
 use Rattle.base.specs.{length-drop, and_yes, eqb_yes}
 use Rattle.model.specs.{all, any, same, and_then, only, need, Line, ended, lines_from, fields, numbers, hex_table, is_name, Read, holds, next}
 use Rattle.model.specs.{unless, from?, name_of, name_bytes, cell_of_fields, cell_of_line, is_clean, no_lower, is_shorter, read_cells}
@@ -44,7 +44,7 @@ module _ (ws : List (List ℕ)) where
           (take_whole 4 (drop 2 ns) (omega (arith, h tt, six, length-drop 3 ws, length-drop 2 ns)))))
 
   -- whose lowest delays are its delays
-  fields-mins : (c : Cell) → former_fields ws ≡ some c → c.mins ≡ c.delays
+  fields-mins : (c : Cell) → former_fields ws ≡ Some c → c.mins ≡ c.delays
   unfolding former_fields
   fields-mins c e =
       let a = then_out (only (eqb (length ws) 8 && is_name (get_or ws 0 [])) ws) (λ _. and_then (numbers (get_or ws 1 [] ∷ drop 3 ws)) (λ ns. tabled ns (drop 2 ns))) c e in

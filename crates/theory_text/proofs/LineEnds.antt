@@ -7,7 +7,7 @@
 --     same-texts     so with the texts of two calls
 --     demand_ends    which is what is promised of them
 use Rattle.base.specs.{ℕ, suc, ◌+◌, ◌*◌, ◌%◌, arith, ◌≡◌, refl, sym, ◌∙◌, ap, subst, inl, inr, Bool, true, false, not, cond, true≢false}
-use Rattle.base.specs.{◌&&◌, ◌||◌, Option, none, some, List, [], ◌∷◌, map, reverse, cons≢nil, nil≢cons, head-eq_of_cons-eq}
+use Rattle.base.specs.{◌&&◌, ◌||◌, Option, None, Some, List, [], ◌∷◌, map, reverse, cons≢nil, nil≢cons, head-eq_of_cons-eq}
 use Rattle.base.specs.{tail-eq_of_cons-eq, eqb, ltb, leb, length, get_or, drop, length-reverse, le-leb}
 use Rattle.model.specs.{all, any, elem, keep, same, and_then, only, Line, ended, next_of, closing, lines_from, shown, fields, numbers, text}
 use Rattle.model.specs.{Read, holds, fault, next, unless, from?, need, name_of, cell_of_fields, cell_of_line, is_clean, no_lower, is_shorter}
@@ -310,13 +310,13 @@ data Headers (At : ℕ → ℕ → Type 0) (s t : List ℕ) : Header → Header 
 header_by : List ℕ × Bool → ℕ → Option Header
 header_by p n =
     and_then (only (p.1 && (eqb (length (fields p.0)) 6 && same (get_or (fields p.0) 0 []) (text "aag"))) (drop 1 (fields p.0))) (λ vs.
-    and_then (numbers vs) (λ ns. some (header_of_numbers false n ns)))
+    and_then (numbers vs) (λ ns. Some (header_of_numbers false n ns)))
 
 header_by_lem : (l : Line) (ls : List Line) → same (first_word (l ∷ ls)) (text "aig") ≡ false → header_of (l ∷ ls) ≡ header_by (shown l) (next_of l)
 unfolding header_of header_by shown first_word
 header_by_lem l ls e = ap (λ (b : Bool). and_then (only
     (closed b l && (eqb (length (fields l.bytes)) 6 && (b || same (get_or (fields l.bytes) 0 []) (text "aag"))))
-    (drop 1 (fields l.bytes))) (λ vs. and_then (numbers vs) (λ ns. some (header_of_numbers b (next_of l) ns)))) e
+    (drop 1 (fields l.bytes))) (λ vs. and_then (numbers vs) (λ ns. Some (header_of_numbers b (next_of l) ns)))) e
 
 module _ (At : ℕ → ℕ → Type 0) (P : ℕ → ℕ → ℕ → Type 0) (put : (n : ℕ) → (of_library n || of_arrivals n) ≡ false → (k j : ℕ) → At k j → P n k j) (s t : List ℕ) (z : At 0 0) where
   same_first : (p : List ℕ × Bool) (n q : ℕ) → Paired At (length s) (length t) (lines_from n [] (drop n s)) (lines_from q [] (drop q t))
@@ -327,11 +327,11 @@ module _ (At : ℕ → ℕ → Type 0) (P : ℕ → ℕ → ℕ → Type 0) (put
       (λ e. rw e (both_fault (put 7 refl 0 0 z))) (λ vs r. rw r (of (numbers vs)))
     where
       made : ℕ → Option (List ℕ) → Option Header
-      made i o = and_then o (λ ns. some (header_of_numbers false i ns))
+      made i o = and_then o (λ ns. Some (header_of_numbers false i ns))
 
       of : (o : Option (List ℕ)) → Fares (Headers At s t) P (from? (made n o) 7 0) (from? (made q o) 7 0)
-      of none = both_fault (put 7 refl 0 0 z)
-      of (some ns) = both_hold (headers n q ns b)
+      of None = both_fault (put 7 refl 0 0 z)
+      of (Some ns) = both_hold (headers n q ns b)
 
   same_tests : (h k : Header) → Headers At s t h k
       → Fares (Headers At s t) P (unless (eqb h.latches 0) 8 0 (unless (in_limits h) 9 0 (unless (in_sequence h) 19 0 (holds h))))

@@ -1,5 +1,5 @@
 -- The printed netlist reads back as what was printed, and its gate lines say which nets they bind.
-use Rattle.base.specs.{ℕ, suc, ◌+◌, ◌≤◌, ◌<◌, arith, ◌≡◌, refl, sym, ◌∙◌, ap, ap₂, Bool, true, false, cond, ◌&&◌, Option, none, some, List}
+use Rattle.base.specs.{ℕ, suc, ◌+◌, ◌≤◌, ◌<◌, arith, ◌≡◌, refl, sym, ◌∙◌, ap, ap₂, Bool, true, false, cond, ◌&&◌, Option, None, Some, List}
 use Rattle.base.specs.{[], ◌∷◌, ◌++◌, map, append_assoc, append-nil, Memᴰ, Memᴰ-head, Memᴰ-tail, T, eqb, eqb_refl, lit<}
 use Rattle.base.specs.{length, yes_eqb, no_eqb}
 use Rattle.model.specs.{each, same, and_then, only, from, below, text, decimal, onto, split, parts, is_name, name_of, literal, Net, Gate}
@@ -123,11 +123,11 @@ unfoldable pub bindings_from : ℕ → List Net → Net → List Binding
 bindings_from b [] o = record { pin = output_name; net = label o } ∷ []
 bindings_from b (l ∷ ls) o = record { pin = b ∷ []; net = label l } ∷ bindings_from (suc b) ls o
 
-read-binding : (b : ℕ) (l : Net) → 61 < b → binding (b ∷ 61 ∷ label l) ≡ some (record { pin = b ∷ []; net = label l })
+read-binding : (b : ℕ) (l : Net) → 61 < b → binding (b ∷ 61 ∷ label l) ≡ Some (record { pin = b ∷ []; net = label l })
 unfolding binding and_then longer
 read-binding b l h = cc (above 61 b h)
 
-read-bindings : (b : ℕ) → 61 < b → (ls : List Net) (o : Net) → bindings_of (pin_ws b ls o) ≡ some (bindings_from b ls o)
+read-bindings : (b : ℕ) → 61 < b → (ls : List Net) (o : Net) → bindings_of (pin_ws b ls o) ≡ Some (bindings_from b ls o)
 unfolding bindings_of pin_ws and_then bindings_from
 read-bindings b h [] o = cc
 read-bindings b h (l ∷ ls) o = cc (read-binding b l h, read-bindings (suc b) (omega arith) ls o)
@@ -142,12 +142,12 @@ unfoldable pub body : List ℕ → List Net → Net → List ℕ
 unfolding text pin_words
 body name ls o = text ".gate " ++ (name ++ (pin_words 65 ls ++ pin_words 79 (o ∷ [])))
 
-read-gate : (name : List ℕ) → Plain name → (ls : List Net) (o : Net) → read_gate (body name ls o) ≡ some (record { cell = name; bindings = bindings_from 65 ls o })
+read-gate : (name : List ℕ) → Plain name → (ls : List Net) (o : Net) → read_gate (body name ls o) ≡ Some (record { cell = name; bindings = bindings_from 65 ls o })
 unfolding read_gate words_after after_word body text same only and_then gate_of
 read-gate name (plain {b = b} {w = w} f h) ls o = ap (λ (ps : List (List ℕ)). and_then (after_word (text ".gate") ps) gate_of)
     (parts-line 32 (text ".gate") (name ++ (pin_words 65 ls ++ pin_words 79 (o ∷ []))) (refl, (refl, (refl, (refl, (refl, tt)))))
     ∙ ap (λ (ps : List (List ℕ)). text ".gate" ∷ ps) (pins-words b w f 65 (lit< tt) ls o))
-    ∙ ap (λ (x : Option (List Binding)). and_then x (λ ps. some (record { cell = b ∷ w; bindings = ps }))) (read-bindings 65 (lit< tt) ls o)
+    ∙ ap (λ (x : Option (List Binding)). and_then x (λ ps. Some (record { cell = b ∷ w; bindings = ps }))) (read-bindings 65 (lit< tt) ls o)
 
 body_free : (name : List ℕ) → Plain name → (ls : List Net) (o : Net) → Free 10 (body name ls o)
 unfolding body text
@@ -236,36 +236,36 @@ wire-words : (k l : ℕ) → parts 32 (wire_body k l) ≡ text ".names" ∷ net_
 unfolding wire_body
 wire-words k l = names-words (text ".names") wire-plain (net_name l ∷ out_name k ∷ []) (net-plain l, (out_plain k, tt))
 
-read-wire : (k l : ℕ) → read_wire (wire_body k l) (text "1 1") ≡ some (record { source = net_name l; target = out_name k })
+read-wire : (k l : ℕ) → read_wire (wire_body k l) (text "1 1") ≡ Some (record { source = net_name l; target = out_name k })
 unfolding read_wire words_after after_word same text only and_then wire_of
 read-wire k l = ap (λ (ps : List (List ℕ)). and_then (after_word (text ".names") ps) wire_of) (wire-words k l)
 
-read-wires : (k : ℕ) (ls : List ℕ) (more : List (List ℕ)) → read_wires (wire_bodies k ls ++ (text ".end" ∷ more)) ≡ some (wires_from k ls)
+read-wires : (k : ℕ) (ls : List ℕ) (more : List (List ℕ)) → read_wires (wire_bodies k ls ++ (text ".end" ∷ more)) ≡ Some (wires_from k ls)
 unfolding read_wires wire_bodies wire_body names_of wires_from same text and_then
 read-wires k [] [] = refl
 read-wires k [] (m ∷ more) = refl
 read-wires k (l ∷ ls) more =
-    ap₂ (λ (o : Option Wire) (os : Option (List Wire)). and_then o (λ x. and_then os (λ xs. some (x ∷ xs)))) (read-wire k l) (read-wires (suc k) ls more)
+    ap₂ (λ (o : Option Wire) (os : Option (List Wire)). and_then o (λ x. and_then os (λ xs. Some (x ∷ xs)))) (read-wire k l) (read-wires (suc k) ls more)
 
 -- ---- the gates and the wires behind them
 
 abbrev body_with : List GateLine → List Wire → Option Body
-body_with ts xs = some (record { gates = ts; wires = xs })
+body_with ts xs = Some (record { gates = ts; wires = xs })
 
-body_gate : (l : List ℕ) (ls : List (List ℕ)) (t : GateLine) (ts : List GateLine) (xs : List Wire) → read_gate l ≡ some t → read_body ls ≡ body_with ts xs → read_body (l ∷ ls) ≡ body_with (t ∷ ts) xs
+body_gate : (l : List ℕ) (ls : List (List ℕ)) (t : GateLine) (ts : List GateLine) (xs : List Wire) → read_gate l ≡ Some t → read_body ls ≡ body_with ts xs → read_body (l ∷ ls) ≡ body_with (t ∷ ts) xs
 unfolding read_body body_from and_then
 body_gate l ls t ts xs e q = ap₂ (λ (o : Option GateLine) (b : Option Body). body_from o b (read_wires (l ∷ ls))) e q
 
-body_wires : (l : List ℕ) (ls : List (List ℕ)) (xs : List Wire) → read_gate l ≡ none → read_wires (l ∷ ls) ≡ some xs → read_body (l ∷ ls) ≡ body_with [] xs
+body_wires : (l : List ℕ) (ls : List (List ℕ)) (xs : List Wire) → read_gate l ≡ None → read_wires (l ∷ ls) ≡ Some xs → read_body (l ∷ ls) ≡ body_with [] xs
 unfolding read_body body_from and_then
 body_wires l ls xs e q = ap₂ (λ (o : Option GateLine) (b : Option (List Wire)). body_from o (read_body ls) b) e q
 
 -- a wire's line and the end are no gate's
-no_gate_lem : (k l : ℕ) → read_gate (wire_body k l) ≡ none
+no_gate_lem : (k l : ℕ) → read_gate (wire_body k l) ≡ None
 unfolding read_gate words_after after_word same text only and_then
 no_gate_lem k l = ap (λ (ps : List (List ℕ)). and_then (after_word (text ".gate") ps) gate_of) (wire-words k l)
 
-pub no_gate-end : read_gate (text ".end") ≡ none
+pub no_gate-end : read_gate (text ".end") ≡ None
 unfolding read_gate words_after after_word parts split onto same text only and_then
 no_gate-end = refl
 
@@ -356,11 +356,11 @@ text-lines g ts f after h =
 
 -- the printed text reads back, whatever follows its `# gates` line
 pub read_back : (g : Graph) (ts : List Gate) (f : Figures) (after : List ℕ) → ((t : Gate) → Memᴰ t ts → T (is_name (name_of t.cell)))
-    → read_blif (netlist_text g ts f ++ after) ≡ some (blif_of g ts)
+    → read_blif (netlist_text g ts f ++ after) ≡ Some (blif_of g ts)
 unfolding read_blif blif_of read_lines lines_of words_after after_word same only text and_then
 read_back g ts f after h =
     let lines : List (List ℕ) = map body_of ts ++ (wire_bodies 0 g.outputs ++ (text ".end" ∷ figures_line f ∷ parts 10 after)) in
-    let model : List (List ℕ) → List (List ℕ) → Body → Option Blif = λ is os b. some
+    let model : List (List ℕ) → List (List ℕ) → Body → Option Blif = λ is os b. Some
     (record { inputs = is; outputs = os; gates = b.gates; wires = b.wires }) in
     ap read_lines (text-lines g ts f after h)
     ∙ ap (λ (ps : List (List ℕ)). and_then (after_word (text ".inputs") ps) (λ is. and_then (words_after (text ".outputs") (names_of (text ".outputs") (output_names g))) (λ os. and_then (read_body lines) (model is os))))

@@ -1,6 +1,6 @@
 -- Which numbers and places a reader's refusals have.
 use Rattle.base.specs.{ℕ, zero, suc, ◌+◌, ◌-◌, ◌*◌, ◌%◌, ◌≤◌, arith, ◌≡◌, refl, sym, ap, subst, Bool, true, false, cond, not, false≢true}
-use Rattle.base.specs.{◌&&◌, ◌||◌, Option, none, some, List, [], ◌∷◌, ◌++◌, reverse, Memᴰ, Memᴰ-head, Memᴰ-tail}
+use Rattle.base.specs.{◌&&◌, ◌||◌, Option, None, Some, List, [], ◌∷◌, ◌++◌, reverse, Memᴰ, Memᴰ-head, Memᴰ-tail}
 use Rattle.base.specs.{Memᴰ-not-nil, eqb, ltb, leb, length, get_or, drop, replicate, length-drop, length-reverse}
 use Rattle.model.specs.{all, any, elem, same, only, Line, ended, next_of, text, closing, lines_from, fields, numbers, Read, holds, fault}
 use Rattle.model.specs.{next, unless, from?, name_of, var_of, cell_of_line, is_clean, no_lower, is_shorter, is_longer, read_cells, read_library_lines}
@@ -46,8 +46,8 @@ module _ {A : Type 0} (P : ℕ → ℕ → Type 0) where
 
   pub in_from : (o : Option A) (m j : ℕ) → P m j → Faults P (from? o m j)
   unfolding from?
-  in_from none m j p = in_fault m j p
-  in_from (some a) m j p = in_holds a
+  in_from None m j p = in_fault m j p
+  in_from (Some a) m j p = in_holds a
 
 pub in_next : {A B : Type 0} (P : ℕ → ℕ → Type 0) (r : Read A) (f : A → Read B) → Faults P r → ((a : A) → r ≡ holds a → Faults P (f a)) → Faults P (next r f)
 unfolding next
@@ -120,8 +120,8 @@ header-inside bytes h e =
         let ws = fields l.bytes in
         let is_binary = same (get_or ws 0 []) (text "aig") in
         let o = then_out (only (closed is_binary l && (eqb (length ws) 6 && (is_binary || same (get_or ws 0 []) (text "aag")))) (drop 1 ws)) _ k (from_out (header_of (l ∷ ls)) 7 0 k q) in
-        let p = then_out (numbers o.0) (λ ns. some (header_of_numbers is_binary (next_of l) ns)) k o.2 in
-        let w : some (header_of_numbers is_binary (next_of l) p.0) ≡ some k = p.2 in
+        let p = then_out (numbers o.0) (λ ns. Some (header_of_numbers is_binary (next_of l) ns)) k o.2 in
+        let w : Some (header_of_numbers is_binary (next_of l) p.0) ≡ Some k = p.2 in
         let v : header_of_numbers is_binary (next_of l) p.0 ≡ k = cc in
         let z : next_of l ≡ k.next = ap (λ (x : Header). x.next) v in
         omega (arith, i l (Memᴰ-head refl))

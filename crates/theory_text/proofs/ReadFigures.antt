@@ -1,6 +1,6 @@
 -- The `# gates` line of the printed netlist says the figures that were printed.
 use Rattle.base.specs.{ℕ, zero, suc, ◌+◌, ◌-◌, ◌*◌, ◌/◌, ◌%◌, ◌≤◌, ◌<◌, le_refl, not-suc-le-zero, arith, ◌≡◌, refl, sym, ◌∙◌, ap, ap₂, Bool}
-use Rattle.base.specs.{true, false, not, cond, ◌&&◌, none, some, List, [], ◌∷◌, ◌++◌, map, Memᴰ, T, ltb, ltb→lt, leb, le→leb, nltb→le}
+use Rattle.base.specs.{true, false, not, cond, ◌&&◌, None, Some, List, [], ◌∷◌, ◌++◌, map, Memᴰ, T, ltb, ltb→lt, leb, le→leb, nltb→le}
 use Rattle.base.specs.{lit<}
 use Rattle.model.specs.{same, and_then, only, text, digits, decimal, parts, fields, split, onto, between, is_name, name_of, Gate, netlist_text}
 use Rattle.model.specs.{digits_from, figure, behind_end, read_figure_words, read_figures}
@@ -54,9 +54,9 @@ led (suc fuel) n after h k = go (ltb n 10) (nltb→le n 10) (led fuel (n / 10) (
 figure-led : (b : ℕ) (w : List ℕ) → 48 < b → figure (b ∷ w) ≡ digits_from 0 (b ∷ w)
 unfolding figure
 figure-led b [] h = refl
-figure-led b (c ∷ bs) h = ap (λ (t : Bool). cond t none (digits_from 0 (b ∷ c ∷ bs))) (above 48 b h)
+figure-led b (c ∷ bs) h = ap (λ (t : Bool). cond t None (digits_from 0 (b ∷ c ∷ bs))) (above 48 b h)
 
-pub figure-back : (n : ℕ) → figure (decimal n) ≡ some n
+pub figure-back : (n : ℕ) → figure (decimal n) ≡ Some n
 unfolding decimal digits_from digits figure and_then only between
 figure-back zero = refl
 figure-back (suc n) =
@@ -74,19 +74,19 @@ figure-words f =
     (fields-word (decimal f.area) (text "arrival " ++ decimal f.arrival) (decimal-free 32 f.area (lit< tt))
     ∙ ap (λ (ps : List (List ℕ)). decimal f.area ∷ text "arrival" ∷ ps) (fields-last (decimal f.arrival) (decimal-free 32 f.arrival (lit< tt)))))
 
-line-figures : (f : Figures) → read_figure_words (fields (figures_line f)) ≡ some f
+line-figures : (f : Figures) → read_figure_words (fields (figures_line f)) ≡ Some f
 unfolding read_figure_words and_then only same text
 line-figures f = cc (figure-words f, figure-back f.gates, figure-back f.area, figure-back f.arrival)
 
 -- ---- behind the end
 
-behind-wires : (k : ℕ) (outs : List ℕ) (l : List ℕ) (more : List (List ℕ)) → behind_end (wire_bodies k outs ++ (text ".end" ∷ l ∷ more)) ≡ some l
+behind-wires : (k : ℕ) (outs : List ℕ) (l : List ℕ) (more : List (List ℕ)) → behind_end (wire_bodies k outs ++ (text ".end" ∷ l ∷ more)) ≡ Some l
 unfolding behind_end wire_bodies wire_body names_of same text
 behind-wires k [] l more = refl
 behind-wires k (o ∷ []) l more = refl
 behind-wires k (o ∷ p ∷ outs) l more = behind-wires (suc k) (p ∷ outs) l more
 
-behind-gates : (ts : List Gate) (outs : List ℕ) (l : List ℕ) (more : List (List ℕ)) → behind_end (map body_of ts ++ (wire_bodies 0 outs ++ (text ".end" ∷ l ∷ more))) ≡ some l
+behind-gates : (ts : List Gate) (outs : List ℕ) (l : List ℕ) (more : List (List ℕ)) → behind_end (map body_of ts ++ (wire_bodies 0 outs ++ (text ".end" ∷ l ∷ more))) ≡ Some l
 unfolding behind_end same text body_of body wire_bodies
 behind-gates [] outs l more = behind-wires 0 outs l more
 behind-gates (t ∷ []) [] l more = refl
@@ -95,14 +95,14 @@ behind-gates (t ∷ u ∷ ts) outs l more = behind-gates (u ∷ ts) outs l more
 
 -- the printed text says its figures, whatever follows them
 pub figures-back : (g : Graph) (ts : List Gate) (f : Figures) (after : List ℕ) → ((t : Gate) → Memᴰ t ts → T (is_name (name_of t.cell)))
-    → read_figures (netlist_text g ts f ++ after) ≡ some f
+    → read_figures (netlist_text g ts f ++ after) ≡ Some f
 unfolding read_figures lines_of names_of behind_end wire_bodies same text and_then
 figures-back g ts f after h =
     cc (text-lines g ts f after h, go ts g.outputs (behind-gates ts g.outputs (figures_line f) (parts 10 after)), line-figures f)
   where
     -- the first three lines are not the end, and a line follows each of them
-    go : (us : List Gate) (outs : List ℕ) → behind_end (map body_of us ++ (wire_bodies 0 outs ++ (text ".end" ∷ figures_line f ∷ parts 10 after))) ≡ some (figures_line f)
-        → behind_end (text ".model top" ∷ names_of (text ".inputs") (input_names g) ∷ names_of (text ".outputs") (output_names g) ∷ map body_of us ++ (wire_bodies 0 outs ++ (text ".end" ∷ figures_line f ∷ parts 10 after))) ≡ some (figures_line f)
+    go : (us : List Gate) (outs : List ℕ) → behind_end (map body_of us ++ (wire_bodies 0 outs ++ (text ".end" ∷ figures_line f ∷ parts 10 after))) ≡ Some (figures_line f)
+        → behind_end (text ".model top" ∷ names_of (text ".inputs") (input_names g) ∷ names_of (text ".outputs") (output_names g) ∷ map body_of us ++ (wire_bodies 0 outs ++ (text ".end" ∷ figures_line f ∷ parts 10 after))) ≡ Some (figures_line f)
     go [] [] q = q
     go [] (o ∷ outs) q = q
     go (u ∷ us) outs q = q

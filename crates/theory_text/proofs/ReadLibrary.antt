@@ -1,5 +1,5 @@
 -- A library that is read fits: its cells are of the form, no name is repeated, and there are at most 32.
-use Rattle.base.specs.{ℕ, suc, ◌+◌, ◌-◌, ◌^◌, ◌≤◌, ◌<◌, arith, ◌≡◌, refl, sym, ap, subst, Bool, true, false, cond, not, ◌&&◌, ◌||◌, some}
+use Rattle.base.specs.{ℕ, suc, ◌+◌, ◌-◌, ◌^◌, ◌≤◌, ◌<◌, arith, ◌≡◌, refl, sym, ap, subst, Bool, true, false, cond, not, ◌&&◌, ◌||◌, Some}
 use Rattle.base.specs.{List, [], ◌∷◌, Memᴰ, Memᴰ-head, Memᴰ-tail, Memᴰ-not-nil, Memᴰ-append_left, Memᴰ-append_right, T}
 use Rattle.base.specs.{eqb, leb, ltb, ltb→lt, lit≤, T_not, not_T, length, get_or, take, drop, replicate, length-drop, length-take}
 use Rattle.base.specs.{take-append-drop, take-append_seam, and_yes, yes_and, eqb_yes, yes_eqb, leb_yes, yes_leb}
@@ -45,7 +45,7 @@ pub record Written (c : Cell) : Type 0 where
   pub four_mins : length c.mins ≡ 4
   pub mins : (d : ℕ) → Memᴰ d c.mins → d ≤ 65535
 
-made-written : (ranged : Bool) (ws : List (List ℕ)) (ns : List ℕ) (table : ℕ) → length ws ≡ cond ranged 12 8 → T (is_name (get_or ws 0 [])) → numbers (get_or ws 1 [] ∷ drop 3 ws) ≡ some ns → T (leb (get_or ns 0 0) 4)
+made-written : (ranged : Bool) (ws : List (List ℕ)) (ns : List ℕ) (table : ℕ) → length ws ≡ cond ranged 12 8 → T (is_name (get_or ws 0 [])) → numbers (get_or ws 1 [] ∷ drop 3 ws) ≡ Some ns → T (leb (get_or ns 0 0) 4)
     → Written (made ranged ws ns table)
 made-written ranged ws ns table eight named read few =
     let front : (k : ℕ) (xs : List ℕ) (d : ℕ) → Memᴰ d (take k xs) → Memᴰ d xs = λ k xs d m. subst
@@ -78,7 +78,7 @@ made-written ranged ws ns table eight named read few =
     mins-four true e = omega (arith, length-drop 6 ns)
     mins-four false e = omega (arith, length-drop 2 ns)
 
-line-written : (ranged : Bool) (l : Line) (c : Cell) → cell_of_line ranged l ≡ some c → Written c
+line-written : (ranged : Bool) (l : Line) (c : Cell) → cell_of_line ranged l ≡ Some c → Written c
 unfolding cell_of_line
 line-written ranged l c e = let o = then_out (only (ended l) (fields l.bytes)) (cell_of_fields ranged) c e in unfold cell_of_fields in
     let a = then_out (only (eqb (length o.0) (cond ranged 12 8) && is_name (get_or o.0 0 [])) o.0) (λ _.

@@ -1,5 +1,5 @@
 -- The `# timing` lines behind the printed netlist say the arrivals that were printed.
-use Rattle.base.specs.{ℕ, suc, ◌<◌, ◌≡◌, refl, sym, ◌∙◌, ap, some, List, [], ◌∷◌, ◌++◌, map, Memᴰ, append_assoc, arith, T, lit<}
+use Rattle.base.specs.{ℕ, suc, ◌<◌, ◌≡◌, refl, sym, ◌∙◌, ap, Some, List, [], ◌∷◌, ◌++◌, map, Memᴰ, append_assoc, arith, T, lit<}
 use Rattle.model.specs.{same, and_then, only, text, decimal, parts, fields, split, onto, is_name, name_of, Gate, out_name, netlist_text}
 use Rattle.model.specs.{timing_lines, TimingLine, read_timing_words, read_timing_lines, behind_figures, read_timings}
 use Rattle.model.specs.Graph.{Graph}
@@ -38,7 +38,7 @@ timing-words k low high = ap (λ (ps : List (List ℕ)). text "#" ∷ text "timi
 abbrev saying_of : ℕ → ℕ → ℕ → TimingLine
 saying_of k low high = record { output = out_name k; low = low; high = high }
 
-timing_said : (k low high : ℕ) → read_timing_words (fields (timing_body k low high)) ≡ some (saying_of k low high)
+timing_said : (k low high : ℕ) → read_timing_words (fields (timing_body k low high)) ≡ Some (saying_of k low high)
 unfolding read_timing_words and_then only same text
 timing_said k low high = cc (timing-words k low high, figure-back low, figure-back high)
 
@@ -63,7 +63,7 @@ module _ (low high : ℕ → ℕ) where
       ap (parts 10) ended ∙ parts-line 10 (timing_body k (low l) (high l)) (timing_lines low high (suc k) ls) (timing-free k (low l) (high l))
       ∙ ap (λ (ps : List (List ℕ)). timing_body k (low l) (high l) ∷ ps) (timing-lines (suc k) ls)
 
-  lines_said : (k : ℕ) (ls : List ℕ) → read_timing_lines (bodies k ls) ≡ some (timings_from k ls)
+  lines_said : (k : ℕ) (ls : List ℕ) → read_timing_lines (bodies k ls) ≡ Some (timings_from k ls)
   unfolding read_timing_lines bodies timings_from and_then
   lines_said k [] = refl
   lines_said k (l ∷ ls) = cc (timing_said k (low l) (high l), lines_said (suc k) ls)
@@ -99,11 +99,11 @@ behind-back g ts f after h =
 
 -- the printed text says its timing lines
 pub timings-back : (g : Graph) (ts : List Gate) (f : Figures) (low high : ℕ → ℕ) → ((t : Gate) → Memᴰ t ts → T (is_name (name_of t.cell)))
-    → read_timings (netlist_text g ts f ++ timing_lines low high 0 g.outputs) ≡ some (timings_from low high 0 g.outputs)
+    → read_timings (netlist_text g ts f ++ timing_lines low high 0 g.outputs) ≡ Some (timings_from low high 0 g.outputs)
 timings-back g ts f low high h =
     behind-back g ts f (timing_lines low high 0 g.outputs) h ∙ ap read_timing_lines (timing-lines low high 0 g.outputs) ∙ lines_said low high 0 g.outputs
 
 -- without them it says none
-pub timings-none : (g : Graph) (ts : List Gate) (f : Figures) → ((t : Gate) → Memᴰ t ts → T (is_name (name_of t.cell))) → read_timings (netlist_text g ts f ++ []) ≡ some []
+pub timings-none : (g : Graph) (ts : List Gate) (f : Figures) → ((t : Gate) → Memᴰ t ts → T (is_name (name_of t.cell))) → read_timings (netlist_text g ts f ++ []) ≡ Some []
 unfolding read_timing_lines parts
 timings-none g ts f h = behind-back g ts f [] h

@@ -3,4 +3,4 @@ use Rattle.arraymap.proofs.AnswerValues.{verdict-values}
 use Rattle.arraymap.proofs.arraymap_count.Goals as goal
 
 pub returns : goal.returns
-returns c = let r = c.count in record { outcome = r.result; values = verdict-values r.result _ c.verdict_answer.ensures; count = r.ensures }
+returns c = let r = c.count in record { outcome = r.result; values = verdict-values r.result _ c.into.ensures; count = r.ensures }

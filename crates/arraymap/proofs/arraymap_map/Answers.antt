@@ -7,4 +7,4 @@ pub returns : goal.returns
 returns c =
     let e = c.map_texts.ensures in
     let m = e.memory in
-    record { answers = c.answer.ensures ∙ ap answered m.returns; words = m.words; bytes = m.bytes; promised = e.promised }
+    record { answers = c.into.ensures ∙ ap answered m.returns; words = m.words; bytes = m.bytes; promised = e.promised }

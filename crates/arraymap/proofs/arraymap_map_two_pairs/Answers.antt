@@ -8,8 +8,8 @@ returns c =
     let e = c.map_two.ensures in
     let m = e.memory in
     record {
-      first = c.answers.ensures.0 ∙ ap answered m.returns_first;
-      second = c.answers.ensures.1 ∙ ap answered m.returns_second;
+      first = c.into.ensures.0 ∙ ap answered m.returns_first;
+      second = c.into.ensures.1 ∙ ap answered m.returns_second;
       words = m.words;
       bytes1 = m.first_bytes;
       bytes2 = m.second_bytes;

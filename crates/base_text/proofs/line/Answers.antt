@@ -1,5 +1,7 @@
 -- `base_text::line` meets its contract. The invariant: the line from here on stops where that from the start does; the measure is what is left of the text.
-use Rattle.base.specs.{refl, sym, ap, ◌∙◌, ℕ, ◌+◌, arith}
+use Rattle.base.specs.{List, sym, ap, ◌∙◌, ℕ, ◌+◌, arith}
+use Rattle.base_text.specs.{span_at}
+use Rattle.base_text.proofs.SearchEnds.{search_ends}
 use Rattle.base_text.proofs.TextWords.{end_fits}
 use Rattle.base_text.proofs.Spans.{span_stop, span_out, span-step}
 use Rattle.base_text.proofs.line.Goals as goal
@@ -20,7 +22,6 @@ loop-at-preserved c =
     c.loop-at.invariant ∙ span-step c.args.s.now c.loop-at.at c.loop-at-test.true (sym c.ends_at-n.ensures ∙ c.if-n-ne0.false)
 
 pub returns : goal.returns
-returns c = sym (c.loop-at.invariant ∙ span_out _ _ c.loop-at-test.false)
-
-pub loop-at-init : goal.loop-at-init
-loop-at-init c = refl
+returns c =
+    let s : List ℕ = c.args.s.now in
+    sym (search_ends (span_at s) (λ e. record { stop = e; next = e }) _ _ _ (λ k h. span_out s k h) c.loop-at.invariant c.loop-at.auto.at-end c.loop-at-test.false _ c.max-end.ensures)

@@ -1,6 +1,7 @@
 -- `base_text::span_end` meets its contract. The invariant: from here on the bytes pass up to where they do from the start; the measure is what is left.
 use Rattle.base.specs.{refl, sym, ◌∙◌}
-use Rattle.base_text.specs.{in_class}
+use Rattle.base_text.specs.{in_class, span_end}
+use Rattle.base_text.proofs.SearchEnds.{search_ends}
 use Rattle.base_text.proofs.ByteClassLaws.{class_stop, class_step, class_out}
 use Rattle.base_text.proofs.span_end.Goals as goal
 
@@ -17,7 +18,5 @@ loop-at-preserved c =
 pub returns : goal.returns
 returns c =
     let a = c.args in
-    sym (c.loop-at.invariant ∙ class_out (in_class a.class) a.w.now _ c.loop-at-test.false)
-
-pub loop-at-init : goal.loop-at-init
-loop-at-init c = refl
+    let p = in_class a.class in
+    c.max.ensures ∙ sym (search_ends (span_end p a.w.now) (λ e. e) _ _ _ (λ k h. class_out p a.w.now k h) c.loop-at.invariant c.loop-at.auto.at-end c.loop-at-test.false _ refl)

@@ -1,4 +1,4 @@
--- `base_truth::pair_table` meets its contract. The invariant: t has the rows from r on. The measure is r.
+-- `base_truth::pair_table` meets its contract. The invariant: t has the rows from r on.
 use Rattle.base.specs.{◌≡◌, sym, ap, ◌∙◌, Bool, map, ℕ, ◌+◌, ◌-◌, ◌*◌, ◌%◌, ◌^◌, ◌≤◌, arith, pow_mono, shl_exact}
 use Rattle.model.specs.{one, bit, below, pair_pins, pair_value, pair_table}
 use Rattle.model.specs.declared.Cell.{Cell}
@@ -22,45 +22,31 @@ table_is root inner pin = rows_whole (2 ^ (root.pins + inner.pins - 1)) (λ r. p
 pub loop-r-init : goal.loop-r-init
 loop-r-init c =
     let a = c.args in let e = rows_are a.root a.inner c.requires.2 in
-    (omega (arith, e), sym (ap (rows_from (rows a.root a.inner) (at_row a.root a.pin a.inner)) e ∙ rows_none (rows a.root a.inner) (at_row a.root a.pin a.inner)))
+    (sym (ap (rows_from (rows a.root a.inner) (at_row a.root a.pin a.inner)) e ∙ rows_none (rows a.root a.inner) (at_row a.root a.pin a.inner)))
 
 pub pair_value-requires : goal.pair_value-requires
 pair_value-requires c =
     let few = rows_few c.args.root c.args.inner c.requires.2 in
-    (omega (arith, c.requires.0, c.requires.1, c.requires.2), c.requires.1, omega (arith, c.requires.0, c.requires.2), omega (arith, few, c.loop-r.invariant.0, c.loop-r-test.true))
+    (omega (arith, c.requires.0, c.requires.1, c.requires.2), c.requires.1, omega (arith, c.requires.0, c.requires.2), omega (arith, few, rows_are c.args.root c.args.inner c.requires.2, c.loop-r-test.true))
 
 pub with_row-t-requires : goal.with_row-t-requires
 with_row-t-requires c =
     let l = c.loop-r in
-    omega (arith, rows-small (rows c.args.root c.args.inner) (at_row c.args.root c.args.pin c.args.inner) l.r (rows_few c.args.root c.args.inner c.requires.2) (omega (arith, c.loop-r-test.true)), l.invariant.1)
+    omega (arith, rows-small (rows c.args.root c.args.inner) (at_row c.args.root c.args.pin c.args.inner) l.r (rows_few c.args.root c.args.inner c.requires.2) (omega (arith, c.loop-r-test.true)), l.invariant)
 
 pub loop-r-preserved : goal.loop-r-preserved
 unfolding at_row rows pair_pins
 loop-r-preserved c =
     let a = c.args in let l = c.loop-r in
     let taken = c.loop-r-test.true in let few = rows_few a.root a.inner c.requires.2 in
+    let at_most : l.r ≤ 2 ^ (a.root.pins + a.inner.pins - 1) = omega (arith, rows_are a.root a.inner c.requires.2) in
     let f : ℕ → Bool = at_row a.root a.pin a.inner in
     let now : c.with_row-t.result ≡ one (f (l.r - 1)) + 2 * l.t =
     c.with_row-t.ensures ∙ ap (λ (q : Bool). one q + 2 * l.t) (c.pair_value.ensures
-    ∙ sym (pair_row a.root a.inner a.pin (l.r - 1) c.requires.0 c.requires.1 c.requires.2 (omega (arith, l.invariant.0, taken)) (omega (arith, few, l.invariant.0, taken)))) in
-    (omega (arith, l.invariant.0), now ∙ down (rows a.root a.inner) f l.r l.t (omega (arith, taken)) l.invariant.0 l.invariant.1)
+    ∙ sym (pair_row a.root a.inner a.pin (l.r - 1) c.requires.0 c.requires.1 c.requires.2 (omega (arith, at_most, taken)) (omega (arith, few, at_most, taken)))) in
+    now ∙ down (rows a.root a.inner) f l.r l.t taken at_most l.invariant
 
 pub returns : goal.returns
 returns c =
     let a = c.args in let none : c.loop-r.r ≡ 0 = omega (arith, c.loop-r-test.false) in
-    c.loop-r.invariant.1 ∙ ap (rows_from (rows a.root a.inner) (at_row a.root a.pin a.inner)) none ∙ table_is a.root a.inner a.pin
-
-pub overflow_add-r : goal.overflow_add-r
-overflow_add-r c = omega (arith, c.requires.2)
-
-pub overflow_sub-r : goal.overflow_sub-r
-overflow_sub-r c = omega (arith, c.requires.1)
-
-pub overflow_shl-r : goal.overflow_shl-r
-overflow_shl-r c = omega (arith, c.requires.2)
-
-pub overflow_sub-r-in-loop-r : goal.overflow_sub-r-in-loop-r
-overflow_sub-r-in-loop-r c = omega arith
-
-pub loop-r-smaller : goal.loop-r-smaller
-loop-r-smaller c = omega arith
+    c.loop-r.invariant ∙ ap (rows_from (rows a.root a.inner) (at_row a.root a.pin a.inner)) none ∙ table_is a.root a.inner a.pin

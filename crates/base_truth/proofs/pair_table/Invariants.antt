@@ -1,5 +1,5 @@
--- `base_truth::pair_table` meets its contract. The invariant: t has the rows from r on. The measure is r.
-use Rattle.base.specs.{◌≡◌, Bool, map, ℕ, ◌+◌, ◌-◌, ◌^◌, ◌≤◌}
+-- `base_truth::pair_table` meets its contract. The invariant: t has the rows from r on.
+use Rattle.base.specs.{◌≡◌, Bool, map, ℕ, ◌+◌, ◌-◌, ◌^◌}
 use Rattle.model.specs.{bit, below, pair_pins, pair_value}
 use Rattle.model.specs.declared.Cell.{Cell}
 use Rattle.base_truth.proofs.RowDescent.{rows_from}
@@ -13,7 +13,4 @@ unfoldable pub rows : Cell → Cell → ℕ
 rows root inner = 2 ^ (root.pins + inner.pins - 1)
 
 abbrev pub invariant-loop-r : goal.invariant-loop-r
-invariant-loop-r l = (l.r ≤ rows l.root l.inner) × (l.t ≡ rows_from (rows l.root l.inner) (at_row l.root l.pin l.inner) l.r)
-
-abbrev pub decreases-loop-r : goal.decreases-loop-r
-decreases-loop-r l = l.r
+invariant-loop-r l = l.t ≡ rows_from (rows l.root l.inner) (at_row l.root l.pin l.inner) l.r

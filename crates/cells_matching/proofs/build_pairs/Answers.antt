@@ -1,4 +1,4 @@
--- `cells_matching::build_pairs` meets its contract. The invariant: the pairs from number n + i on are matched. The measure is i.
+-- `cells_matching::build_pairs` meets its contract. The invariant: the pairs from number n + i on are matched.
 use Rattle.base.specs.{◌≡◌, ap, ◌∙◌, List, ℕ, ◌+◌, ◌-◌, arith, length, drop}
 use Rattle.model.specs.{cell_at, cells_of}
 use Rattle.model.specs.declared.Cell.{Cell}
@@ -12,17 +12,14 @@ use Rattle.cells_matching.proofs.build_pairs.Goals as goal
 pub loop-i-init : goal.loop-i-init
 loop-i-init c =
     let a = c.args in
-    (omega arith, listed-none (cells_by (cells_of a.lib) a.ids.now) (a.lib.n + length a.ids.now) a.matches.now (omega (arith, by_length (cells_of a.lib) a.ids.now, c.requires.0.joinable.whole)))
-
-pub overflow_add-n : goal.overflow_add-n
-overflow_add-n c = omega (arith, c.requires.0.few, c.loop-i.invariant.0)
+    listed-none (cells_by (cells_of a.lib) a.ids.now) (a.lib.n + length a.ids.now) a.matches.now (omega (arith, by_length (cells_of a.lib) a.ids.now, c.requires.0.joinable.whole))
 
 pub match_pair-requires : goal.match_pair-requires
 match_pair-requires c =
     let a = c.args in
     let l = c.loop-i in
     let t = c.loop-i-test.true in
-    (c.requires.0, omega (arith, l.invariant.0, t), omega (arith, c.requires.1, l.invariant.0, t, ap length l.invariant.1 ∙ list_long (drop (a.lib.n + l.i) (cells_by (cells_of a.lib) a.ids.now)) (a.lib.n + l.i) a.matches.now))
+    (c.requires.0, omega (arith, t), omega (arith, c.requires.1, t, ap length l.invariant ∙ list_long (drop (a.lib.n + l.i) (cells_by (cells_of a.lib) a.ids.now)) (a.lib.n + l.i) a.matches.now))
 
 pub loop-i-preserved : goal.loop-i-preserved
 loop-i-preserved c =
@@ -30,28 +27,20 @@ loop-i-preserved c =
     let l = c.loop-i in
     let t = c.loop-i-test.true in
     let k : ℕ = a.lib.n + (l.i - 1) in
-    let cells : List Cell = cells_by (cells_of a.lib) a.ids.now in (
-      omega (arith, l.invariant.0),
-      c.match_pair.ensures
-          ∙ ap (cell_matched (cell_at cells k) k) l.invariant.1
-          ∙ pairs-down cells a.lib.n l.i a.matches.now t (omega (arith, by_length (cells_of a.lib) a.ids.now, c.requires.0.joinable.whole, l.invariant.0)),
-    )
+    let cells : List Cell = cells_by (cells_of a.lib) a.ids.now in
+    c.match_pair.ensures
+    ∙ ap (cell_matched (cell_at cells k) k) l.invariant
+    ∙ pairs-down cells a.lib.n l.i a.matches.now t (omega (arith, by_length (cells_of a.lib) a.ids.now, c.requires.0.joinable.whole))
 
 pub shape_of-matches : goal.shape_of-matches
 shape_of-matches c =
     let a = c.args in
     let l = c.loop-i in
-    ap length l.invariant.1 ∙ list_long (drop (a.lib.n + l.i) (cells_by (cells_of a.lib) a.ids.now)) (a.lib.n + l.i) a.matches.now
+    ap length l.invariant ∙ list_long (drop (a.lib.n + l.i) (cells_by (cells_of a.lib) a.ids.now)) (a.lib.n + l.i) a.matches.now
 
 pub returns : goal.returns
 returns c =
     let a = c.args in
     let l = c.loop-i in
     let e : a.lib.n + l.i ≡ a.lib.n = omega (arith, c.loop-i-test.false) in
-    l.invariant.1 ∙ ap (λ (m : ℕ). list_matched (drop m (cells_by (cells_of a.lib) a.ids.now)) m a.matches.now) e
-
-pub overflow_sub-i : goal.overflow_sub-i
-overflow_sub-i c = omega arith
-
-pub loop-i-smaller : goal.loop-i-smaller
-loop-i-smaller c = omega arith
+    l.invariant ∙ ap (λ (m : ℕ). list_matched (drop m (cells_by (cells_of a.lib) a.ids.now)) m a.matches.now) e

@@ -3,4 +3,4 @@ use Rattle.base.specs.{ℕ, arith, length-replicate, get_or-replicate}
 use Rattle.cells_matching.proofs.empty_match_table.Goals as goal
 
 pub returns : goal.returns
-returns c = record { long = omega (arith, length-replicate {A = ℕ} 91136 0); empty = λ i h. get_or-replicate {A = ℕ} 91136 i 0 0 (omega arith) }
+returns g c = λ n h. record { long = omega (arith, h, length-replicate {A = ℕ} g.row.N 0); empty = λ i l. get_or-replicate {A = ℕ} g.row.N i 0 0 (omega arith) }

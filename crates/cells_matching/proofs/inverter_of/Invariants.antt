@@ -1,11 +1,7 @@
--- `cells_matching::inverter_of` meets its contract. The invariant: with the cells from i on, the best so far leads to the answer. The measure is the
--- number of cells left.
-use Rattle.base.specs.{◌-◌, ◌≤◌, ◌≡◌, take, drop}
+-- `cells_matching::inverter_of` meets its contract. The invariant: with the cells from a line on, the best so far leads to the answer.
+use Rattle.base.specs.{◌≡◌, drop}
 use Rattle.cells_matching.specs.{inverter_from, inverter_of}
 use Rattle.cells_matching.proofs.inverter_of.Given as goal
 
-abbrev pub invariant-loop-i : goal.invariant-loop-i
-invariant-loop-i l = (l.i ≤ l.n) × (inverter_from l.best (drop l.i (take l.n l.cells)) l.i ≡ inverter_of (take l.n l.cells))
-
-abbrev pub decreases-loop-i : goal.decreases-loop-i
-decreases-loop-i l = l.n - l.i
+abbrev pub invariant-loop-line : goal.invariant-loop-line
+invariant-loop-line l = inverter_from l.best (drop l.line l.c-items) l.line ≡ inverter_of l.c-items

@@ -5,4 +5,4 @@ use Rattle.cells_matching.proofs.is_listed.Goals as goal
 
 pub returns : goal.returns
 unfolding is_listed
-returns c = refl
+returns c = rw c.from.ensures refl

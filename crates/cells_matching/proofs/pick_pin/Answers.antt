@@ -10,12 +10,12 @@ pub overflow_mul-result : goal.overflow_mul-result
 overflow_mul-result c =
     omega (arith, c.place.ensures, place-small c.args.order c.args.j c.requires.0 c.requires.1)
 
-pub returns-then-j-pins : goal.returns-then-j-pins
-returns-then-j-pins c =
+pub returns-then-j-from : goal.returns-then-j-from
+returns-then-j-from c =
     let a = c.args in
     let e : 2 * c.place.result ≡ pick_pin a.pins (places_of a.order) 0 a.j =
-    ap (λ (p : ℕ). 2 * p) c.place.ensures ∙ pick_first a.pins (places_of a.order) a.j c.if-j-pins.true c.requires.1 in
+    ap (λ (p : ℕ). 2 * p) c.place.ensures ∙ pick_first a.pins (places_of a.order) a.j (omega (arith, c.if-j-from.true, c.from.ensures)) c.requires.1 in
     (e, omega (arith, e, pick_small a.pins a.order 0 a.j c.requires.0 c.requires.1))
 
-pub returns-else-j-pins : goal.returns-else-j-pins
-returns-else-j-pins c = let a = c.args in (pick_absent a.pins (places_of a.order) 0 a.j c.if-j-pins.false, omega arith)
+pub returns-else-j-from : goal.returns-else-j-from
+returns-else-j-from c = let a = c.args in (pick_absent a.pins (places_of a.order) 0 a.j (omega (arith, c.if-j-from.false, c.from.ensures)), omega arith)

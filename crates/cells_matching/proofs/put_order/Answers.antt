@@ -1,41 +1,20 @@
--- `cells_matching::put_order` meets its contract. The invariant: the variants of the order from a mask on are on the match table. The measure is the mask.
-use Rattle.base.specs.{◌≡◌, ap, ◌∙◌, ℕ, ◌+◌, ◌-◌, ◌*◌, ◌%◌, ◌^◌, add-zero, arith, length, pow_mono}
+-- `cells_matching::put_order` meets its contract. The invariant: the variants of the order from a mask on are on the match table.
+use Rattle.base.specs.{◌≡◌, ap, ◌∙◌, ℕ, ◌+◌, ◌-◌, ◌*◌, ◌%◌, ◌^◌, ◌≤◌, add-zero, arith, length, pow_mono}
 use Rattle.base_truth.proofs.{power}
 use Rattle.cells_matching.specs.{passed}
 use Rattle.cells_matching.proofs.BucketLinks.{passed-long}
 use Rattle.cells_matching.proofs.VariantStores.{order-begun, order-next}
 use Rattle.cells_matching.proofs.put_order.Goals as goal
 
-pub first_table-first-requires : goal.first_table-first-requires
-first_table-first-requires c = (c.requires.0, c.requires.2)
-
-pub first_word-word-requires : goal.first_word-word-requires
-first_word-word-requires c = (c.requires.1, c.requires.2)
-
-pub overflow_mul-x : goal.overflow_mul-x
-overflow_mul-x c = omega (arith, c.requires.1)
-
-pub overflow_mul-x-2 : goal.overflow_mul-x-2
-overflow_mul-x-2 c = omega (arith, c.requires.2)
-
-pub overflow_add-x : goal.overflow_add-x
-overflow_add-x c = omega (arith, c.requires.1, c.requires.2)
-
-pub overflow_shl-mask : goal.overflow_shl-mask
-overflow_shl-mask c = omega (arith, c.requires.0)
-
 pub loop-mask-init : goal.loop-mask-init
 loop-mask-init c =
     let a = c.args in
     let e = power a.pins c.requires.0 in
-    (omega (arith, e), order-begun a.pins a.table a.line a.order c.requires.0 c.requires.2 a.matches.now (1 * 2 ^ a.pins % 2 ^ 64) e)
-
-pub overflow_sub-mask : goal.overflow_sub-mask
-overflow_sub-mask c = omega (arith, c.loop-mask-test.true)
+    order-begun a.pins a.table a.line a.order c.requires.0 c.requires.2 a.matches.now (1 * 2 ^ a.pins % 2 ^ 64) e
 
 pub overflow_add-x-in-loop-mask : goal.overflow_add-x-in-loop-mask
 overflow_add-x-in-loop-mask c =
-    omega (arith, c.requires.1, c.requires.2, c.loop-mask.invariant.0, pow_mono {i = c.args.pins} {j = 4} c.requires.0)
+    omega (arith, c.requires.1, c.requires.2, power c.args.pins c.requires.0, pow_mono {i = c.args.pins} {j = 4} c.requires.0)
 
 pub put-requires : goal.put-requires
 put-requires c =
@@ -43,39 +22,36 @@ put-requires c =
     let l = c.loop-mask in
     let t = c.loop-mask-test.true in
     let small = pow_mono {i = a.pins} {j = 4} c.requires.0 in
-    let same = ap length l.invariant.1 ∙ passed-long a.pins a.table (384 * a.line + 16 * a.order + l.mask) (16 - l.mask) a.matches.now in (
+    let e = power a.pins c.requires.0 in
+    let same = ap length l.invariant ∙ passed-long a.pins a.table (384 * a.line + 16 * a.order + l.mask) (16 - l.mask) a.matches.now in (
       c.requires.2,
-      omega (arith, l.invariant.0, t, small),
-      omega (arith, c.requires.1, c.requires.2, l.invariant.0, t, small),
-      omega (arith, c.requires.2, c.requires.4, l.invariant.0, t, small, same),
+      omega (arith, e, t, small),
+      omega (arith, c.requires.1, c.requires.2, e, t, small),
+      omega (arith, c.requires.2, c.requires.4, e, t, small, same),
       c.first_word-word.ensures.1,
     )
-
-pub loop-mask-smaller : goal.loop-mask-smaller
-loop-mask-smaller c = omega (arith, c.loop-mask-test.true)
 
 pub loop-mask-preserved : goal.loop-mask-preserved
 loop-mask-preserved c =
     let a = c.args in
     let l = c.loop-mask in
     let w = c.first_word-word in
-    let f = c.first_table-first in (
-      omega (arith, l.invariant.0),
-      c.put.ensures
-          ∙ order-next a.pins a.table a.line a.order c.requires.0 c.requires.2 a.matches.now c.requires.3 w.result w.ensures.0 f.result f.ensures l.mask l.matches c.loop-mask-test.true l.invariant.0 l.invariant.1,
-    )
+    let f = c.first_table-first in
+    let few : l.mask ≤ 2 ^ a.pins = omega (arith, power a.pins c.requires.0) in
+    c.put.ensures
+    ∙ order-next a.pins a.table a.line a.order c.requires.0 c.requires.2 a.matches.now c.requires.3 w.result w.ensures.0 f.result f.ensures l.mask l.matches c.loop-mask-test.true few l.invariant
 
 pub shape_of-matches : goal.shape_of-matches
 shape_of-matches c =
     let a = c.args in
     let l = c.loop-mask in
-    ap length l.invariant.1 ∙ passed-long a.pins a.table (384 * a.line + 16 * a.order + l.mask) (16 - l.mask) a.matches.now
+    ap length l.invariant ∙ passed-long a.pins a.table (384 * a.line + 16 * a.order + l.mask) (16 - l.mask) a.matches.now
 
 pub returns : goal.returns
 returns c =
     let a = c.args in
     let l = c.loop-mask in
     let z : l.mask ≡ 0 = omega (arith, c.loop-mask-test.false) in
-    l.invariant.1
+    l.invariant
     ∙ ap (λ (m : ℕ). passed a.pins a.table (384 * a.line + 16 * a.order + m) (16 - m) a.matches.now) z
     ∙ ap (λ (x : ℕ). passed a.pins a.table x 16 a.matches.now) (add-zero (384 * a.line + 16 * a.order))

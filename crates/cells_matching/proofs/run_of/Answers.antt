@@ -10,20 +10,17 @@ many (suc zero) h = absurd (omega arith)
 many (suc (suc zero)) h = absurd (omega arith)
 many (suc (suc (suc pins))) h = refl
 
-none : (pins : ℕ) → pins ≡ 0 → 24 ≡ run_of pins
+pub returns-in-0 : goal.returns-in-0
 unfolding run_of
-none pins e = sym (ap run_of e)
+returns-in-0 c = sym (ap run_of c.in-0.is)
 
-pub returns-then-pins-gt2 : goal.returns-then-pins-gt2
-returns-then-pins-gt2 c = many c.args.pins c.if-pins-gt2.true
-
-pub returns-then-pins-eq2 : goal.returns-then-pins-eq2
+pub returns-in-1 : goal.returns-in-1
 unfolding run_of
-returns-then-pins-eq2 c = sym (ap run_of c.if-pins-eq2.true)
+returns-in-1 c = sym (ap run_of c.in-1.is)
 
-pub returns-then-pins-eq1 : goal.returns-then-pins-eq1
+pub returns-in-2 : goal.returns-in-2
 unfolding run_of
-returns-then-pins-eq1 c = sym (ap run_of c.if-pins-eq1.true)
+returns-in-2 c = sym (ap run_of c.in-2.is)
 
-pub returns-else-pins-eq1 : goal.returns-else-pins-eq1
-returns-else-pins-eq1 c = none c.args.pins (omega (arith, c.if-pins-gt2.false, c.if-pins-eq2.false, c.if-pins-eq1.false))
+pub returns-in_default : goal.returns-in_default
+returns-in_default c = many c.args.pins (omega arith)

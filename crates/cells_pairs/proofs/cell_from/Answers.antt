@@ -8,10 +8,10 @@ unfolding cell_from
 returns c =
     λ i. record {
       name = c.name_from-name.ensures i;
-      len = c.byte.ensures.0 i;
-      pins = c.half.ensures.0 i;
+      len = c.from.ensures i;
+      pins = c.from-2.ensures i;
       table = 0;
-      area = c.half-2.ensures.0 i + 256 * c.half-3.ensures.0 i;
+      area = c.from-3.ensures i + 256 * c.from-4.ensures i;
       delays = replicate 4 0;
       mins = replicate 4 0;
     }

@@ -8,4 +8,4 @@ returns c =
     let a = c.args in
     four_are (pair_delays a.pin a.n a.ds a.es) _ _ _ _
     (join-four a.pin a.n a.ds a.es c.requires.0 c.requires.1 c.requires.2 c.well_formed.1.1.0.1.0.1 c.well_formed.1.1.1.0.1.0.1)
-    c.join_pin-a.ensures c.join_pin-b.ensures c.join_pin-c.ensures c.join_pin-d.ensures
+    c.join_pin.ensures c.join_pin-2.ensures c.join_pin-3.ensures c.join_pin-4.ensures

@@ -6,4 +6,4 @@ pub returns : goal.returns
 returns c =
     let first = ap (λ (k : ℕ). get_or c.args.records.now (1 + 12 * k + 2 * (c.args.k - k)) 0) c.count-n.ensures in
     let second = ap (λ (k : ℕ). get_or c.args.records.now (1 + 12 * k + 2 * (c.args.k - k) + 1) 0) c.count-n.ensures in
-    omega (arith, first, second, c.byte.ensures.0, c.byte-2.ensures.0)
+    omega (arith, first, second, c.from.ensures, c.from-2.ensures)

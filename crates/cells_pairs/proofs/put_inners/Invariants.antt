@@ -1,5 +1,5 @@
--- `cells_pairs::put_inners` meets its contract. The invariant: the numbers of the first j inner lines are written. The measure is the number of lines left.
-use Rattle.base.specs.{◌-◌, ◌≤◌, length, take}
+-- `cells_pairs::put_inners` meets its contract. The invariant: the numbers of the first j inner lines are written.
+use Rattle.base.specs.{◌-◌, length, take}
 use Rattle.model.specs.{from, below}
 use Rattle.base_text.proofs.{Partly}
 use Rattle.cells_pairs.specs.{inner_ids}
@@ -7,7 +7,4 @@ use Rattle.cells_pairs.proofs.put_inners.Given as goal
 
 abbrev pub invariant-loop-j : goal.invariant-loop-j
 invariant-loop-j l =
-    (l.j ≤ l.n) × Partly l.initial.ids l.ids l.at l.next (inner_ids (take l.n l.cells) l.i l.p (below (length (take l.n l.cells)))) (inner_ids (take l.n l.cells) l.i l.p (from l.j (l.n - l.j)))
-
-abbrev pub decreases-loop-j : goal.decreases-loop-j
-decreases-loop-j l = l.n - l.j
+    Partly l.initial.ids l.ids l.at l.next (inner_ids (take l.lib.n l.lib.cells) l.i l.p (below (length (take l.lib.n l.lib.cells)))) (inner_ids (take l.lib.n l.lib.cells) l.i l.p (from l.j (l.lib.n - l.j)))

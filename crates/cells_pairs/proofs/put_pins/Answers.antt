@@ -1,4 +1,4 @@
--- `cells_pairs::put_pins` meets its contract. The invariant: the numbers of the first p pins are written. The measure is the number of pins left.
+-- `cells_pairs::put_pins` meets its contract. The invariant: the numbers of the first p pins are written.
 use Rattle.base.specs.{ℕ, ◌+◌, ◌-◌, ◌<◌, arith, length}
 use Rattle.model.specs.{from, below, cells_of}
 use Rattle.base_text.proofs.{begin, step, capacity, kept, end}
@@ -10,7 +10,7 @@ pub loop-p-init : goal.loop-p-init
 unfolding pin_ids
 loop-p-init c =
     let a = c.args in
-    (omega arith, begin a.ids.now a.at (each_begin (λ (q : ℕ). inner_ids (cells_of a.lib) a.i q (below (length (cells_of a.lib)))) a.pins))
+    begin a.ids.now a.at (each_begin (λ (q : ℕ). inner_ids (cells_of a.lib) a.i q (below (length (cells_of a.lib)))) a.pins)
 
 pub put_inners-next-requires : goal.put_inners-next-requires
 unfolding pin_ids
@@ -21,7 +21,7 @@ put_inners-next-requires c =
       c.requires.0,
       c.requires.1,
       omega (arith, c.requires.2, h),
-      capacity c.requires.3 l.invariant.1 (inner_ids (cells_of a.lib) a.i l.p (below (length (cells_of a.lib))))
+      capacity c.requires.3 l.invariant (inner_ids (cells_of a.lib) a.i l.p (below (length (cells_of a.lib))))
           (pin_ids (cells_of a.lib) a.i (from (l.p + 1) (a.pins - (l.p + 1))))
           (each_next (λ (q : ℕ). inner_ids (cells_of a.lib) a.i q (below (length (cells_of a.lib)))) l.p a.pins h),
     )
@@ -32,22 +32,17 @@ loop-p-preserved c =
     let l = c.loop-p in
     let q = c.put_inners-next in
     let a = c.args in
-    let h : l.p < a.pins = c.loop-p-test.true in (
-      omega arith,
-      step c.requires.3 l.invariant.1 q.new.ids q.result
-          (inner_ids (cells_of a.lib) a.i l.p (below (length (cells_of a.lib)))) (pin_ids (cells_of a.lib) a.i (from (l.p + 1) (a.pins - (l.p + 1))))
-          (each_next (λ (q : ℕ). inner_ids (cells_of a.lib) a.i q (below (length (cells_of a.lib)))) l.p a.pins h) q.ensures,
-    )
+    let h : l.p < a.pins = c.loop-p-test.true in
+    step c.requires.3 l.invariant q.new.ids q.result
+    (inner_ids (cells_of a.lib) a.i l.p (below (length (cells_of a.lib)))) (pin_ids (cells_of a.lib) a.i (from (l.p + 1) (a.pins - (l.p + 1))))
+    (each_next (λ (q : ℕ). inner_ids (cells_of a.lib) a.i q (below (length (cells_of a.lib)))) l.p a.pins h) q.ensures
 
 pub shape_of-ids : goal.shape_of-ids
-shape_of-ids c = kept c.requires.3 c.loop-p.invariant.1
+shape_of-ids c = kept c.requires.3 c.loop-p.invariant
 
 pub returns : goal.returns
 unfolding pin_ids
 returns c =
     let a = c.args in
-    end c.requires.3 c.loop-p.invariant.1 (each_none (λ (q : ℕ). inner_ids (cells_of a.lib) a.i q (below (length (cells_of a.lib)))) c.loop-p.p a.pins
+    end c.requires.3 c.loop-p.invariant (each_none (λ (q : ℕ). inner_ids (cells_of a.lib) a.i q (below (length (cells_of a.lib)))) c.loop-p.p a.pins
     c.loop-p-test.false)
-
-pub loop-p-smaller : goal.loop-p-smaller
-loop-p-smaller c = omega arith

@@ -1,8 +1,8 @@
 -- `cells_reader::cells` meets its contract. The invariant: the cells so far and what the lines from here on give are what the text gives, and the library holds its cells and nothing else; the measure is the room that is left.
+use Rattle.std.specs.Prelude.{Ok}
 use Rattle.base.specs.{sym, ap, ◌∙◌, subst, arith, length}
 use Rattle.model.specs.{library_of, library_answer}
 use Rattle.model.specs.declared.Library.{Library}
-use Rattle.model.specs.declared.Verdict.TheVariants.{Accepted}
 use Rattle.cells_reader.proofs.CellLineSteps.{so_far, so_far-first, so_far_last, so_far_stop, so_far-added, added-capacity, added-length, Tidy}
 use Rattle.cells_reader.proofs.CellLineSteps.{tidy_first, tidy_added, validated-cell, part-from, part_to, part-short}
 use Rattle.cells_reader.proofs.cells.Goals as goal
@@ -18,39 +18,40 @@ loop-at-init c =
     )
 
 pub slice_bounds-cell_of-count : goal.slice_bounds-cell_of-count
-slice_bounds-cell_of-count c = omega (arith, part-from _ _ _ _ _ _ (validated-cell _ _ _ _ _ _ _ (sym c.validate.ensures ∙ c.in-Cell.is)).1)
+slice_bounds-cell_of-count c = omega (arith, part-from _ _ _ _ (validated-cell _ _ _ _ _ (sym c.in-Ok.ensures)).1)
 
 pub slice_bounds-cell_of-start : goal.slice_bounds-cell_of-start
-slice_bounds-cell_of-start c = omega (arith, part-from _ _ _ _ _ _ (validated-cell _ _ _ _ _ _ _ (sym c.validate.ensures ∙ c.in-Cell.is)).1)
+slice_bounds-cell_of-start c = omega (arith, part-from _ _ _ _ (validated-cell _ _ _ _ _ (sym c.in-Ok.ensures)).1)
 
 pub slice_bounds-cell_of-end : goal.slice_bounds-cell_of-end
-slice_bounds-cell_of-end c = omega (arith, part_to _ _ _ _ _ _ (validated-cell _ _ _ _ _ _ _ (sym c.validate.ensures ∙ c.in-Cell.is)).1 (omega arith))
+slice_bounds-cell_of-end c = omega (arith, part_to _ _ _ _ (validated-cell _ _ _ _ _ (sym c.in-Ok.ensures)).1 (omega arith))
 
 pub cell_of-c-requires : goal.cell_of-c-requires
-cell_of-c-requires c = part-short _ _ _ _ _ _ (validated-cell _ _ _ _ _ _ _ (sym c.validate.ensures ∙ c.in-Cell.is)).1
+cell_of-c-requires c = part-short _ _ _ _ (validated-cell _ _ _ _ _ (sym c.in-Ok.ensures)).1
 
 pub add-library-requires : goal.add-library-requires
-add-library-requires c = (validated-cell _ _ _ _ _ _ _ (sym c.validate.ensures ∙ c.in-Cell.is)).0
+add-library-requires c = (validated-cell _ _ _ _ _ (sym c.in-Ok.ensures)).0
 
 pub loop-at-smaller : goal.loop-at-smaller
-loop-at-smaller c = omega (arith, ap (λ (l : Library). l.n) c.add-library.ensures, (validated-cell _ _ _ _ _ _ _ (sym c.validate.ensures ∙ c.in-Cell.is)).0)
+loop-at-smaller c = omega (arith, ap (λ (l : Library). l.n) c.add-library.ensures, (validated-cell _ _ _ _ _ (sym c.in-Ok.ensures)).0)
 
 pub loop-at-preserved : goal.loop-at-preserved
 loop-at-preserved c =
-    let j = sym c.validate.ensures ∙ c.in-Cell.is in (
-      added-capacity c.loop-at.library c.cell_of-c.result c.add-library.result (validated-cell _ _ _ _ _ _ _ j).0 c.add-library.ensures,
+    let j = sym c.in-Ok.ensures in (
+      added-capacity c.loop-at.library c.cell_of-c.result c.add-library.result (validated-cell _ _ _ _ _ j).0 c.add-library.ensures,
       added-length c.loop-at.library c.cell_of-c.result c.add-library.result c.loop-at.invariant.1 c.add-library.ensures,
-      c.loop-at.invariant.2 ∙ so_far-added _ c.loop-at.library _ _ _ _ _ c.cell_of-c.result c.add-library.result c.loop-at-test.true c.loop-at.invariant.1 j c.cell_of-c.ensures c.add-library.ensures,
-      tidy_added c.loop-at.library c.cell_of-c.result c.add-library.result c.loop-at.invariant.3 (validated-cell _ _ _ _ _ _ _ j).0 c.loop-at.invariant.1 c.add-library.ensures,
+      c.loop-at.invariant.2 ∙ so_far-added _ c.loop-at.library _ _ _ c.cell_of-c.result c.add-library.result c.loop-at-test.true c.loop-at.invariant.1 j c.cell_of-c.ensures c.add-library.ensures,
+      tidy_added c.loop-at.library c.cell_of-c.result c.add-library.result c.loop-at.invariant.3 (validated-cell _ _ _ _ _ j).0 c.loop-at.invariant.1 c.add-library.ensures,
     )
 
-pub returns-in-Refused : goal.returns-in-Refused
-returns-in-Refused c =
-    let e = c.loop-at.invariant.2 ∙ so_far_stop _ _ _ _ _ c.loop-at-test.true (sym c.validate.ensures ∙ c.in-Refused.is) in
-    c.refused.ensures ∙ sym (ap library_answer e)
+pub returns-in-Err : goal.returns-in-Err
+unfolding library_answer
+returns-in-Err c =
+    let e = c.loop-at.invariant.2 ∙ so_far_stop _ _ _ _ _ c.loop-at-test.true (sym c.in-Err.ensures) in
+    sym (ap library_answer e)
 
 pub returns : goal.returns
 unfolding library_answer
 returns c =
     let e = c.loop-at.invariant.2 ∙ so_far_last _ _ _ _ c.loop-at-test.false in
-    ap (λ (l : Library). record { verdict = Accepted; library = l }) c.loop-at.invariant.3 ∙ sym (ap library_answer e)
+    ap (λ (l : Library). Ok l) c.loop-at.invariant.3 ∙ sym (ap library_answer e)

@@ -22,10 +22,10 @@ returns-then-first_is-2 c =
     record { answer = r.0; refusal = r.1 }
 
 pub returns : goal.returns
-unfolding shorter_line longer_line text
+unfolding shorter_line longer_line text library_answer
 returns c =
     let e = names-not _ _ c.line-first.ensures (sym c.first_is.ensures ∙ c.if-first_is.false) (sym c.first_is-2.ensures ∙ c.if-first_is-2.false) in
-    let r = library-refusal _ _ (c.refused.ensures ∙ sym (ap library_answer e)) in
+    let r = library-refusal _ _ (sym (ap library_answer e)) in
     record { answer = r.0; refusal = r.1 }
 
 pub first_is-requires : goal.first_is-requires

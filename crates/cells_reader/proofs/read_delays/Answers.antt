@@ -3,43 +3,22 @@ use Rattle.base.specs.{sym, ◌∙◌}
 use Rattle.cells_reader.specs.{delays_at}
 use Rattle.cells_reader.proofs.read_delays.Goals as goal
 
-pub returns-in-Value-read_delay : goal.returns-in-Value-read_delay
+pub returns-in_err-d0 : goal.returns-in_err-d0
 unfolding delays_at
-returns-in-Value-read_delay c =
-    rw (
-      sym c.number_then.ensures ∙ c.in-Value.is,
-      sym c.number_then-in-Value.ensures ∙ c.in-Value-number_then.is,
-      sym c.number_then-in-Value-number_then.ensures ∙ c.in-Value-number_then-2.is,
-      sym c.read_delay.ensures ∙ c.in-Value-read_delay.is,
-    )
+returns-in_err-d0 c = c.from_residual.ensures ∙ rw (sym c.in_err-d0.ensures)
 
-pub returns-in-Broken-read_delay : goal.returns-in-Broken-read_delay
+pub returns-in_err-d1 : goal.returns-in_err-d1
 unfolding delays_at
-returns-in-Broken-read_delay c =
-    rw (
-      sym c.number_then.ensures ∙ c.in-Value.is,
-      sym c.number_then-in-Value.ensures ∙ c.in-Value-number_then.is,
-      sym c.number_then-in-Value-number_then.ensures ∙ c.in-Value-number_then-2.is,
-      sym c.read_delay.ensures ∙ c.in-Broken-read_delay.is,
-    )
+returns-in_err-d1 c = c.from_residual-in_err-d1.ensures ∙ rw (sym c.in_ok-d0.ensures, sym c.in_err-d1.ensures)
 
-pub returns-in-Broken-number_then-2 : goal.returns-in-Broken-number_then-2
+pub returns-in_err-d2 : goal.returns-in_err-d2
 unfolding delays_at
-returns-in-Broken-number_then-2 c =
-    rw (
-      sym c.number_then.ensures ∙ c.in-Value.is,
-      sym c.number_then-in-Value.ensures ∙ c.in-Value-number_then.is,
-      sym c.number_then-in-Value-number_then.ensures ∙ c.in-Broken-number_then-2.is,
-    )
+returns-in_err-d2 c = c.from_residual-in_err-d2.ensures ∙ rw (sym c.in_ok-d0.ensures, sym c.in_ok-d1.ensures, sym c.in_err-d2.ensures)
 
-pub returns-in-Broken-number_then : goal.returns-in-Broken-number_then
+pub returns-in_err-d3 : goal.returns-in_err-d3
 unfolding delays_at
-returns-in-Broken-number_then c =
-    rw (
-      sym c.number_then.ensures ∙ c.in-Value.is,
-      sym c.number_then-in-Value.ensures ∙ c.in-Broken-number_then.is,
-    )
+returns-in_err-d3 c = c.from_residual-in_err-d3.ensures ∙ rw (sym c.in_ok-d0.ensures, sym c.in_ok-d1.ensures, sym c.in_ok-d2.ensures, sym c.in_err-d3.ensures)
 
-pub returns-in-Broken : goal.returns-in-Broken
+pub returns : goal.returns
 unfolding delays_at
-returns-in-Broken c = rw (sym c.number_then.ensures ∙ c.in-Broken.is)
+returns c = rw (sym c.in_ok-d0.ensures, sym c.in_ok-d1.ensures, sym c.in_ok-d2.ensures, sym c.in_ok-d3.ensures)

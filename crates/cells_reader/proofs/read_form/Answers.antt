@@ -3,16 +3,14 @@ use Rattle.base.specs.{sym, ◌∙◌}
 use Rattle.cells_reader.specs.{form_at}
 use Rattle.cells_reader.proofs.read_form.Goals as goal
 
-pub returns-in-To-byte : goal.returns-in-To-byte
+pub returns-in_err-name : goal.returns-in_err-name
 unfolding form_at
-returns-in-To-byte c =
-    rw (sym c.name.ensures ∙ c.in-To.is, sym c.byte.ensures ∙ c.in-To-byte.is) c.read_figures.ensures
+returns-in_err-name c = c.from_residual.ensures ∙ rw (sym c.in_err-name.ensures)
 
-pub returns-in-Broken-byte : goal.returns-in-Broken-byte
+pub returns-in_err-behind : goal.returns-in_err-behind
 unfolding form_at
-returns-in-Broken-byte c =
-    rw (sym c.name.ensures ∙ c.in-To.is, sym c.byte.ensures ∙ c.in-Broken-byte.is)
+returns-in_err-behind c = c.from_residual-in_err-behind.ensures ∙ rw (sym c.in_ok-name.ensures, sym c.in_err-behind.ensures)
 
-pub returns-in-Broken : goal.returns-in-Broken
+pub returns : goal.returns
 unfolding form_at
-returns-in-Broken c = rw (sym c.name.ensures ∙ c.in-Broken.is)
+returns c = rw (sym c.in_ok-name.ensures, sym c.in_ok-behind.ensures) c.read_figures.ensures

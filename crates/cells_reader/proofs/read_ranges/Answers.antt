@@ -3,29 +3,18 @@ use Rattle.base.specs.{sym, ◌∙◌}
 use Rattle.cells_reader.specs.{ranges_at}
 use Rattle.cells_reader.proofs.read_ranges.Goals as goal
 
+pub returns-in_err-delays : goal.returns-in_err-delays
+unfolding ranges_at
+returns-in_err-delays c = c.from_residual.ensures ∙ rw (sym c.in_err-delays.ensures)
+
 pub returns-then-not-ranged : goal.returns-then-not-ranged
 unfolding ranges_at
-returns-then-not-ranged c =
-    rw (sym c.read_delays.ensures ∙ c.in-Read.is, c.if-not-ranged.true)
+returns-then-not-ranged c = rw (sym c.in_ok-delays.ensures, c.if-not-ranged.true)
 
-pub returns-in-Read-read_delays : goal.returns-in-Read-read_delays
+pub returns-in_err-mins : goal.returns-in_err-mins
 unfolding ranges_at
-returns-in-Read-read_delays c =
-    rw (
-      sym c.read_delays.ensures ∙ c.in-Read.is,
-      c.if-not-ranged.false,
-      sym c.read_delays-in-Read.ensures ∙ c.in-Read-read_delays.is,
-    )
+returns-in_err-mins c = c.from_residual-in_err-mins.ensures ∙ rw (sym c.in_ok-delays.ensures, c.if-not-ranged.false, sym c.in_err-mins.ensures)
 
-pub returns-in-Broken-read_delays : goal.returns-in-Broken-read_delays
+pub returns : goal.returns
 unfolding ranges_at
-returns-in-Broken-read_delays c =
-    rw (
-      sym c.read_delays.ensures ∙ c.in-Read.is,
-      c.if-not-ranged.false,
-      sym c.read_delays-in-Read.ensures ∙ c.in-Broken-read_delays.is,
-    )
-
-pub returns-in-Broken : goal.returns-in-Broken
-unfolding ranges_at
-returns-in-Broken c = rw (sym c.read_delays.ensures ∙ c.in-Broken.is)
+returns c = rw (sym c.in_ok-delays.ensures, c.if-not-ranged.false, sym c.in_ok-mins.ensures)

@@ -5,30 +5,30 @@ use Rattle.cells_reader.proofs.CellLineSteps.{part-from, part_to, pins-few}
 use Rattle.cells_reader.proofs.validate.Goals as goal
 
 pub slice_bounds-repeated-count : goal.slice_bounds-repeated-count
-slice_bounds-repeated-count c = omega (arith, part-from _ _ _ _ _ _ (sym c.read_form.ensures ∙ c.in-Cell.is))
+slice_bounds-repeated-count c = omega (arith, part-from _ _ _ _ (sym c.in-Some.ensures))
 
 pub slice_bounds-repeated-start : goal.slice_bounds-repeated-start
-slice_bounds-repeated-start c = omega (arith, part-from _ _ _ _ _ _ (sym c.read_form.ensures ∙ c.in-Cell.is))
+slice_bounds-repeated-start c = omega (arith, part-from _ _ _ _ (sym c.in-Some.ensures))
 
 pub slice_bounds-repeated-end : goal.slice_bounds-repeated-end
-slice_bounds-repeated-end c = omega (arith, part_to _ _ _ _ _ _ (sym c.read_form.ensures ∙ c.in-Cell.is) (omega arith))
+slice_bounds-repeated-end c = omega (arith, part_to _ _ _ _ (sym c.in-Some.ensures) (omega arith))
 
 pub returns-then-repeated : goal.returns-then-repeated
 unfolding validated_at
-returns-then-repeated c = rw (lt-ltb _ _ c.if-lib-ge32.false, sym c.read_form.ensures ∙ c.in-Cell.is, sym c.repeated.ensures ∙ c.if-repeated.true)
+returns-then-repeated c = rw (lt-ltb _ _ c.if-lib-ge32.false, sym c.in-Some.ensures, sym c.repeated.ensures ∙ c.if-repeated.true)
 
 pub validate_figures-requires : goal.validate_figures-requires
-validate_figures-requires c = pins-few _ _ _ _ _ _ (sym c.read_form.ensures ∙ c.in-Cell.is)
+validate_figures-requires c = pins-few _ _ _ _ (sym c.in-Some.ensures)
 
-pub returns-else-repeated : goal.returns-else-repeated
+pub returns : goal.returns
 unfolding validated_at
-returns-else-repeated c =
-    rw (lt-ltb _ _ c.if-lib-ge32.false, sym c.read_form.ensures ∙ c.in-Cell.is, sym c.repeated.ensures ∙ c.if-repeated.false)
+returns c =
+    rw (lt-ltb _ _ c.if-lib-ge32.false, sym c.in-Some.ensures, sym c.repeated.ensures ∙ c.if-repeated.false)
     c.validate_figures.ensures
 
-pub returns-in-Broken : goal.returns-in-Broken
+pub returns-in_default : goal.returns-in_default
 unfolding validated_at
-returns-in-Broken c = rw (lt-ltb _ _ c.if-lib-ge32.false, sym c.read_form.ensures ∙ c.in-Broken.is)
+returns-in_default c = rw (lt-ltb _ _ c.if-lib-ge32.false, sym c.in_default.ensures)
 
 pub returns-then-lib-ge32 : goal.returns-then-lib-ge32
 unfolding validated_at

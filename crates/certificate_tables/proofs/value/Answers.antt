@@ -9,9 +9,9 @@ nonzero_rem-row c = omega (arith, power c.args.pins c.requires.0, pow_pos c.args
 
 pub bit-requires : goal.bit-requires
 bit-requires c =
-    let e = ap (λ (x : ℕ). c.wide.result % x) (power c.args.pins c.requires.0) in
-    omega (arith, e, mod-lt c.wide.result (pow_pos c.args.pins), pow_mono {i = c.args.pins} {j = 4} c.requires.0)
+    let e = ap (λ (x : ℕ). c.bits.result % x) (power c.args.pins c.requires.0) in
+    omega (arith, e, mod-lt c.bits.result (pow_pos c.args.pins), pow_mono {i = c.args.pins} {j = 4} c.requires.0)
 
 pub returns : goal.returns
 returns c =
-    c.bit.ensures ∙ ap₂ (λ (x y : ℕ). value c.args.table (x % y)) (c.wide.ensures ∙ c.bits.ensures.0) (power c.args.pins c.requires.0)
+    c.bit.ensures ∙ ap₂ (λ (x y : ℕ). value c.args.table (x % y)) c.bits.ensures.0 (power c.args.pins c.requires.0)

@@ -1,10 +1,10 @@
 -- `check_call::check_texts` meets its contract: demand 1 from the functions below it, what the answer means from the definitions' law.
 use Rattle.base.specs.{ℕ, arith, List, length}
-use Rattle.model.specs.{CheckMemory}
-use Rattle.model.specs.declared.Checked.{Checked}
+use Rattle.model.specs.{CheckMemory, Checked}
 use Rattle.promises.specs.{NetlistCheck}
 use Rattle.theory_calls.proofs.{checked_memory}
 use Rattle.theory_check.proofs.{check_exactly, edited_compared, edited_meant, edited_equal, printed-accepted}
+use Rattle.model.proofs.{handed_on}
 use Rattle.check_call.proofs.CheckStages.{long-text, library-stops, library-read}
 use Rattle.check_call.proofs.check_texts.Goals as goal
 use Rattle.check_call.proofs.check_texts.Goals.{then-cells-gt65536-via-then-cells-gt65536}
@@ -38,20 +38,21 @@ returns-then-cells-gt65536 c =
 pub check_header-requires : goal.check_header-requires
 check_header-requires c =
     let a = c.args in
-    let r = library-read a.cells.now a.graph.now a.netlist.now a.work.now (omega arith) (omega arith) (omega arith) c.read-l.result
-    c.read-l.ensures.answer c.in-Accepted.is in
+    let r = library-read a.cells.now a.graph.now a.netlist.now a.work.now (omega arith) (omega arith) (omega arith) c.read.result
+    c.read.ensures.answer _ c.in_ok-lib.was in
     (r.fitting, omega arith)
 
-pub returns-in-Accepted : goal.returns-in-Accepted
-returns-in-Accepted c =
+pub returns : goal.returns
+returns c =
     let a = c.args in
-    let r = library-read a.cells.now a.graph.now a.netlist.now a.work.now (omega arith) (omega arith) (omega arith) c.read-l.result
-    c.read-l.ensures.answer c.in-Accepted.is in
+    let r = library-read a.cells.now a.graph.now a.netlist.now a.work.now (omega arith) (omega arith) (omega arith) c.read.result
+    c.read.ensures.answer _ c.in_ok-lib.was in
     said a.cells.now a.graph.now a.netlist.now a.work.now _ _ (r.goes _ _ c.check_header.ensures)
 
-pub returns-in-Refused : goal.returns-in-Refused
-returns-in-Refused c =
+pub returns-in_err-lib : goal.returns-in_err-lib
+returns-in_err-lib c =
     let a = c.args in
-    said a.cells.now a.graph.now a.netlist.now a.work.now _ _
-    (library-stops a.cells.now a.graph.now a.netlist.now a.work.now (omega arith) (omega arith) (omega arith) c.read-l.result
-    c.read-l.ensures.answer _ _ c.in-Refused.is)
+    rw (handed_on _ _ c.from_residual.ensures.1)
+    (said a.cells.now a.graph.now a.netlist.now a.work.now _ _
+    (library-stops a.cells.now a.graph.now a.netlist.now a.work.now (omega arith) (omega arith) (omega arith) c.read.result
+    c.read.ensures.answer _ _ c.in_err-lib.was))

@@ -1,4 +1,4 @@
--- `check_call::input_codes` meets its contract. The invariant: the numbers of the first i inputs' nets are stored; the measure is how many are left.
+-- `check_call::input_codes` meets its contract. The invariant: the numbers of the first i inputs' nets are stored.
 use Rattle.base.specs.{◌≡◌, sym, ◌∙◌, ap, ◌∷◌, map, ℕ, ◌+◌, arith}
 use Rattle.model.specs.{from, decimal}
 use Rattle.base_words.specs.{put_at, zeros, slot_addr}
@@ -22,25 +22,14 @@ bounds-codes-i c = omega (arith, c.requires.2, c.loop-i-test.true)
 
 pub loop-i-preserved : goal.loop-i-preserved
 loop-i-preserved c =
-    let a = c.args in (
-      omega arith,
-      codes-more (input_code a.work.now a.m) c.loop-i.codes c.loop-i.i c.label_code.result c.loop-i.invariant.1 (omega (arith, c.requires.2, c.loop-i-test.true))
-          (c.label_code.ensures ∙ ap (λ (v : ℕ). code (112 ∷ decimal v)) c.slot-v.ensures ∙ sym (code_is a.work.now a.m c.loop-i.i)),
-    )
+    let a = c.args in
+    codes-more (input_code a.work.now a.m) c.loop-i.codes c.loop-i.i c.label_code.result c.loop-i.invariant (omega (arith, c.requires.2, c.loop-i-test.true))
+    (c.label_code.ensures ∙ ap (λ (v : ℕ). code (112 ∷ decimal v)) c.slot-v.ensures ∙ sym (code_is a.work.now a.m c.loop-i.i))
 
 pub returns : goal.returns
 returns c =
     let a = c.args in
-    c.loop-i.invariant.1 ∙ ap (λ (n : ℕ). put_at (zeros 12) 0 (map (input_code a.work.now a.m) (from 0 n))) (let z : c.loop-i.i ≡ a.n = omega arith in z)
+    c.loop-i.invariant ∙ ap (λ (n : ℕ). put_at (zeros 12) 0 (map (input_code a.work.now a.m) (from 0 n))) (let z : c.loop-i.i ≡ a.n = omega arith in z)
 
 pub loop-i-init : goal.loop-i-init
-loop-i-init c = let a = c.args in (omega arith, codes-none (input_code a.work.now a.m))
-
-pub overflow_add-i : goal.overflow_add-i
-overflow_add-i c = omega arith
-
-pub overflow_add-i-in-loop-i : goal.overflow_add-i-in-loop-i
-overflow_add-i-in-loop-i c = omega arith
-
-pub loop-i-smaller : goal.loop-i-smaller
-loop-i-smaller c = omega arith
+loop-i-init c = codes-none (input_code c.args.work.now c.args.m)

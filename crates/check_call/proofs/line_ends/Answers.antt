@@ -1,35 +1,20 @@
--- `check_call::line_ends` meets its contract. The invariant: the number is that of the bytes passed, from the last on; the measure is how many are left.
+-- `check_call::line_ends` meets its contract. The invariant: the number is that of the bytes passed, from the last on.
 use Rattle.base.specs.{◌≡◌, ◌∙◌, ap, ℕ, arith, drop}
 use Rattle.model.specs.{line_ends}
 use Rattle.check_call.proofs.LineEndChecks.{ends-none, ends-one, ends_other}
 use Rattle.check_call.proofs.line_ends.Goals as goal
 
+pub loop-i-init : goal.loop-i-init
+loop-i-init c = (omega arith, ends-none c.args.s.now)
+
 pub loop-i-preserved-then-s-i-eq10 : goal.loop-i-preserved-then-s-i-eq10
 loop-i-preserved-then-s-i-eq10 c =
-    (omega arith, omega arith, ends-one c.args.s.now c.loop-i.i c.loop-i.n c.loop-i.invariant.0 c.loop-i.invariant.2 c.loop-i-test.true c.if-s-i-eq10.true)
+    (omega arith, ends-one c.args.s.now c.loop-i.i c.loop-i.n (omega arith) c.loop-i.invariant.1 (omega arith) c.if-s-i-eq10.true)
 
 pub loop-i-preserved : goal.loop-i-preserved
 loop-i-preserved c =
-    (omega arith, omega arith, ends_other c.args.s.now c.loop-i.i c.loop-i.n c.loop-i.invariant.0 c.loop-i.invariant.2 c.loop-i-test.true c.if-s-i-eq10.false)
+    (omega arith, ends_other c.args.s.now c.loop-i.i c.loop-i.n (omega arith) c.loop-i.invariant.1 (omega arith) c.if-s-i-eq10.false)
 
 pub returns : goal.returns
 returns c =
-    (c.loop-i.invariant.2 ∙ ap (λ (i : ℕ). line_ends (drop i c.args.s.now)) (let z : c.loop-i.i ≡ 0 = omega arith in z), omega arith)
-
-pub loop-i-init : goal.loop-i-init
-loop-i-init c = (omega arith, omega arith, ends-none c.args.s.now)
-
-pub overflow_sub-i : goal.overflow_sub-i
-overflow_sub-i c = omega arith
-
-pub bounds-s-i : goal.bounds-s-i
-bounds-s-i c = omega arith
-
-pub overflow_add-n : goal.overflow_add-n
-overflow_add-n c = omega arith
-
-pub loop-i-smaller-then-s-i-eq10 : goal.loop-i-smaller-then-s-i-eq10
-loop-i-smaller-then-s-i-eq10 c = omega arith
-
-pub loop-i-smaller : goal.loop-i-smaller
-loop-i-smaller c = omega arith
+    (c.loop-i.invariant.1 ∙ ap (λ (i : ℕ). line_ends (drop i c.args.s.now)) (let z : c.loop-i.i ≡ 0 = omega arith in z), omega arith)

@@ -1,10 +1,7 @@
--- `check_names::code_of` meets its contract. The invariant: the number is that of the bytes passed, from the last on; the measure is how many are left.
-use Rattle.base.specs.{◌≡◌, ◌≤◌, length, drop}
+-- `check_names::code_of` meets its contract. The invariant: the number is that of the bytes passed, from the last on.
+use Rattle.base.specs.{◌≡◌, drop}
 use Rattle.check_names.specs.{code}
 use Rattle.check_names.proofs.code_of.Given as goal
 
 abbrev pub invariant-loop-i : goal.invariant-loop-i
-invariant-loop-i l = (l.i ≤ length l.w) × (l.n ≡ code (drop l.i l.w))
-
-abbrev pub decreases-loop-i : goal.decreases-loop-i
-decreases-loop-i l = l.i
+invariant-loop-i l = l.n ≡ code (drop l.i l.w)

@@ -1,7 +1,7 @@
 -- `check_names::name_line` meets its contract: the first field is the keyword, and two words stand behind it.
-use Rattle.base.specs.{sym, ◌∙◌, ap, Bool, ◌+◌, arith, length-take-le}
+use Rattle.base.specs.{sym, ◌∙◌, ap, Bool, cond, None, ◌+◌, arith, length-take-le}
 use Rattle.model.specs.{text}
-use Rattle.check_names.specs.{pick_n, fields_from, two_words}
+use Rattle.check_names.specs.{fields_from, two_words}
 use Rattle.check_names.proofs.WordSplits.{space-fits}
 use Rattle.check_names.proofs.NameLines.{line_code}
 use Rattle.check_names.proofs.name_line.Goals as goal
@@ -21,11 +21,11 @@ returns-then-same_bytes c =
     let a = c.args in
     c.two_words.ensures
     ∙ sym (line_code a.l.now a.k c.space_from-first.result c.space_from-first.ensures
-    ∙ ap (λ (b : Bool). pick_n b (two_words a.k (fields_from a.l.now (c.space_from-first.result + 1))) 0) (sym c.same_bytes.ensures ∙ c.if-same_bytes.true))
+    ∙ ap (λ (b : Bool). cond b (two_words a.k (fields_from a.l.now (c.space_from-first.result + 1))) None) (sym c.same_bytes.ensures ∙ c.if-same_bytes.true))
 
 pub returns-else-same_bytes : goal.returns-else-same_bytes
 unfolding text
 returns-else-same_bytes c =
     let a = c.args in
     sym (line_code a.l.now a.k c.space_from-first.result c.space_from-first.ensures
-    ∙ ap (λ (b : Bool). pick_n b (two_words a.k (fields_from a.l.now (c.space_from-first.result + 1))) 0) (sym c.same_bytes.ensures ∙ c.if-same_bytes.false))
+    ∙ ap (λ (b : Bool). cond b (two_words a.k (fields_from a.l.now (c.space_from-first.result + 1))) None) (sym c.same_bytes.ensures ∙ c.if-same_bytes.false))

@@ -1,6 +1,6 @@
 -- `check_names::two_words` meets its contract: the fields from the place on, and where each of them ends.
-use Rattle.base.specs.{sym, ◌∙◌, ap, Bool, ◌+◌, ◌-◌, arith, take, drop}
-use Rattle.check_names.specs.{pick_n, net_code}
+use Rattle.base.specs.{sym, ◌∙◌, ap, Bool, cond, None, ◌+◌, ◌-◌, arith, take, drop}
+use Rattle.check_names.specs.{net_code}
 use Rattle.check_names.proofs.WordSplits.{space-from, space-fits}
 use Rattle.check_names.proofs.NameLines.{two_none, two-one, two-more, two_are}
 use Rattle.check_names.proofs.two_words.Goals as goal
@@ -38,11 +38,11 @@ returns-then-is_out c =
     let a = c.args in let l = a.l.now in
     c.net_code.ensures
     ∙ sym (two_are l a.at a.k c.if-at-l.false c.space_from-end.result c.space_from-end.ensures c.if-end-l.false c.space_from-last.result c.space_from-last.ensures c.if-last-l.false
-    ∙ ap (λ (b : Bool). pick_n b (net_code (take (c.space_from-end.result - a.at) (drop a.at l))) 0) (sym c.is_out.ensures ∙ c.if-is_out.true))
+    ∙ ap (λ (b : Bool). cond b (net_code (take (c.space_from-end.result - a.at) (drop a.at l))) None) (sym c.is_out.ensures ∙ c.if-is_out.true))
 
 pub returns-else-is_out : goal.returns-else-is_out
 returns-else-is_out c =
     let a = c.args in
     let l = a.l.now in
     sym (two_are l a.at a.k c.if-at-l.false c.space_from-end.result c.space_from-end.ensures c.if-end-l.false c.space_from-last.result c.space_from-last.ensures c.if-last-l.false
-    ∙ ap (λ (b : Bool). pick_n b (net_code (take (c.space_from-end.result - a.at) (drop a.at l))) 0) (sym c.is_out.ensures ∙ c.if-is_out.false))
+    ∙ ap (λ (b : Bool). cond b (net_code (take (c.space_from-end.result - a.at) (drop a.at l))) None) (sym c.is_out.ensures ∙ c.if-is_out.false))

@@ -1,12 +1,9 @@
--- `check_nets::all_increase` meets its contract. The invariant: the drivers passed rise; the measure is how many are left.
+-- `check_nets::all_increase` meets its contract. The invariant: the drivers passed rise.
 use Rattle.base.specs.{below_more, arith, false≢true}
 use Rattle.check_nets.proofs.all_increase.Goals as goal
 
 pub is_increasing-requires : goal.is_increasing-requires
 is_increasing-requires c = (c.requires, c.loop-i-test.true, omega arith)
-
-pub overflow_add-i : goal.overflow_add-i
-overflow_add-i c = omega (arith, c.requires.few)
 
 pub loop-i-preserved : goal.loop-i-preserved
 loop-i-preserved c = below_more _ _ c.loop-i.invariant (c.is_increasing.ensures c.if-not-is_increasing.false)

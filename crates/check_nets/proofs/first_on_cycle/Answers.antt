@@ -1,4 +1,4 @@
--- `check_nets::first_on_cycle` meets its contract. The invariant: no driver passed is on a cycle. The measure is how many are left.
+-- `check_nets::first_on_cycle` meets its contract. The invariant: no driver passed is on a cycle.
 use Rattle.base.specs.{arith, below_more}
 use Rattle.check_nets.proofs.first_on_cycle.Goals as goal
 
@@ -6,7 +6,7 @@ pub number_components-requires : goal.number_components-requires
 number_components-requires c = c.requires.few
 
 pub loop-i-init : goal.loop-i-init
-loop-i-init c = (omega arith, λ k h. absurd (omega arith))
+loop-i-init c = λ k h. absurd (omega arith)
 
 pub is_on_cycle-requires : goal.is_on_cycle-requires
 is_on_cycle-requires c =
@@ -14,18 +14,12 @@ is_on_cycle-requires c =
 
 pub returns-then-is_on_cycle : goal.returns-then-is_on_cycle
 returns-then-is_on_cycle c =
-    record { most = c.loop-i.invariant.0; before = c.loop-i.invariant.1; cycle = λ h. c.is_on_cycle.ensures.cycle c.if-is_on_cycle.true }
-
-pub overflow_add-i : goal.overflow_add-i
-overflow_add-i c = omega (arith, c.requires.few)
+    record { most = omega arith; before = c.loop-i.invariant; cycle = λ h. c.is_on_cycle.ensures.cycle c.if-is_on_cycle.true }
 
 pub loop-i-preserved : goal.loop-i-preserved
 loop-i-preserved c =
-    (omega arith, below_more _ _ c.loop-i.invariant.1 (c.is_on_cycle.ensures.none c.if-is_on_cycle.false))
+    below_more _ _ c.loop-i.invariant (c.is_on_cycle.ensures.none c.if-is_on_cycle.false)
 
 pub returns : goal.returns
 returns c =
-    record { most = c.loop-i.invariant.0; before = c.loop-i.invariant.1; cycle = λ h. absurd (omega arith) }
-
-pub loop-i-smaller : goal.loop-i-smaller
-loop-i-smaller c = omega arith
+    record { most = omega arith; before = λ k h. c.loop-i.invariant k (omega arith); cycle = λ h. absurd (omega arith) }

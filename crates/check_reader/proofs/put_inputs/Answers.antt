@@ -1,4 +1,4 @@
--- `check_reader::put_inputs` meets its contract. The invariant: the first i names are written. The measure is the number of names left.
+-- `check_reader::put_inputs` meets its contract. The invariant: the first i names are written.
 use Rattle.base.specs.{◌≡◌, sym, ap, ◌∙◌, List, ◌∷◌, ◌++◌, ℕ, ◌+◌, ◌-◌, arith}
 use Rattle.model.specs.{decimal}
 use Rattle.base_words.specs.{slot_addr}
@@ -24,7 +24,7 @@ pub loop-i-init : goal.loop-i-init
 loop-i-init c =
     let a = c.args in
     let e : a.n ≡ a.n - 0 = omega arith in
-    (omega arith, begin a.out.now a.at (ap (names_from (input_name a.work.now a.m) 0) e))
+    begin a.out.now a.at (ap (names_from (input_name a.work.now a.m) 0) e)
 
 pub slot-v-requires : goal.slot-v-requires
 slot-v-requires c = (c.requires.0, omega arith)
@@ -35,20 +35,18 @@ overflow_cast-v c = omega (arith, c.type_inv.work (slot_addr c.args.m (c.loop-i.
 pub put_word-next-requires : goal.put_word-next-requires
 put_word-next-requires c =
     let t = (goal.at.put_word-next-requires c).After-slot-v in
-    capacity c.requires.2 c.loop-i.invariant.1 (32 ∷ 112 ∷ decimal c.slot-v.result) (later t) (next-name t)
+    capacity c.requires.2 c.loop-i.invariant (32 ∷ 112 ∷ decimal c.slot-v.result) (later t) (next-name t)
 
 pub loop-i-preserved : goal.loop-i-preserved
 loop-i-preserved c =
-    let t = (goal.at.loop-i-preserved c).After-slot-v in (
-      omega arith,
-      step c.requires.2 c.loop-i.invariant.1 c.put_word-next.new.out c.put_word-next.result
-          (32 ∷ 112 ∷ decimal c.slot-v.result) (later t) (next-name t) c.put_word-next.ensures,
-    )
+    let t = (goal.at.loop-i-preserved c).After-slot-v in
+    step c.requires.2 c.loop-i.invariant c.put_word-next.new.out c.put_word-next.result
+    (32 ∷ 112 ∷ decimal c.slot-v.result) (later t) (next-name t) c.put_word-next.ensures
 
 pub shape_of-out : goal.shape_of-out
-shape_of-out c = kept c.requires.2 c.loop-i.invariant.1
+shape_of-out c = kept c.requires.2 c.loop-i.invariant
 
 pub returns : goal.returns
 returns c =
     let a = c.args in
-    end c.requires.2 c.loop-i.invariant.1 (names-none (input_name a.work.now a.m) a.n c.loop-i.i c.loop-i-test.false)
+    end c.requires.2 c.loop-i.invariant (names-none (input_name a.work.now a.m) a.n c.loop-i.i c.loop-i-test.false)

@@ -1,11 +1,7 @@
--- `check_reader::read_pairs` meets its contract. The invariant: the drivers of the outputs so far stand in the array, and the lines from here on are expected; the measure is how many
--- outputs are left.
-use Rattle.base.specs.{◌+◌, ◌-◌, ◌*◌, ◌≤◌}
-use Rattle.check_reader.proofs.NameLineReading.{Pairs}
+-- `check_reader::read_pairs` meets its contract. The invariant: the drivers of the outputs so far stand in the array, and the lines from here on are expected.
+use Rattle.base.specs.{◌+◌, ◌*◌, ◌≤◌}
+use Rattle.check_reader.proofs.NameLineReading.{SoMany}
 use Rattle.check_reader.proofs.read_pairs.Given as goal
 
 abbrev pub invariant-loop-k : goal.invariant-loop-k
-invariant-loop-k l = (l.k ≤ l.outs) × (6 * (l.first + l.k) ≤ l.at) × Pairs l.s l.outs l.from l.first l.at l.k l.initial.nets l.nets
-
-abbrev pub decreases-loop-k : goal.decreases-loop-k
-decreases-loop-k l = l.outs - l.k
+invariant-loop-k l = (6 * (l.first + l.k) ≤ l.at) × SoMany l.s l.outs l.from l.first l.at l.k l.initial.nets l.nets

@@ -9,7 +9,7 @@ loop-h-init c = (omega arith, λ k e o. o)
 
 pub returns-then-nets-k : goal.returns-then-nets-k
 returns-then-nets-k c =
-    record { most = c.loop-h.invariant.0; is = λ p. c.if-nets-k.true; none = λ e. absurd (omega arith) }
+    (omega (arith, c.loop-h.invariant.0), c.if-nets-k.true)
 
 pub loop-h-smaller : goal.loop-h-smaller
 loop-h-smaller c =
@@ -25,26 +25,4 @@ loop-h-preserved c =
 pub returns : goal.returns
 returns c =
     let a = c.args in
-    record {
-      most = omega arith;
-      is = λ p. absurd (omega arith);
-      none = λ z k o e. on_none a.links.now k (subst (On a.links.now k) (let q : c.loop-h.h ≡ 0 = omega arith in q) (c.loop-h.invariant.1 k e o));
-    }
-
-pub overflow_sub-k : goal.overflow_sub-k
-overflow_sub-k c = omega arith
-
-pub overflow_mul-k : goal.overflow_mul-k
-overflow_mul-k c = omega arith
-
-pub overflow_add-k : goal.overflow_add-k
-overflow_add-k c = omega arith
-
-pub offset_bounds-nets-k : goal.offset_bounds-nets-k
-offset_bounds-nets-k c = omega arith
-
-pub bounds-nets-k : goal.bounds-nets-k
-bounds-nets-k c = omega arith
-
-pub next-h-requires : goal.next-h-requires
-next-h-requires c = omega arith
+    λ k o e. on_none a.links.now k (subst (On a.links.now k) (let q : c.loop-h.h ≡ 0 = omega arith in q) (c.loop-h.invariant.1 k e o))

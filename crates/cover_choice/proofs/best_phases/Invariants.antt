@@ -1,5 +1,5 @@
--- `cover_choice::best_phases` meets its contract. The invariant: `positive` and `negative` are the choice among the cuts below number k; the measure is how many are left.
-use Rattle.base.specs.{◌≡◌, true, false, List, ◌-◌, ◌≤◌}
+-- `cover_choice::best_phases` meets its contract. The invariant: `positive` and `negative` are the choice among the cuts below number k.
+use Rattle.base.specs.{◌≡◌, true, false, List}
 use Rattle.model.specs.{choose}
 use Rattle.model.specs.declared.Cell.{Cell}
 use Rattle.cells_matching.specs.{MatchTable}
@@ -8,9 +8,5 @@ use Rattle.cover_choice.proofs.best_phases.Given as goal
 
 abbrev pub invariant-loop-k : goal.invariant-loop-k
 invariant-loop-k l =
-    (l.k ≤ l.n)
-    × ((cells : List Cell) → MatchTable cells l.matches
-    → (found_phase l.positive ≡ choose (found_from cells l.work l.m l.v false 0 l.k)) × (found_phase l.negative ≡ choose (found_from cells l.work l.m l.v true 0 l.k)))
-
-abbrev pub decreases-loop-k : goal.decreases-loop-k
-decreases-loop-k l = l.n - l.k
+    (cells : List Cell) → MatchTable cells l.matches
+    → (found_phase l.found.positive ≡ choose (found_from cells l.work l.m l.v false 0 l.k)) × (found_phase l.found.negative ≡ choose (found_from cells l.work l.m l.v true 0 l.k))

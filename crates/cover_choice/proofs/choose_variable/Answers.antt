@@ -9,9 +9,6 @@ use Rattle.cover_choice.proofs.PhaseBounds.{Fitting, uninverted-fit}
 use Rattle.cover_choice.proofs.ChoiceSteps.{sooner_is, step-fit}
 use Rattle.cover_choice.proofs.choose_variable.Goals as goal
 
-pub uninverted_source-b-requires : goal.uninverted_source-b-requires
-uninverted_source-b-requires c = let p = c.requires in ((p.0.0, p.0.1.built), p.1, p.2)
-
 pub invert-requires : goal.invert-requires
 invert-requires c =
     let a = c.args in

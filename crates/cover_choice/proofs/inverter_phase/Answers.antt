@@ -16,4 +16,4 @@ pub returns : goal.returns
 unfolding inverted
 returns c =
     let a = c.args in
-    sym (ap (λ (b : Bool). cond b no_phase (record { source = Inverted a.line; arrival = a.from.arrival + a.d })) (sym c.is_absent.ensures ∙ c.if-is_absent.false))
+    rw c.from.ensures (sym (ap (λ (b : Bool). cond b no_phase (record { source = Inverted a.line; arrival = a.from.arrival + a.d })) (sym c.is_absent.ensures ∙ c.if-is_absent.false)))

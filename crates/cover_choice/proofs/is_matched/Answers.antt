@@ -4,7 +4,7 @@ use Rattle.cells_matching.specs.{is_listed}
 use Rattle.cover_choice.proofs.is_matched.Goals as goal
 
 pub returns-then-is_listed : goal.returns-then-is_listed
-returns-then-is_listed c = λ e. absurd (true≢false e)
+returns-then-is_listed c = λ e. absurd (true≢false (sym c.if-is_listed.true ∙ e))
 
 pub returns-else-is_listed : goal.returns-else-is_listed
 returns-else-is_listed c =

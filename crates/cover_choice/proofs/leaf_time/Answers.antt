@@ -11,7 +11,7 @@ phase-requires c =
     let h : a.i < length (leaves_of a.cut) = subst (λ (n : ℕ). a.i < n) c.size.ensures c.if-i-size.true in
     let l : get_or (leaves_of a.cut) a.i 0 ≡ get_or a.cut.leaves a.i 0 =
     get_or-take a.cut.count a.cut.leaves a.i 0 (omega (arith, length-take a.cut.count a.cut.leaves)) in
-    (c.requires.0.capacity, omega (arith, c.index_of.ensures.0, l, c.requires.0.within a.i h, c.requires.2))
+    (c.requires.0.capacity, omega (arith, c.from.ensures, l, c.requires.0.within a.i h, c.requires.2))
 
 pub returns-then-i-size : goal.returns-then-i-size
 returns-then-i-size c =
@@ -19,7 +19,7 @@ returns-then-i-size c =
     let h : a.i < length (leaves_of a.cut) = subst (λ (n : ℕ). a.i < n) c.size.ensures c.if-i-size.true in
     c.time.ensures
     ∙ ap time_of c.phase.ensures
-    ∙ leaf_there a.work.now a.m a.cut a.i a.neg c.index_of.result h c.requires.2 c.index_of.ensures.0
+    ∙ leaf_there a.work.now a.m a.cut a.i a.neg c.from.result h c.requires.2 c.from.ensures
 
 pub returns-else-i-size : goal.returns-else-i-size
 returns-else-i-size c =

@@ -1,5 +1,4 @@
--- one output more
--- `cover_choice::mark_outputs` meets its contract. The invariant: the outputs that are left, marked, give the same words as all; the measure is what is left of them.
+-- `cover_choice::mark_outputs` meets its contract. The invariant: the outputs that are left, marked, give the same words as all.
 use Rattle.base.specs.{◌≡◌, refl, sym, ap, subst, ◌∙◌, List, ℕ, suc, ◌+◌, ◌-◌, ◌/◌, ◌≤◌, ◌<◌, arith, length}
 use Rattle.base_words.specs.{HasCapacity, output_at, put_needed}
 use Rattle.base_words.proofs.{capacity-need}
@@ -7,6 +6,7 @@ use Rattle.cover_choice.specs.{put_outputs, OutputsIn}
 use Rattle.cover_choice.proofs.NeededMarks.{mark_outputs_in, mark_size}
 use Rattle.cover_choice.proofs.mark_outputs.Goals as goal
 
+-- one output more
 step : (w : List ℕ) (m k n : ℕ) → k < n → put_outputs w m k (n - k) ≡ put_outputs (put_needed w m (output_at w m k)) m (k + 1) (n - (k + 1))
 unfolding put_outputs
 step w m k n h =
@@ -23,15 +23,12 @@ loop-k-init c =
     let a = c.args in
     let n : ℕ = a.outputs in
     let e : n - 0 ≡ n = omega arith in
-    (omega arith, c.requires, refl, ap (put_outputs a.work.now a.m 0) e)
-
-pub output-l-requires : goal.output-l-requires
-output-l-requires c = (c.loop-k.invariant.1.capacity, c.loop-k-test.true)
+    (c.requires, refl, ap (put_outputs a.work.now a.m 0) e)
 
 pub mark_needed-requires : goal.mark_needed-requires
 mark_needed-requires c =
     let a = c.args in
-    let i = c.loop-k.invariant.1 in (
+    let i = c.loop-k.invariant.0 in (
       capacity-need c.loop-k.work a.m a.outputs i.capacity,
       subst (λ (x : ℕ). x / 2 ≤ a.m) (sym c.output-l.ensures) (i.within c.loop-k.k c.loop-k-test.true),
     )
@@ -42,27 +39,17 @@ loop-k-preserved c =
     let w : List ℕ = c.loop-k.work in
     let k : ℕ = c.loop-k.k in
     let x : ℕ = output_at w a.m k in
-    let i = c.loop-k.invariant.1 in
+    let i = c.loop-k.invariant.0 in
     let h : k < a.outputs = c.loop-k-test.true in
     let r : HasCapacity w a.m = capacity-need w a.m a.outputs i.capacity in
     let v : x / 2 ≤ a.m = i.within k h in
     let e : c.mark_needed.new.work ≡ put_needed w a.m x = c.mark_needed.ensures ∙ ap (put_needed w a.m) c.output-l.ensures in (
-      omega arith,
       subst (λ (y : List ℕ). OutputsIn y a.m a.outputs) (sym e) (mark_outputs_in w a.m x r v a.outputs i),
-      ap length e ∙ mark_size w a.m x r v ∙ c.loop-k.invariant.2,
-      ap (λ (y : List ℕ). put_outputs y a.m (k + 1) (a.outputs - (k + 1))) e ∙ sym (step w a.m k a.outputs h) ∙ c.loop-k.invariant.3,
+      ap length e ∙ mark_size w a.m x r v ∙ c.loop-k.invariant.1,
+      ap (λ (y : List ℕ). put_outputs y a.m (k + 1) (a.outputs - (k + 1))) e ∙ sym (step w a.m k a.outputs h) ∙ c.loop-k.invariant.2,
     )
-
-pub shape_of-work : goal.shape_of-work
-shape_of-work c = c.loop-k.invariant.2
 
 pub returns : goal.returns
 returns c =
     let a = c.args in
-    sym (done c.loop-k.work a.m c.loop-k.k a.outputs c.loop-k-test.false) ∙ c.loop-k.invariant.3
-
-pub overflow_add-k : goal.overflow_add-k
-overflow_add-k c = omega arith
-
-pub loop-k-smaller : goal.loop-k-smaller
-loop-k-smaller c = omega arith
+    sym (done c.loop-k.work a.m c.loop-k.k a.outputs c.loop-k-test.false) ∙ c.loop-k.invariant.2

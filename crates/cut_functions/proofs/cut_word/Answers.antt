@@ -1,10 +1,10 @@
 -- `cut_functions::cut_word` meets its contract: a leaf, no AND, or the AND of both operands.
-use Rattle.base.specs.{◌≡◌, sym, ◌∙◌, List, ℕ, ◌+◌, ◌/◌, arith, take}
+use Rattle.base.specs.{◌≡◌, sym, ◌∙◌, List, ℕ, ◌+◌, ◌/◌, ◌<◌, arith, rules, take}
 use Rattle.base_words.specs.{and_kind, kind_at, position_at}
 use Rattle.cut_functions.specs.{Early, Walked, cut_word}
 use Rattle.cut_functions.proofs.ConeWalks.{walked-known, walked_none, and-found, moved}
 use Rattle.cut_functions.proofs.cut_word.Goals as goal
-use Rattle.cut_functions.proofs.cut_word.Goals.{then-x-lt-MISSING, else-x-lt-MISSING, then-y-lt-MISSING, else-y-lt-MISSING}
+use Rattle.cut_functions.proofs.cut_word.Goals.{in-Some, in-None, in-Some-from_leaves, in-None-from_leaves}
 
 pub returns-then-base-t : goal.returns-then-base-t
 unfolding cut_word
@@ -31,19 +31,20 @@ returns c =
     let ls : List ℕ = take a.n a.leaves in
     let place = position_at a.work.now a.m a.v in
     let is-and : kind_at a.work.now a.m a.v ≡ and_kind = sym c.requires.5 ∙ c.if-kind-ne-AND.false in
-    let first : Met a.work.now a.m ls a.base (a.l / 2) c.if-x-lt-MISSING.notes c.if-x-lt-MISSING.p =
-    elim c.if-x-lt-MISSING.branch [
-      | then-x-lt-MISSING w ↦
-          moved (Met a.work.now a.m ls a.base (a.l / 2)) w.notes-is w.p-is
-          (c.from_leaves-x.ensures.walked w.if-x-lt-MISSING.true _ c.requires.1, c.from_leaves-x.ensures.early)
-      | else-x-lt-MISSING w ↦ moved (Met a.work.now a.m ls a.base (a.l / 2)) w.notes-is w.p-is w.from_stored-p.ensures
+    let first : Met a.work.now a.m ls a.base (a.l / 2) c.match-from_leaves.notes c.match-from_leaves.p =
+    elim c.match-from_leaves.branch [
+      | in-Some w ↦
+          let small : w.in-Some.x < 65536 = search rules in
+          moved (Met a.work.now a.m ls a.base (a.l / 2)) w.notes-is w.p-is (w.in-Some.ensures.walked small _ c.requires.1, w.in-Some.ensures.early)
+      | in-None w ↦ moved (Met a.work.now a.m ls a.base (a.l / 2)) w.notes-is w.p-is w.from_stored-p.ensures
     ] in
-    let second : Met a.work.now a.m ls a.base (a.r / 2) c.if-y-lt-MISSING.notes c.if-y-lt-MISSING.q =
-    elim c.if-y-lt-MISSING.branch [
-      | then-y-lt-MISSING w ↦
+    let second : Met a.work.now a.m ls a.base (a.r / 2) c.match-from_leaves-2.notes c.match-from_leaves-2.q =
+    elim c.match-from_leaves-2.branch [
+      | in-Some-from_leaves w ↦
+          let small : w.in-Some-from_leaves.y < 65536 = search rules in
           moved (Met a.work.now a.m ls a.base (a.r / 2)) w.notes-is w.q-is
-          (c.from_leaves-y.ensures.walked w.if-y-lt-MISSING.true _ first.0.noted, c.from_leaves-y.ensures.early)
-      | else-y-lt-MISSING w ↦ moved (Met a.work.now a.m ls a.base (a.r / 2)) w.notes-is w.q-is w.from_stored-q.ensures
+          (w.in-Some-from_leaves.ensures.walked small _ first.0.noted, w.in-Some-from_leaves.ensures.early)
+      | in-None-from_leaves w ↦ moved (Met a.work.now a.m ls a.base (a.r / 2)) w.notes-is w.q-is w.from_stored-q.ensures
     ] in (
       and-found p.inside c.requires.1 p.ordered is-and c.if-base-t.false c.requires.6 c.requires.7 first.0 second.0 c.and_word.ensures place (omega arith),
       second.1,

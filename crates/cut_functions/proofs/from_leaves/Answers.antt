@@ -1,5 +1,5 @@
 -- `cut_functions::from_leaves` meets its contract: what is noted, what is no AND, and an AND whose operands are noted.
-use Rattle.base.specs.{◌≡◌, sym, ◌∙◌, ◌/◌, ◌<◌, rules}
+use Rattle.base.specs.{◌≡◌, sym, ◌∙◌, ◌/◌, ◌<◌, refl, rules}
 use Rattle.base_words.specs.{and_kind, kind_at}
 use Rattle.cut_functions.proofs.ConeWalks.{Operand, left_operand, right_operand, found-known, found_none, from-leaves-found, from-leaves-and}
 use Rattle.cut_functions.proofs.from_leaves.Goals as goal
@@ -20,4 +20,4 @@ returns c =
     let small : c.note_and.result < 65536 = search rules in
     from-leaves-and c.requires.3 c.requires.0 is-and c.if-base-t.false c.left-l.ensures c.right-r.ensures
     (found-known l.inside c.requires.1 l.alive c.if-x-base.false) (found-known r.inside c.requires.1 r.alive c.if-y-base.false)
-    c.note_and.ensures.0 small c.note_and.ensures.1 c.index_of.ensures
+    c.note_and.ensures.0 small c.note_and.ensures.1 refl

@@ -12,7 +12,7 @@ loop-i-init c =
     let a = c.args in
     let four : length a.leaves ≡ 4 = search rules in
     let n : length (take a.n a.leaves) ≡ a.n = counted a.n a.leaves four c.requires.0 in
-    (omega arith, leaf_begin (take a.n a.leaves) 4 a.base a.notes.now (omega arith))
+    leaf_begin (take a.n a.leaves) 4 a.base a.notes.now (omega arith)
 
 pub loop-i-preserved-then-i-n : goal.loop-i-preserved-then-i-n
 loop-i-preserved-then-i-n c =
@@ -21,12 +21,10 @@ loop-i-preserved-then-i-n c =
     let j = l.i - 1 in
     let four : length a.leaves ≡ 4 = search rules in
     let n : length (take a.n a.leaves) ≡ a.n = counted a.n a.leaves four c.requires.0 in
-    let e : get_or (take a.n a.leaves) j 0 ≡ get_or a.leaves j 0 = get_or-take a.n a.leaves j 0 c.if-i-n.true in (
-      omega arith,
-      leaf_step (take a.n a.leaves) l.i j a.base a.notes.now l.notes c.index_of-u.result c.index_of.result
-          (omega (arith, c.loop-i-test.true)) (omega (arith, c.if-i-n.true)) l.invariant.1 (c.index_of-u.ensures ∙ sym e)
-          (c.index_of.ensures ∙ c.pattern.ensures),
-    )
+    let e : get_or (take a.n a.leaves) j 0 ≡ get_or a.leaves j 0 = get_or-take a.n a.leaves j 0 c.if-i-n.true in
+    leaf_step (take a.n a.leaves) l.i j a.base a.notes.now l.notes _ _
+    (omega (arith, c.loop-i-test.true)) (omega (arith, c.if-i-n.true)) l.invariant (c.from-then-i-n.ensures ∙ sym e)
+    (c.from.ensures ∙ c.pattern.ensures)
 
 -- a leaf that the cut has not
 pub loop-i-preserved : goal.loop-i-preserved
@@ -34,16 +32,14 @@ loop-i-preserved c =
     let a = c.args in
     let l = c.loop-i in
     let four : length a.leaves ≡ 4 = search rules in
-    let n : length (take a.n a.leaves) ≡ a.n = counted a.n a.leaves four c.requires.0 in (
-      omega arith,
-      l.invariant.1
-          ∙ sym (leaf_begin (take a.n a.leaves) l.i a.base a.notes.now (omega (arith, c.if-i-n.false)))
-          ∙ leaf_begin (take a.n a.leaves) (l.i - 1) a.base a.notes.now (omega (arith, c.if-i-n.false)),
-    )
+    let n : length (take a.n a.leaves) ≡ a.n = counted a.n a.leaves four c.requires.0 in
+    l.invariant
+    ∙ sym (leaf_begin (take a.n a.leaves) l.i a.base a.notes.now (omega (arith, c.if-i-n.false)))
+    ∙ leaf_begin (take a.n a.leaves) (l.i - 1) a.base a.notes.now (omega (arith, c.if-i-n.false))
 
 pub returns : goal.returns
 returns c =
     let a = c.args in
     let l = c.loop-i in
     let none : l.i ≡ 0 = omega (arith, c.loop-i-test.false) in
-    l.invariant.1 ∙ (λ q. leaf_notes (drop (none q) (take a.n a.leaves)) (none q) a.base a.notes.now)
+    l.invariant ∙ (λ q. leaf_notes (drop (none q) (take a.n a.leaves)) (none q) a.base a.notes.now)

@@ -11,30 +11,25 @@ returns-then-from-eq0 c =
     let e = added_full c.args.k (drop f L) (omega (arith, length-drop f L, c.requires.capacity, c.if-from-eq0.true)) in
     (ap (λ (n : ℕ). drop n L) (sym c.if-from-eq0.true) ∙ sym e, omega arith)
 
-pub returns-then-at-eq0 : goal.returns-then-at-eq0
-returns-then-at-eq0 c =
+pub returns-in_default : goal.returns-in_default
+returns-in_default c =
     let L : List ℕ = c.args.keys.now in
     let f : ℕ = c.args.from in
     let e = added-capacity c.args.k (drop f L) (omega (arith, length-drop f L, c.requires.capacity, c.if-from-eq0.false)) in
-    (sym (e ∙ c.insert_position-at.ensures.there c.if-at-eq0.true), c.requires.fits)
-
-pub move_up-requires : goal.move_up-requires
-move_up-requires c =
-    let free = c.insert_position-at.ensures.free (omega (arith, c.if-at-eq0.false)) in
-    (c.requires.capacity, omega (arith, c.if-from-eq0.false), free.0, free.1)
+    (sym (e ∙ c.in_default.ensures), c.requires.fits)
 
 pub returns : goal.returns
 returns c =
     let L : List ℕ = c.args.keys.now in
     let f : ℕ = c.args.from in
-    let r : ℕ = c.insert_position-at.result in
+    let r : ℕ = c.in-Some.at in
     let k : ℕ = c.args.k in
     let out : List ℕ = c.move_up.new.keys in
     let moved = c.move_up.ensures in
-    let free = c.insert_position-at.ensures.free (omega (arith, c.if-at-eq0.false)) in
+    let free = c.in-Some.ensures in
     let long : length out ≡ key_capacity = c.move_up.auto.keys ∙ c.requires.capacity in
     let short : length (drop f L) < key_capacity = omega (arith, length-drop f L, c.requires.capacity, c.if-from-eq0.false) in
-    let e : suc (r - 1) ≡ r = omega (arith, c.if-at-eq0.false) in (
+    let e : suc (r - 1) ≡ r = omega (arith, free.0, c.if-from-eq0.false) in (
       put-at out (f - 1) (r - 1) (omega (arith, free)) (omega (arith, free, long, e)) k
           ∙ (λ z. moved.ahead z ++ (k ∷ (ap (λ (n : ℕ). drop n out) e ∙ moved.behind) z))
           ∙ sym (added-capacity k (drop f L) short ∙ free.2),

@@ -1,11 +1,15 @@
 -- `cut_lists::list_node` meets its contract: a list of 19 keys says that there are too many cuts, and a shorter one has them all.
-use Rattle.base.specs.{◌≡◌, ◌∙◌, List, ℕ, ◌-◌, arith, length, drop, length-drop}
-use Rattle.cut_lists.specs.{key_capacity}
+use Rattle.base.specs.{◌≡◌, ap, ◌∙◌, List, ℕ, ◌-◌, arith, length, take, drop, length-drop, take_all}
+use Rattle.cut_lists.specs.{key_capacity, put_keys}
 use Rattle.cut_lists.proofs.NodeCuts.{too_many, few-enough, keys_small}
 use Rattle.cut_lists.proofs.list_node.Goals as goal
 
 counted : (keys : List ℕ) (n : ℕ) → length keys ≡ key_capacity → length (drop n keys) ≡ key_capacity - n
 counted keys n e = omega (arith, length-drop n keys)
+
+-- the slice of the keys from n on
+whole : (keys : List ℕ) (n : ℕ) → length keys ≡ key_capacity → take (key_capacity - n) (drop n keys) ≡ drop n keys
+whole keys n e = take_all (key_capacity - n) (drop n keys) (omega (arith, counted keys n e))
 
 pub returns-then-first-eq0 : goal.returns-then-first-eq0
 returns-then-first-eq0 c =
@@ -19,13 +23,12 @@ store_keys-requires c =
     let n : ℕ = k.result in (
       c.requires.0.capacity,
       c.requires.1,
-      omega (arith, c.if-first-eq0.false),
-      record { capacity = k.auto.keys; fits = k.ensures.1 },
-      λ i h. keys_small c.args.work.now c.args.m c.args.v c.requires.0 c.requires.1 (drop n k.new.keys) k.ensures.0 i (omega (arith, counted k.new.keys n k.auto.keys)),
+      omega (arith, counted k.new.keys n k.auto.keys, c.if-first-eq0.false),
+      λ i h. rw (whole k.new.keys n k.auto.keys) (keys_small c.args.work.now c.args.m c.args.v c.requires.0 c.requires.1 (drop n k.new.keys) k.ensures.0 i (omega (arith, counted k.new.keys n k.auto.keys))),
     )
 
 pub returns : goal.returns
 returns c =
     let k = c.node_keys-first in
     let few = few-enough c.args.work.now c.args.m c.args.v c.requires.0 c.requires.1 _ k.ensures.0 (omega (arith, counted k.new.keys k.result k.auto.keys, c.if-first-eq0.false)) in
-    record { value = few.0; work_after = c.store_keys.ensures ∙ few.1 }
+    record { value = few.0; work_after = c.store_keys.ensures ∙ ap (put_keys c.args.work.now c.args.m c.args.v) (whole k.new.keys k.result k.auto.keys) ∙ few.1 }

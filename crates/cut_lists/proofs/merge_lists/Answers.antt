@@ -19,7 +19,7 @@ loop-i-init c =
     let a = c.args in
     let e : drop c.count-i.result (cuts_at a.work.now a.m a.a) ≡ [] =
     ap (λ (n : ℕ). drop n (cuts_at a.work.now a.m a.a)) c.count-i.ensures ∙ none_left a.work.now a.m a.a in
-    (omega (arith, c.count-i.ensures), omega arith, c.requires.5, drop_of_length-le a.keys.now {i = 19} (omega (arith, c.requires.5)) ∙ none_yet _ _ e)
+    record { within = omega arith; merged = drop_of_length-le a.keys.now {i = 19} (omega (arith, c.requires.5)) ∙ none_yet _ _ e }
 
 pub merge_row-n-requires : goal.merge_row-n-requires
 merge_row-n-requires c =
@@ -33,7 +33,7 @@ merge_row-n-requires c =
       subst (λ (z : Cut). z.count ≤ 4) loaded (c.requires.3.narrow i (omega arith)),
       subst (λ (z : Cut). Good (leaves_of z)) loaded (cut-good a.work.now a.m a.a c.requires.3 i (omega arith)),
       packs.0,
-      record { capacity = c.loop-i.invariant.2; fits = c.loop-i.invariant.1 },
+      record { capacity = c.loop-i.auto.keys ∙ c.requires.5; fits = c.loop-i.invariant.within },
       packs.1,
     )
 
@@ -45,18 +45,16 @@ loop-i-preserved c =
     let cs : List (List ℕ) = cuts_at a.work.now a.m a.a in
     let ds : List (List ℕ) = cuts_at a.work.now a.m a.b in
     let more : drop i cs ≡ leaves_of c.load_cut-x.result ∷ drop c.loop-i.i cs =
-    at_hand a.work.now a.m a.a i (omega arith) ∙ (λ j. leaves_of (sym c.load_cut-x.ensures j) ∷ drop (e j) cs) in (
-      omega arith,
-      c.merge_row-n.ensures.1,
-      c.merge_row-n.auto.keys ∙ c.loop-i.invariant.2,
-      c.merge_row-n.ensures.0
-          ∙ ap (merge_row_keys (leaves_of c.load_cut-x.result) ds) c.loop-i.invariant.3
+    at_hand a.work.now a.m a.a i (omega arith) ∙ (λ j. leaves_of (sym c.load_cut-x.ensures j) ∷ drop (e j) cs) in record {
+      within = c.merge_row-n.ensures.1;
+      merged = c.merge_row-n.ensures.0
+          ∙ ap (merge_row_keys (leaves_of c.load_cut-x.result) ds) c.loop-i.invariant.merged
           ∙ merge-lists-more _ _ _
-          ∙ ap (λ (q : List (List ℕ)). merged_keys q ds) (sym more),
-    )
+          ∙ ap (λ (q : List (List ℕ)). merged_keys q ds) (sym more);
+    }
 
 pub returns : goal.returns
 returns c =
     let a = c.args in
     let zero_left : c.loop-i.i ≡ 0 = omega (arith, c.loop-i-test.false) in
-    (c.loop-i.invariant.3 ∙ ap (λ (i : ℕ). merged_keys (drop i (cuts_at a.work.now a.m a.a)) (cuts_at a.work.now a.m a.b)) zero_left, c.loop-i.invariant.1)
+    (c.loop-i.invariant.merged ∙ ap (λ (i : ℕ). merged_keys (drop i (cuts_at a.work.now a.m a.a)) (cuts_at a.work.now a.m a.b)) zero_left, c.loop-i.invariant.within)

@@ -34,18 +34,17 @@ module _ (w : List ℕ) (m v j : ℕ) (some : 0 < j) (within : j ≤ count_at w 
 
   -- a pair whose union is too long adds nothing
   wide-pair : (xs xn n : ℕ) (keys ks : List ℕ) →
-      (n ≤ key_capacity) × (length keys ≡ key_capacity) × ((X : List ℕ) → Packs xs xn X → drop n keys ≡ merge_row_keys X (drop j (cuts_at w m v)) ks)
+      n ≤ key_capacity → ((X : List ℕ) → Packs xs xn X → drop n keys ≡ merge_row_keys X (drop j (cuts_at w m v)) ks)
       → ((X : List ℕ) → Packs xs xn X → 4 < length (union compare X (leaves_at w m v (j - 1))))
-      → (j - 1 ≤ count_at w m v) × (n ≤ key_capacity) × (length keys ≡ key_capacity)
-      × ((X : List ℕ) → Packs xs xn X → drop n keys ≡ merge_row_keys X (drop (j - 1) (cuts_at w m v)) ks)
-  wide-pair xs xn n keys ks i wide =
-      (omega arith, i.0, i.1, λ X p. i.2 X p ∙ sym (pair-more X _ ∙ merge_row-wide X _ _ _ (wide X p)))
+      → record { within : n ≤ key_capacity; merged : (X : List ℕ) → Packs xs xn X → drop n keys ≡ merge_row_keys X (drop (j - 1) (cuts_at w m v)) ks }
+  wide-pair xs xn n keys ks few so_far wide =
+      record { within = few; merged = λ X p. so_far X p ∙ sym (pair-more X _ ∙ merge_row-wide X _ _ _ (wide X p)) }
 
 pub pairs-init : goal.pairs-init
 pairs-init c =
     let w : List ℕ = c.args.work.now in
     let e : drop c.count-j.result (cuts_at w c.args.m c.args.v) ≡ [] = rw c.count-j.ensures (none_left w c.args.m c.args.v) in
-    (omega (arith, c.count-j.ensures), c.requires.6.fits, c.requires.6.capacity, λ X p. none_yet X _ _ e)
+    record { within = c.requires.6.fits; merged = λ X p. none_yet X _ _ e }
 
 pub pairs-preserved-then-masks-j-ne0 : goal.pairs-preserved-then-masks-j-ne0
 pairs-preserved-then-masks-j-ne0 c =
@@ -54,15 +53,15 @@ pairs-preserved-then-masks-j-ne0 c =
     let g = c.signature-s in
     let own : g.result * 4294967296 + c.conflict_mask.result ≡ merge_row_mask a.x.count c.packed-xs.result =
     ap (λ (z : ℕ). g.result * 4294967296 + z) c.conflict_mask.ensures.0 ∙ ap (λ (z : ℕ). z * 4294967296 + conflict_mask a.x.count z) g.ensures.0 in
-    let l : c.pairs.j - 1 < count_at a.work.now a.m a.v = low a.work.now a.m a.v c.pairs.j c.pairs-test.true i.0 in
-    wide-pair a.work.now a.m a.v c.pairs.j c.pairs-test.true i.0 _ _ _ _ _ (i.1, i.2, i.3)
+    let l : c.pairs.j - 1 < count_at a.work.now a.m a.v = low a.work.now a.m a.v c.pairs.j c.pairs-test.true (omega arith) in
+    wide-pair a.work.now a.m a.v c.pairs.j c.pairs-test.true (omega arith) _ _ _ _ _ i.within i.merged
     (λ X p. barred X _ p (cut-good a.work.now a.m a.v c.requires.2 (c.pairs.j - 1) l) (λ e. c.if-masks-j-ne0.true ((λ z. bit_and (c.requires.7 (c.pairs.j - 1) l z) (own z)) ∙ e)))
 
 pub loop-left-init : goal.loop-left-init
 loop-left-init c =
     let a = c.args in
     let j : ℕ = c.pairs.j - 1 in
-    let l : j < count_at a.work.now a.m a.v = low a.work.now a.m a.v c.pairs.j c.pairs-test.true c.pairs.invariant.0 in
+    let l : j < count_at a.work.now a.m a.v = low a.work.now a.m a.v c.pairs.j c.pairs-test.true (omega arith) in
     λ X p. start X _ _ _ _ _ p
     (record {
       is = c.requires.5 j l;
@@ -74,7 +73,7 @@ pub pairs-preserved-then-left-eq0 : goal.pairs-preserved-then-left-eq0
 pairs-preserved-then-left-eq0 c =
     let a = c.args in
     let i = c.pairs.invariant in
-    wide-pair a.work.now a.m a.v c.pairs.j c.pairs-test.true i.0 _ _ _ _ _ (i.1, i.2, i.3)
+    wide-pair a.work.now a.m a.v c.pairs.j c.pairs-test.true (omega arith) _ _ _ _ _ i.within i.merged
     (λ X p. over-left (c.loop-left.invariant X p) c.if-q-p.true c.if-left-eq0.true)
 
 pub further-done-requires : goal.further-done-requires
@@ -90,7 +89,7 @@ pub pairs-preserved-then-right-eq0 : goal.pairs-preserved-then-right-eq0
 pairs-preserved-then-right-eq0 c =
     let a = c.args in
     let i = c.pairs.invariant in
-    wide-pair a.work.now a.m a.v c.pairs.j c.pairs-test.true i.0 _ _ _ _ _ (i.1, i.2, i.3)
+    wide-pair a.work.now a.m a.v c.pairs.j c.pairs-test.true (omega arith) _ _ _ _ _ i.within i.merged
     (λ X p. over-right (c.loop-left.invariant X p) c.if-p-q.true c.if-right-eq0.true)
 
 pub further-done-requires-then-p-q : goal.further-done-requires-then-p-q
@@ -117,24 +116,22 @@ pub pairs-preserved : goal.pairs-preserved
 pairs-preserved c =
     let a = c.args in
     let i = c.pairs.invariant in
-    let zero_second : c.loop-left.b % 65536 ≡ 0 = omega (arith, c.if-p-q.false, c.if-q-p.false, c.if-p-eq0.true) in (
-      omega (arith, i.0),
-      c.insert-n.ensures.1,
-      c.insert-n.auto.keys ∙ i.2,
-      λ X p.
+    let zero_second : c.loop-left.b % 65536 ≡ 0 = omega (arith, c.if-p-q.false, c.if-q-p.false, c.if-p-eq0.true) in record {
+      within = c.insert-n.ensures.1;
+      merged = λ X p.
           let g = c.loop-left.invariant X p in
           let u = at-end g c.if-p-eq0.true zero_second in
           c.insert-n.ensures.0
-          ∙ (λ z. added ((g.sum ∙ ap key (sym u.0)) z) (i.3 X p z))
-          ∙ sym (pair-more a.work.now a.m a.v c.pairs.j c.pairs-test.true i.0 X _ ∙ merge_row-narrow X _ _ _ (omega (arith, ap length u.0, u.1))),
-    )
+          ∙ (λ z. added ((g.sum ∙ ap key (sym u.0)) z) (i.merged X p z))
+          ∙ sym (pair-more a.work.now a.m a.v c.pairs.j c.pairs-test.true (omega arith) X _ ∙ merge_row-narrow X _ _ _ (omega (arith, ap length u.0, u.1)));
+    }
 
 pub returns : goal.returns
 returns c =
     let a = c.args in
     let four : length a.x.leaves ≡ 4 = search rules in
     let zero_left : c.pairs.j ≡ 0 = omega (arith, c.pairs-test.false) in (
-      c.pairs.invariant.3 _ (x-packs a.x _ c.packed-xs.ensures four c.requires.3 c.requires.4)
+      c.pairs.invariant.merged _ (x-packs a.x _ c.packed-xs.ensures four c.requires.3 c.requires.4)
           ∙ ap (λ (j : ℕ). merge_row_keys (leaves_of a.x) (drop j (cuts_at a.work.now a.m a.v)) (drop a.had a.keys.now)) zero_left,
-      c.pairs.invariant.1,
+      c.pairs.invariant.within,
     )

@@ -1,8 +1,7 @@
 -- `cut_lists::merge_row` meets its contract. The outer invariant: the keys are `merge_row_keys` over the cuts of v from the j-th on; the inner one: the merge is under way. Of x only its
--- leaves, packed, and their number are at hand in the loops, so both are said of every cut that is packed so. The inner measure is what is left to merge, the outer one
--- the number of cuts that are left.
-use Rattle.base.specs.{◌≡◌, List, ℕ, ◌+◌, ◌≤◌, length, drop}
-use Rattle.base_words.specs.{count_at, leaves_at, cuts_at}
+-- leaves, packed, and their number are at hand in the loops, so both are said of every cut that is packed so. The inner measure is what is left to merge.
+use Rattle.base.specs.{◌≡◌, List, ℕ, ◌+◌, ◌≤◌, drop}
+use Rattle.base_words.specs.{leaves_at, cuts_at}
 use Rattle.cut_lists.specs.{merge_row_keys, key_capacity}
 use Rattle.cut_lists.proofs.CutPacking.{Packs, Merged}
 use Rattle.cut_lists.proofs.merge_row.Given as goal
@@ -15,8 +14,7 @@ decreases-loop-left l = l.a + l.b
 
 abbrev pub invariant-pairs : goal.invariant-pairs
 invariant-pairs l =
-    (l.j ≤ count_at l.work l.m l.v) × (l.n ≤ key_capacity) × (length l.keys ≡ key_capacity)
-    × ((X : List ℕ) → Packs l.xs l.xn X → drop l.n l.keys ≡ merge_row_keys X (drop l.j (cuts_at l.work l.m l.v)) (drop l.had l.fn.keys))
-
-abbrev pub decreases-pairs : goal.decreases-pairs
-decreases-pairs l = l.j
+    record {
+      within : l.n ≤ key_capacity;
+      merged : (X : List ℕ) → Packs l.xs l.xn X → drop l.n l.keys ≡ merge_row_keys X (drop l.j (cuts_at l.work l.m l.v)) (drop l.had l.fn.keys);
+    }

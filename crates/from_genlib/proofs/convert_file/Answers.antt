@@ -1,8 +1,7 @@
 -- `from_genlib::convert_file` is safe: the length that `convert` answers is within text memory.
 use Rattle.std.specs.Prelude.{◌≡◌}
 use Rattle.base.specs.{ℕ, arith, refl, sym, ◌∙◌, List, length-take}
-use Rattle.model.specs.{Read, holds, fault, written_answer}
-use Rattle.model.specs.declared.Written.{Written}
+use Rattle.model.specs.{Read, holds, fault, written_answer, Written}
 use Rattle.promises.specs.{TextWritten}
 use Rattle.genlib_call.proofs.{length-within}
 use Rattle.from_genlib.proofs.convert_file.Goals as goal
@@ -15,9 +14,9 @@ answered (fault n k) w = w.refusal n k refl
 
 pub slice_bounds-put-end : goal.slice_bounds-put-end
 slice_bounds-put-end g c =
-    let h = length-within c.args.genlib.now _ _ (sym c.in-Length.is ∙ answered _ c.convert.ensures.memory) in omega arith
+    let h = length-within c.args.genlib.now _ _ (sym c.in-Ok.is ∙ answered _ c.convert.ensures.memory) in omega arith
 
-pub slice_bounds-put-end-in-Length : goal.slice_bounds-put-end-in-Length
-slice_bounds-put-end-in-Length g c =
-    let h = length-within c.args.genlib.now _ _ (sym c.in-Length.is ∙ answered _ c.convert.ensures.memory) in
-    omega (arith, length-take c.in-Length.n c.convert.new.text)
+pub slice_bounds-put-end-in-Ok : goal.slice_bounds-put-end-in-Ok
+slice_bounds-put-end-in-Ok g c =
+    let h = length-within c.args.genlib.now _ _ (sym c.in-Ok.is ∙ answered _ c.convert.ensures.memory) in
+    omega (arith, length-take c.in-Ok.n c.convert.new.text)

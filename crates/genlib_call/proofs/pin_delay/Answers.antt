@@ -1,8 +1,8 @@
 -- `genlib_call::pin_delay` meets its contract.
-use Rattle.base.specs.{sym, ap, ◌∙◌, arith}
+use Rattle.base.specs.{sym, ◌∙◌, arith}
 use Rattle.genlib_expression.specs.{name_at, names_at}
 use Rattle.genlib_expression.proofs.{length-names, name_of_lem}
-use Rattle.genlib_groups.specs.{value_in, lines_behind}
+use Rattle.genlib_groups.specs.{lines_behind}
 use Rattle.genlib_call.proofs.GateValidation.{pin-there, pin-absent}
 use Rattle.genlib_call.proofs.pin_delay.Goals as goal
 
@@ -11,10 +11,10 @@ returns-then-j-p c =
     let h = c.if-j-p.true in
     let a = c.args in
     let w = a.w.now in
-    c.delay_named.ensures ∙ ap value_in (sym (pin-there (lines_behind a.s.now a.from) (names_at w a.p) a.j (name_at w a.p a.j) (omega (arith, length-names w a.p)) (name_of_lem w a.p a.j h)))
+    c.delay_named.ensures ∙ sym (pin-there (lines_behind a.s.now a.from) (names_at w a.p) a.j (name_at w a.p a.j) (omega (arith, length-names w a.p)) (name_of_lem w a.p a.j h))
 
 pub returns-else-j-p : goal.returns-else-j-p
 returns-else-j-p c =
     let a = c.args in
     let w = a.w.now in
-    sym (ap value_in (pin-absent (lines_behind a.s.now a.from) (names_at w a.p) a.j (omega (arith, length-names w a.p, c.if-j-p.false))))
+    sym (pin-absent (lines_behind a.s.now a.from) (names_at w a.p) a.j (omega (arith, length-names w a.p, c.if-j-p.false)))

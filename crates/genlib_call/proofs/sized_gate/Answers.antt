@@ -39,6 +39,6 @@ returns c =
     let f = c.find_pins-p in
     let rest = c.nth-n.ensures.rest in
     let few = few_lem a.w.now f.result (drop 5 ts) (f.ensures.1.few c.if-p-gt4.false ∙ ap pins_of rest) c.if-p-gt4.false in
-    let r = c.gate_of.ensures in
     let flat : shallow 0 (drop 5 ts) ≡ true = sym (c.is_shallow.ensures ∙ ap (shallow 0) rest) ∙ c.if-not-is_shallow.false in
-    (r.0, as_read a.s.now a.at c.gate_of.result _ r.1 r.2 ∙ sym (sized_fits lines ts a.at few flat))
+    let r = as_read a.s.now a.at c.gate_of.result _ c.gate_of.ensures.stands c.gate_of.ensures.same in
+    rw c.ok_or.ensures.value (r.0, r.1 ∙ sym (sized_fits lines ts a.at few flat))

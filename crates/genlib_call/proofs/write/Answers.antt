@@ -43,9 +43,6 @@ write_gate-to-requires c =
           (lines_for (groups_behind s l.at)) (lines-here s l.at h),
     )
 
-pub loop-at-smaller : goal.loop-at-smaller
-loop-at-smaller c = omega (arith, c.group_end-at.ensures.0, c.group_end-at.ensures.1)
-
 pub loop-at-preserved : goal.loop-at-preserved
 loop-at-preserved c =
     let s = c.args.s.now in

@@ -10,16 +10,16 @@ use Rattle.genlib_call.proofs.GatePasses.{line-held, line-none}
 use Rattle.genlib_call.proofs.write_gate.Goals as goal
 
 pub put_gate-requires : goal.put_gate-requires
-put_gate-requires c = (c.in-Cell.ensures.0, omega (arith, c.requires.2, ap length (line-held (group_at c.args.s.now c.args.at) _ (sym c.in-Cell.ensures.1))))
+put_gate-requires c = (c.in-Ok.ensures.0, omega (arith, c.requires.2, ap length (line-held (group_at c.args.s.now c.args.at) _ (sym c.in-Ok.ensures.1))))
 
-pub returns-in-Cell : goal.returns-in-Cell
-returns-in-Cell c =
+pub returns-in-Ok : goal.returns-in-Ok
+returns-in-Ok c =
     let p = c.put_gate in
     let a = c.args in
-    let line : line_of (group_at a.s.now a.at) ≡ gate_text (gate_in a.s.now c.in-Cell.g) = line-held (group_at a.s.now a.at) _ (sym c.in-Cell.ensures.1) in
+    let line : line_of (group_at a.s.now a.at) ≡ gate_text (gate_in a.s.now c.in-Ok.g) = line-held (group_at a.s.now a.at) _ (sym c.in-Ok.ensures.1) in
     subst (λ (bs : List ℕ). Wrote a.out.now p.new.out a.to p.result bs) (sym line) p.ensures
 
-pub returns-in-Refused : goal.returns-in-Refused
-returns-in-Refused c =
+pub returns-in-Err : goal.returns-in-Err
+returns-in-Err c =
     let a = c.args in
-    idle a.out.now a.to (line-none (group_at a.s.now a.at) _ _ (sym c.in-Refused.ensures.1))
+    idle a.out.now a.to (line-none (group_at a.s.now a.at) _ _ (sym c.in-Err.ensures.1))

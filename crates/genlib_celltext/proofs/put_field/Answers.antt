@@ -16,7 +16,9 @@ put_byte-a-requires c = omega (arith, field_length c.args.n)
 pub put_number-requires : goal.put_number-requires
 put_number-requires c =
     let n = c.args.n in
-    capacity c.requires (one c.args.out.now c.args.at n c.requires c.put_byte-a.ensures) (decimal n) [] (sym (append-nil (decimal n)))
+    rw c.from.ensures (capacity c.requires (one c.args.out.now c.args.at n c.requires c.put_byte-a.ensures) (decimal n) [] (sym (append-nil (decimal n))))
 
 pub returns : goal.returns
-returns c = finish c.requires (one c.args.out.now c.args.at c.args.n c.requires c.put_byte-a.ensures) (as_wrote c.put_number.ensures)
+returns c =
+    let written = rw c.from.ensures at c.put_number.ensures in
+    finish c.requires (one c.args.out.now c.args.at c.args.n c.requires c.put_byte-a.ensures) (as_wrote written)

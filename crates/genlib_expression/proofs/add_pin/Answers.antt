@@ -8,7 +8,7 @@ use Rattle.model.specs.{is_pin, add_pins}
 use Rattle.genlib_expression.specs.{parts_at, names_at, with_pin, Listed}
 use Rattle.genlib_expression.proofs.PinNumbering.{pin-word, add-one-pin, add_no_pin, add_none}
 use Rattle.genlib_expression.proofs.add_pin.Goals as goal
-use Rattle.genlib_expression.proofs.add_pin.Goals.{else-from-to-via-then-from-to+else-is_pin, else-from-to-via-else-from-to}
+use Rattle.genlib_expression.proofs.add_pin.Goals.{else-t-via-then-t+else-is_pin, else-t-via-else-t}
 
 -- the list with the pin, or as it was
 module _ (w : List ℕ) (p : Pins) (t : Token) where
@@ -25,20 +25,13 @@ module _ (w : List ℕ) (p : Pins) (t : Token) where
     unfolding add_pin
     pin e = sym (rw (lt-ltb t.from t.to h, e))
 
--- the list with the pin, or as it was
-pub slice_bounds-is_pin-end : goal.slice_bounds-is_pin-end
-slice_bounds-is_pin-end c = c.requires.3
-
-pub slice_bounds-with_pin-end : goal.slice_bounds-with_pin-end
-slice_bounds-with_pin-end c = c.requires.3
-
 pub with_pin-requires : goal.with_pin-requires
 with_pin-requires c = (c.requires.0, c.requires.1, c.requires.4.word (pin-word _ (sym c.is_pin.ensures ∙ c.if-is_pin.true)))
 
 pub returns-then-is_pin : goal.returns-then-is_pin
 returns-then-is_pin c =
-    let e = add-one-pin c.args.w.now c.args.t (names_at c.args.w.now c.args.p) c.if-from-to.true (sym c.is_pin.ensures ∙ c.if-is_pin.true) in
-    (c.with_pin.ensures.0, subst (λ (x : List (List ℕ)). Listed c.args.w.now x c.with_pin.result) (sym e) c.with_pin.ensures.1, c.with_pin.ensures.2 ∙ pin c.args.w.now c.args.p c.args.t c.if-from-to.true (sym c.is_pin.ensures ∙ c.if-is_pin.true))
+    let e = add-one-pin c.args.w.now c.args.t (names_at c.args.w.now c.args.p) c.if-t.true (sym c.is_pin.ensures ∙ c.if-is_pin.true) in
+    (c.with_pin.ensures.0, subst (λ (x : List (List ℕ)). Listed c.args.w.now x c.with_pin.result) (sym e) c.with_pin.ensures.1, c.with_pin.ensures.2 ∙ pin c.args.w.now c.args.p c.args.t c.if-t.true (sym c.is_pin.ensures ∙ c.if-is_pin.true))
 
 pub returns : goal.returns
 returns c =
@@ -47,9 +40,9 @@ returns c =
     let p = c.args.p in
     let as-was : add_pins (names_at w p) (parts_at w t) ≡ names_at w p → Listed w (add_pins (names_at w p) (parts_at w t)) p =
     λ e. record { few = λ h. sym e; many = λ h. absurd (omega (arith, c.requires.0)) } in
-    elim c.else-from-to.branch [
-      | else-from-to-via-then-from-to+else-is_pin y ↦
+    elim c.else-t.branch [
+      | else-t-via-then-t+else-is_pin y ↦
           let no = sym y.is_pin.ensures ∙ y.if-is_pin.false in
-          (c.requires.1, as-was (add_no_pin w t (names_at w p) y.if-from-to.true no), other w p t y.if-from-to.true no)
-      | else-from-to-via-else-from-to y ↦ (c.requires.1, as-was (add_none w t (names_at w p) y.if-from-to.false), none w p t y.if-from-to.false)
+          (c.requires.1, as-was (add_no_pin w t (names_at w p) y.if-t.true no), other w p t y.if-t.true no)
+      | else-t-via-else-t y ↦ (c.requires.1, as-was (add_none w t (names_at w p) y.if-t.false), none w p t y.if-t.false)
     ]

@@ -8,9 +8,6 @@ use Rattle.genlib_expression.proofs.ExpressionWalk.{step, nothing_left_lem}
 use Rattle.genlib_expression.proofs.ExpressionScan.{scan_step_lem, scan-depth}
 use Rattle.genlib_expression.proofs.is_formed.Goals as goal
 
-pub loop-at-init : goal.loop-at-init
-loop-at-init c = (c.requires, omega arith, refl)
-
 pub scan_at-s-requires : goal.scan_at-s-requires
 scan_at-s-requires c = let k = step _ _ c.loop-at.invariant.0 _ c.next_token-t.ensures in (k.ordered, k.within, omega arith)
 

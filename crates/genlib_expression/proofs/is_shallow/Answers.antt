@@ -1,13 +1,10 @@
 -- `genlib_expression::is_shallow` meets its contract. The invariant: the line is shallow where what is left of it is; the measure is what is left.
-use Rattle.base.specs.{refl, sym, ap, ◌∙◌, arith, ℕ, ◌+◌, le-leb}
+use Rattle.base.specs.{sym, ap, ◌∙◌, arith, ℕ, ◌+◌, le-leb}
 use Rattle.model.specs.{shallow}
 use Rattle.genlib_expression.specs.{rest_at}
 use Rattle.genlib_expression.proofs.ExpressionWalk.{nothing_left_lem}
 use Rattle.genlib_expression.proofs.ExpressionScan.{shallow_byte, shallow-over}
 use Rattle.genlib_expression.proofs.is_shallow.Goals as goal
-
-pub step_depth-depth-requires : goal.step_depth-depth-requires
-step_depth-depth-requires c = c.loop-at.invariant.0
 
 pub returns-then-depth-gt16 : goal.returns-then-depth-gt16
 returns-then-depth-gt16 c =
@@ -27,6 +24,3 @@ loop-at-preserved c =
 pub returns : goal.returns
 unfolding shallow
 returns c = let l = c.loop-at in sym (l.invariant.1 ∙ ap (shallow l.depth) (nothing_left_lem _ _ c.loop-at-test.false) ∙ le-leb _ _ l.invariant.0)
-
-pub loop-at-init : goal.loop-at-init
-loop-at-init c = (omega arith, refl)

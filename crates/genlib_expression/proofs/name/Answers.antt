@@ -1,5 +1,5 @@
 -- `genlib_expression::name` meets its contract, by the token that stands there.
-use Rattle.base.specs.{◌≡◌, subst, none, ◌≤◌, ◌<◌, length}
+use Rattle.base.specs.{◌≡◌, subst, None, ◌≤◌, ◌<◌, length}
 use Rattle.model.specs.{quoted}
 use Rattle.model.specs.GenlibFormula.{named}
 use Rattle.genlib_expression.specs.declared.Token.{Token}
@@ -27,42 +27,33 @@ module _ (w : List ℕ) (at : ℕ) (h : at ≤ length w) (t : Token) (e : t ≡ 
         subst (λ (x : Token). (named value odd (rest_at w at) ≡ quoted (flip odd (value (part w x.from x.to))) (rest_at w x.to)) × (at < x.to)) (sym e)
         (name-yes w at h value odd (ap is_word (sym bytes) ∙ k))
 
-    no_name : is_word (part w t.from t.to) ≡ false → named value odd (rest_at w at) ≡ none
+    no_name : is_word (part w t.from t.to) ≡ false → named value odd (rest_at w at) ≡ None
     no_name k = name_no w at h value odd (ap is_word (sym bytes) ∙ k)
 
 -- the token's places
-pub negated_by_signs-q-requires : goal.negated_by_signs-q-requires
-negated_by_signs-q-requires c = (bounds _ _ c.requires.0 _ c.next_token-t.ensures).2
+pub negated_by_signs-odd_signs-requires : goal.negated_by_signs-odd_signs-requires
+negated_by_signs-odd_signs-requires c = (bounds _ _ c.requires.0 _ c.next_token-t.ensures).2
 
-pub returns-then-is_word : goal.returns-then-is_word
-returns-then-is_word c =
-    let q = c.negated_by_signs-q in
+pub returns : goal.returns
+returns c =
+    let q = c.negated_by_signs-odd_signs in
     let w = c.args.w.now in
     let t = c.next_token-t in
-    let y : (value : List ℕ → Bool) → _ = λ value. is_name w c.args.at c.requires.0 t.result t.ensures value c.args.odd (sym c.is_word.ensures ∙ c.if-is_word.true) in (
+    let y : (value : List ℕ → Bool) → _ = λ value. is_name w c.args.at c.requires.0 t.result t.ensures value c.args.odd (sym c.is_word.ensures ∙ c.if-not-is_word.false) in (
       (omega (arith, q.ensures.0, (y (λ x. true)).1), q.ensures.1),
-      λ row h. quoted-is w row c.in_phase.result q.result.at _ _ _ _ (in_phase-row _ _ _ row c.in_phase.ensures (omega arith) h ∙ ap (flip q.result.value) (c.name_value-v.ensures row h)) q.ensures.2
+      λ row h. quoted-is w row c.in_phase.result q.result.1 _ _ _ _ (in_phase-row _ _ _ row c.in_phase.ensures (omega arith) h ∙ ap (flip q.result.0) (c.name_value-v.ensures row h)) q.ensures.2
           ∙ sym (y (name_value (names_at w c.args.p) row)).0,
     )
 
-pub returns-else-is_word : goal.returns-else-is_word
-returns-else-is_word c =
-    (tt, λ row h. sym (no_name c.args.w.now c.args.at c.requires.0 _ c.next_token-t.ensures _ _ (sym c.is_word.ensures ∙ c.if-is_word.false)))
+pub returns-then-not-is_word : goal.returns-then-not-is_word
+returns-then-not-is_word c =
+    (tt, λ row h. sym (no_name c.args.w.now c.args.at c.requires.0 _ c.next_token-t.ensures _ _ (sym c.is_word.ensures ∙ c.if-not-is_word.true)))
 
-pub slice_bounds-is_word-count : goal.slice_bounds-is_word-count
-slice_bounds-is_word-count c = (bounds _ _ c.requires.0 _ c.next_token-t.ensures).1
+pub slice_bounds-word-count : goal.slice_bounds-word-count
+slice_bounds-word-count c = (bounds _ _ c.requires.0 _ c.next_token-t.ensures).1
 
-pub slice_bounds-is_word-start : goal.slice_bounds-is_word-start
-slice_bounds-is_word-start c = (bounds _ _ c.requires.0 _ c.next_token-t.ensures).1
+pub slice_bounds-word-start : goal.slice_bounds-word-start
+slice_bounds-word-start c = (bounds _ _ c.requires.0 _ c.next_token-t.ensures).1
 
-pub slice_bounds-is_word-end : goal.slice_bounds-is_word-end
-slice_bounds-is_word-end c = (bounds _ _ c.requires.0 _ c.next_token-t.ensures).2
-
-pub slice_bounds-name_value-count : goal.slice_bounds-name_value-count
-slice_bounds-name_value-count c = (bounds _ _ c.requires.0 _ c.next_token-t.ensures).1
-
-pub slice_bounds-name_value-start : goal.slice_bounds-name_value-start
-slice_bounds-name_value-start c = (bounds _ _ c.requires.0 _ c.next_token-t.ensures).1
-
-pub slice_bounds-name_value-end : goal.slice_bounds-name_value-end
-slice_bounds-name_value-end c = (bounds _ _ c.requires.0 _ c.next_token-t.ensures).2
+pub slice_bounds-word-end : goal.slice_bounds-word-end
+slice_bounds-word-end c = (bounds _ _ c.requires.0 _ c.next_token-t.ensures).2

@@ -4,8 +4,8 @@ use Rattle.model.specs.{negated_by_signs}
 use Rattle.genlib_expression.specs.{rest_at}
 use Rattle.genlib_expression.proofs.negated_by_signs.Given as goal
 
-abbrev pub invariant-loop-at : goal.invariant-loop-at
-invariant-loop-at l = (l.from ≤ l.at) × (l.at ≤ length l.w) × (negated_by_signs l.b l.start (rest_at l.w l.from) ≡ negated_by_signs l.b l.value (rest_at l.w l.at))
+abbrev pub invariant-loop-next : goal.invariant-loop-next
+invariant-loop-next l = (l.from ≤ l.at) × (l.at ≤ length l.w) × (negated_by_signs l.b l.start (rest_at l.w l.from) ≡ negated_by_signs l.b l.value (rest_at l.w l.at))
 
-abbrev pub decreases-loop-at : goal.decreases-loop-at
-decreases-loop-at l = length l.w - l.at
+abbrev pub decreases-loop-next : goal.decreases-loop-next
+decreases-loop-next l = length l.w - l.at

@@ -7,13 +7,9 @@ pub returns-in-40 : goal.returns-in-40
 unfolding opened_by
 returns-in-40 c = rw c.in-40.is
 
-pub returns-then-depth-gt0 : goal.returns-then-depth-gt0
+pub returns-in-41 : goal.returns-in-41
 unfolding opened_by
-returns-then-depth-gt0 c = rw c.in-41.is
-
-pub returns-else-depth-gt0 : goal.returns-else-depth-gt0
-unfolding opened_by
-returns-else-depth-gt0 c = rw c.in-41.is (omega arith)
+returns-in-41 c = rw c.in-41.is c.saturating_sub.ensures
 
 pub returns-in_default : goal.returns-in_default
 unfolding opened_by

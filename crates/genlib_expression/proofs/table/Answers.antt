@@ -4,7 +4,7 @@ use Rattle.model.specs.{bit, value}
 use Rattle.model.proofs.{rows_less, row-bit, row-none}
 use Rattle.base_truth.proofs.{tables_same, value-and}
 use Rattle.base_text.proofs.{and-true, and-false}
-use Rattle.base.specs.{◌≡◌, sym, ap, ◌∙◌, true, arith, ◌^◌, bit_and, and_le_l}
+use Rattle.base.specs.{◌≡◌, sym, ap, ◌∙◌, true, arith, ◌^◌, bit_and, and_le_l, and_le_r}
 use Rattle.model.specs.{value_taken, row_bits}
 use Rattle.model.specs.GenlibFormula.{value_of}
 use Rattle.model.proofs.{rows-most}
@@ -32,17 +32,17 @@ module _ (f : ℕ → Bool) (t n : ℕ) (small : n ≤ 16) (is : (row : ℕ) →
   masked h = tables_same (bit_and t (row_bits (λ r. true) 0 n)) (row_bits f 0 n) h below (λ row k. value-and t (row_bits (λ r. true) 0 n) row ∙ row_of row k)
 
 -- the rows of a table below n, and 0 above
-pub returns-in-At : goal.returns-in-At
+pub returns-in-Some : goal.returns-in-Some
 unfolding value_of value_taken
-returns-in-At c =
+returns-in-Some c =
     let n = 2 ^ c.args.p.n in
-    let v = c.in-At.v in
+    let v = c.in-Some.v in
     ap (bit_and v) c.rows.ensures
-    ∙ masked _ v n (rows-most _ c.requires.1) (λ row h. sym (ap value_taken (known _ row _ _ _ c.in-At.is (c.sum.ensures.same row h 65537 (omega arith))))) (omega (arith, and_le_l v (row_bits (λ row. true) 0 n)))
+    ∙ masked _ v n (rows-most _ c.requires.1) (λ row h. sym (ap value_taken (known _ row _ _ _ c.in-Some.is (c.sum.ensures.same row h 65537 (omega arith))))) (omega (arith, and_le_r v (row_bits (λ row. true) 0 n), c.rows.ensures, c.rows.type_inv))
 
-pub returns-in-Broken : goal.returns-in-Broken
+pub returns-in-None : goal.returns-in-None
 unfolding value_of value_taken
-returns-in-Broken c =
+returns-in-None c =
     let n = 2 ^ c.args.p.n in
     let none : 0 ≡ bit_and 0 (row_bits (λ row. true) 0 n) = omega (arith, and_le_l 0 (row_bits (λ row. true) 0 n)) in
-    none ∙ masked _ 0 n (rows-most _ c.requires.1) (λ row h. no_row row ∙ sym (ap value_taken (known _ row _ _ _ c.in-Broken.is (c.sum.ensures.same row h 65537 (omega arith))))) (omega arith)
+    none ∙ masked _ 0 n (rows-most _ c.requires.1) (λ row h. no_row row ∙ sym (ap value_taken (known _ row _ _ _ c.in-None.is (c.sum.ensures.same row h 65537 (omega arith))))) (omega arith)

@@ -36,6 +36,3 @@ returns c =
       | else-end-from-via-then-end-from+else-from-w w ↦ past _ _ _ e w.if-from-w.false
       | else-end-from-via-else-end-from w ↦ word _ _ _ e w.if-end-from.false
     ]
-
-pub overflow_add-result : goal.overflow_add-result
-overflow_add-result c = omega arith

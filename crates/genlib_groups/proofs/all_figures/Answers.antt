@@ -1,12 +1,9 @@
 -- `genlib_groups::all_figures` meets its contract. The invariant: all tokens are figures where all that are left are; the measure is what is left of the line.
-use Rattle.base.specs.{refl, sym, ap, ◌∙◌, arith}
+use Rattle.base.specs.{sym, ap, ◌∙◌, arith}
 use Rattle.model.specs.{all, is_figure}
 use Rattle.genlib_expression.proofs.{step, nothing_left_lem}
 use Rattle.genlib_groups.proofs.all_figures.Goals as goal
-use Rattle.genlib_groups.proofs.all_figures.Goals.{else-a-b-via-then-a-b+else-not-is_figure, else-a-b-via-else-a-b}
-
-pub loop-at-init : goal.loop-at-init
-loop-at-init c = (c.requires, refl)
+use Rattle.genlib_groups.proofs.all_figures.Goals.{else-t-via-then-t+else-not-is_figure, else-t-via-else-t}
 
 pub slice_bounds-is_figure-end : goal.slice_bounds-is_figure-end
 slice_bounds-is_figure-end c = (step _ _ c.loop-at.invariant.0 _ c.next_token-t.ensures).within
@@ -16,7 +13,7 @@ unfolding all
 returns-then-not-is_figure c =
     let l = c.loop-at in
     let k = step _ _ l.invariant.0 _ c.next_token-t.ensures in
-    sym (l.invariant.1 ∙ ap (all is_figure) (k.one c.if-a-b.true) ∙ rw (sym c.is_figure.ensures ∙ c.if-not-is_figure.true))
+    sym (l.invariant.1 ∙ ap (all is_figure) (k.one c.if-t.true) ∙ rw (sym c.is_figure.ensures ∙ c.if-not-is_figure.true))
 
 pub loop-at-smaller : goal.loop-at-smaller
 loop-at-smaller c =
@@ -30,9 +27,9 @@ loop-at-preserved c =
     let k = step _ _ l.invariant.0 _ c.next_token-t.ensures in (
       k.within,
       l.invariant.1
-          ∙ elim c.else-a-b.branch [
-            | else-a-b-via-then-a-b+else-not-is_figure y ↦ ap (all is_figure) (k.one y.if-a-b.true) ∙ rw (sym y.is_figure.ensures ∙ y.if-not-is_figure.false)
-            | else-a-b-via-else-a-b y ↦ ap (all is_figure) (k.none y.if-a-b.false).0 ∙ sym (ap (all is_figure) (k.none y.if-a-b.false).1)
+          ∙ elim c.else-t.branch [
+            | else-t-via-then-t+else-not-is_figure y ↦ ap (all is_figure) (k.one y.if-t.true) ∙ rw (sym y.is_figure.ensures ∙ y.if-not-is_figure.false)
+            | else-t-via-else-t y ↦ ap (all is_figure) (k.none y.if-t.false).0 ∙ sym (ap (all is_figure) (k.none y.if-t.false).1)
           ],
     )
 

@@ -1,4 +1,4 @@
--- `genlib_groups::all_have_lines` meets its contract. The invariant: all tokens have their lines where the pins that are left do; the measure is how many are left.
+-- `genlib_groups::all_have_lines` meets its contract. The invariant: all tokens have their lines where the pins that are left do.
 use Rattle.base.specs.{◌≡◌, sym, ap, ◌∙◌, arith, ◌-◌}
 use Rattle.model.specs.{all, below}
 use Rattle.genlib_expression.specs.{names_at}
@@ -13,7 +13,7 @@ loop-i-init c =
     let has = pin_has (lines_behind c.args.s.now c.args.from) in
     let n = f.result.n in
     let z : n - 0 ≡ n = omega arith in
-    (c.if-n-gt4.false, f.ensures.0, c.requires.0, rw z (pins-all has (has-free _) _ ∙ ap (all has) (sym (f.ensures.1.few c.if-n-gt4.false))))
+    (c.if-p-gt4.false, f.ensures.0, c.requires.0, rw z (pins-all has (has-free _) _ ∙ ap (all has) (sym (f.ensures.1.few c.if-p-gt4.false))))
 
 pub returns-then-not-has_line : goal.returns-then-not-has_line
 returns-then-not-has_line c =
@@ -25,7 +25,4 @@ loop-i-preserved c =
     (l.0, l.1, l.2, l.3 ∙ pins-step _ _ _ _ c.loop-i-test.true ∙ rw (ap (pin_has _) (sym c.word_at.ensures) ∙ sym c.has_line.ensures ∙ c.if-not-has_line.false))
 
 pub returns : goal.returns
-returns c = sym (c.loop-i.invariant.3 ∙ pins-end _ _ _ _ c.loop-i-test.false)
-
-pub returns-then-n-gt4 : goal.returns-then-n-gt4
-returns-then-n-gt4 c = c.tokens_have_lines.ensures
+returns c = sym (c.loop-i.invariant.3 ∙ pins-end _ _ _ _ (omega arith))

@@ -1,13 +1,10 @@
 -- `genlib_groups::all_pin_lines` meets its contract. The invariant: all lines are PIN lines where all from here on are; the measure is what is left of the text.
-use Rattle.base.specs.{refl, sym, ap, ◌∙◌, arith}
+use Rattle.base.specs.{sym, ap, ◌∙◌, arith}
 use Rattle.model.specs.{all, line_is, is_pin_line}
 use Rattle.genlib_groups.proofs.GenlibLineLaws.{bounded, starts-gate, not-ended, is-ended}
 use Rattle.genlib_groups.proofs.GroupReading.{gate-here, line-here, none_here}
 use Rattle.genlib_groups.proofs.all_pin_lines.Goals as goal
-use Rattle.genlib_groups.proofs.all_pin_lines.Goals.{then-stop-l-via-then-stop-l, then-stop-l-via-else-stop-l+then-not-is_pin_line}
-
-pub loop-at-init : goal.loop-at-init
-loop-at-init c = (c.requires, refl)
+use Rattle.genlib_groups.proofs.all_pin_lines.Goals.{then-l-via-then-l, then-l-via-else-l+then-not-is_pin_line}
 
 pub slice_bounds-names_gate-count : goal.slice_bounds-names_gate-count
 slice_bounds-names_gate-count c = (bounded _ _ c.loop-at-test.true _ c.line-l.ensures).starts
@@ -31,19 +28,16 @@ slice_bounds-is_pin_line-count c = (bounded _ _ c.loop-at-test.true _ c.line-l.e
 pub slice_bounds-is_pin_line-start : goal.slice_bounds-is_pin_line-start
 slice_bounds-is_pin_line-start c = (bounded _ _ c.loop-at-test.true _ c.line-l.ensures).starts
 
-pub slice_bounds-is_pin_line-end : goal.slice_bounds-is_pin_line-end
-slice_bounds-is_pin_line-end c = (bounded _ _ c.loop-at-test.true _ c.line-l.ensures).stopped
-
-pub returns-then-stop-l : goal.returns-then-stop-l
+pub returns-then-l : goal.returns-then-l
 unfolding all
-returns-then-stop-l c =
+returns-then-l c =
     let i = c.loop-at.invariant in
     let b = bounded _ _ c.loop-at-test.true _ c.line-l.ensures in
     let more = i.1 ∙ ap (all (line_is is_pin_line)) (line-here _ _ _ _ b.lines (sym (starts-gate _ _ _ b) ∙ sym c.names_gate.ensures ∙ c.if-names_gate.false)).0 in
-    elim c.then-stop-l.branch [
-      | then-stop-l-via-then-stop-l y ↦ sym (more ∙ rw (not-ended _ _ _ b is_pin_line y.if-stop-l.true))
-      | then-stop-l-via-else-stop-l+then-not-is_pin_line y ↦
-          sym (more ∙ rw (is-ended _ _ _ b is_pin_line y.if-stop-l.false ∙ sym y.is_pin_line.ensures ∙ y.if-not-is_pin_line.true))
+    elim c.then-l.branch [
+      | then-l-via-then-l y ↦ sym (more ∙ rw (not-ended _ _ _ b is_pin_line y.if-l.true))
+      | then-l-via-else-l+then-not-is_pin_line y ↦
+          sym (more ∙ rw (is-ended _ _ _ b is_pin_line y.if-l.false ∙ sym y.is_pin_line.ensures ∙ y.if-not-is_pin_line.true))
     ]
 
 pub loop-at-smaller : goal.loop-at-smaller
@@ -56,7 +50,7 @@ unfolding all
 loop-at-preserved c =
     let i = c.loop-at.invariant in
     let b = bounded _ _ c.loop-at-test.true _ c.line-l.ensures in
-    (b.within, i.1 ∙ ap (all (line_is is_pin_line)) (line-here _ _ _ _ b.lines (sym (starts-gate _ _ _ b) ∙ sym c.names_gate.ensures ∙ c.if-names_gate.false)).0 ∙ rw (is-ended _ _ _ b is_pin_line c.if-stop-l.false ∙ sym c.is_pin_line.ensures ∙ c.if-not-is_pin_line.false))
+    (b.within, i.1 ∙ ap (all (line_is is_pin_line)) (line-here _ _ _ _ b.lines (sym (starts-gate _ _ _ b) ∙ sym c.names_gate.ensures ∙ c.if-names_gate.false)).0 ∙ rw (is-ended _ _ _ b is_pin_line c.if-l.false ∙ sym c.is_pin_line.ensures ∙ c.if-not-is_pin_line.false))
 
 pub returns : goal.returns
 unfolding all

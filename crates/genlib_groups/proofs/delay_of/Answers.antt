@@ -1,27 +1,16 @@
 -- `genlib_groups::delay_of` meets its contract, by its two figures.
-use Rattle.base.specs.{◌≡◌, sym, ap, ◌∙◌, none, some, [], get_or}
-use Rattle.model.specs.{delay_of, and_then, tokens, thousandths}
-use Rattle.base_text.specs.declared.Value.TheVariants.{Is}
-use Rattle.genlib_groups.proofs.GroupReading.{value-some, value_none}
+use Rattle.base.specs.{sym, ap, Some}
+use Rattle.model.specs.{delay_of, and_then}
 use Rattle.genlib_groups.proofs.delay_of.Goals as goal
 
-pub returns-in-Is-figure_at : goal.returns-in-Is-figure_at
+pub returns : goal.returns
 unfolding delay_of and_then
-returns-in-Is-figure_at c =
-    let ts = tokens c.args.w.now in
-    let a : thousandths (get_or ts 5 []) ≡ some c.in-Is.rise = value-some _ _ (sym c.in-Is.is ∙ c.figure_at.ensures) in
-    let b : thousandths (get_or ts 7 []) ≡ some c.in-Is-figure_at.fall = value-some _ _ (sym c.in-Is-figure_at.is ∙ c.figure_at-in-Is.ensures) in
-    rw (a, b) (ap Is c.larger.ensures)
+returns c = rw (sym c.in_ok-rise.ensures, sym c.in_ok-fall.ensures) (ap Some c.max.ensures)
 
-pub returns-in-Broken-figure_at : goal.returns-in-Broken-figure_at
+pub returns-in_err-rise : goal.returns-in_err-rise
 unfolding delay_of and_then
-returns-in-Broken-figure_at c =
-    let a : thousandths (get_or (tokens c.args.w.now) 5 []) ≡ some c.in-Is.rise = value-some _ _ (sym c.in-Is.is ∙ c.figure_at.ensures) in
-    let b : thousandths (get_or (tokens c.args.w.now) 7 []) ≡ none = value_none _ (sym c.in-Broken-figure_at.is ∙ c.figure_at-in-Is.ensures) in
-    rw (a, b)
+returns-in_err-rise c = rw (c.from_residual.ensures, sym c.in_err-rise.ensures)
 
-pub returns-in-Broken : goal.returns-in-Broken
+pub returns-in_err-fall : goal.returns-in_err-fall
 unfolding delay_of and_then
-returns-in-Broken c =
-    let a : thousandths (get_or (tokens c.args.w.now) 5 []) ≡ none = value_none _ (sym c.in-Broken.is ∙ c.figure_at.ensures) in
-    rw a
+returns-in_err-fall c = rw (c.from_residual-in_err-fall.ensures, sym c.in_ok-rise.ensures, sym c.in_err-fall.ensures)

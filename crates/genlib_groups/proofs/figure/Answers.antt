@@ -1,9 +1,9 @@
 -- `genlib_groups::figure` meets its contract, by its digits and three decimals.
 use Rattle.base.specs.{◌≡◌, refl, sym, ap, ◌∙◌, arith, ℕ, ◌+◌, ◌-◌, ◌*◌, min, List, [], ◌∷◌, ◌++◌, append_assoc}
-use Rattle.base.specs.{take, get_or}
+use Rattle.base.specs.{take, get_or, length-take-le}
 use Rattle.model.specs.{as_digits, is_digit, in_thousandths}
 use Rattle.base_text.specs.{span_end}
-use Rattle.genlib_groups.proofs.GenlibFigures.{whole_is, three, decimal_byte, figure-broken, figure-long, figure-fits, figure_large}
+use Rattle.genlib_groups.proofs.GenlibFigures.{whole_is, three, decimal_byte, figure-broken, figure-long, figure-ok}
 use Rattle.genlib_groups.proofs.GenlibFigures.{cap_digit}
 use Rattle.genlib_groups.proofs.figure.Goals as goal
 use Rattle.genlib_groups.proofs.figure.Goals.{then-not-is_figure-via-then-not-is_figure, then-not-is_figure-via-else-not-is_figure+then-w-end}
@@ -34,8 +34,10 @@ returns-then-not-is_figure c =
     ]
 
 pub whole-requires : goal.whole-requires
-whole-requires c =
-    let k = whole_is c.args.w.now _ c.span_end-end.ensures in (k.0, k.2)
+whole-requires c = (whole_is c.args.w.now _ c.span_end-end.ensures).2
+
+pub slice_bounds-whole-end : goal.slice_bounds-whole-end
+slice_bounds-whole-end c = sym (length-take-le _ _ (whole_is c.args.w.now _ c.span_end-end.ensures).0)
 
 pub overflow_add-end-2 : goal.overflow_add-end-2
 overflow_add-end-2 c =
@@ -64,17 +66,9 @@ add_digit-c-requires c =
     let b = decimal_byte _ _ c.span_end-end.ensures (sym c.is_figure.ensures ∙ c.if-not-is_figure.false) 2 (c.span_end-end.result + 3) (omega arith) in
     (omega (arith, c.add_digit-b.ensures), omega (arith, c.decimal-3.ensures, b.0), omega (arith, c.decimal-3.ensures, b.1))
 
-pub overflow_cast-result : goal.overflow_cast-result
-overflow_cast-result c = omega (arith, c.if-c-le65535.true)
-
-pub returns-then-c-le65535 : goal.returns-then-c-le65535
-returns-then-c-le65535 c =
+pub returns : goal.returns
+returns c =
     let e = c.span_end-end.ensures in
+    let f = sym c.is_figure.ensures ∙ c.if-not-is_figure.false in
     let n = number_is _ _ e _ _ _ _ _ _ _ c.whole.ensures c.decimal.ensures c.decimal-2.ensures c.decimal-3.ensures c.add_digit-a.ensures c.add_digit-b.ensures c.add_digit-c.ensures in
-    figure-fits _ _ e (sym c.is_figure.ensures ∙ c.if-not-is_figure.false) c.if-w-end.false _ n c.if-c-le65535.true
-
-pub returns-else-c-le65535 : goal.returns-else-c-le65535
-returns-else-c-le65535 c =
-    let e = c.span_end-end.ensures in
-    let n = number_is _ _ e _ _ _ _ _ _ _ c.whole.ensures c.decimal.ensures c.decimal-2.ensures c.decimal-3.ensures c.add_digit-a.ensures c.add_digit-b.ensures c.add_digit-c.ensures in
-    figure_large _ _ e (sym c.is_figure.ensures ∙ c.if-not-is_figure.false) c.if-w-end.false _ n c.if-c-le65535.false
+    c.ok.ensures.value ∙ figure-ok c.args.w.now _ e f c.if-w-end.false _ n c.try_from.result c.try_from.ensures

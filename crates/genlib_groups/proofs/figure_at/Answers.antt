@@ -1,8 +1,7 @@
 -- `genlib_groups::figure_at` meets its contract, by the token’s bytes.
-use Rattle.base.specs.{ap, ◌∙◌, ℕ, List}
+use Rattle.base.specs.{ap, ◌∙◌}
 use Rattle.model.specs.{thousandths}
-use Rattle.genlib_groups.specs.{value_in}
 use Rattle.genlib_groups.proofs.figure_at.Goals as goal
 
 pub returns : goal.returns
-returns c = c.figure.ensures ∙ ap (λ (x : List ℕ). value_in (thousandths x)) c.nth_bytes.ensures
+returns c = c.figure.ensures ∙ ap thousandths c.nth_bytes.ensures

@@ -12,4 +12,4 @@ pub returns-else-not-is_pin : goal.returns-else-not-is_pin
 unfolding pin_has
 returns-else-not-is_pin c =
     let a = c.args in
-    sym (rw (sym c.is_pin.ensures ∙ c.if-not-is_pin.false) (has-found (lines_behind a.s.now a.from) a.t.now a.s.now c.find_line.result c.find_line.ensures))
+    c.is_some.ensures ∙ sym (rw (sym c.is_pin.ensures ∙ c.if-not-is_pin.false) (has-found (lines_behind a.s.now a.from) a.t.now a.s.now c.find_line.result c.find_line.ensures.found))

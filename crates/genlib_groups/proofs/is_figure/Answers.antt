@@ -28,6 +28,3 @@ returns-else-from-w c =
 pub returns-else-w-end-eq46 : goal.returns-else-w-end-eq46
 returns-else-w-end-eq46 c =
     ne_eqb _ _ c.if-w-end-eq46.false ∙ sym (figure_other _ _ c.span_end-end.ensures c.if-end-eq0.false c.if-w-end.false c.if-w-end-eq46.false)
-
-pub overflow_add-from : goal.overflow_add-from
-overflow_add-from c = omega arith

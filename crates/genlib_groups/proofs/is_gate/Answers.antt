@@ -34,10 +34,6 @@ returns-then-not-same_bytes c =
           ))
     ]
 
-pub is_formed-requires : goal.is_formed-requires
-is_formed-requires c =
-    c.nth-n.ensures.within
-
 pub returns-then-is_sign : goal.returns-then-is_sign
 unfolding is_gate_line gate_head text
 returns-then-is_sign c =

@@ -4,9 +4,6 @@ use Rattle.model.specs.{all}
 use Rattle.genlib_groups.specs.{group_is}
 use Rattle.genlib_groups.proofs.is_group.Goals as goal
 
-pub all_have_lines-requires : goal.all_have_lines-requires
-all_have_lines-requires c = (c.requires, c.nth-n.ensures.within)
-
 pub returns-then-all_pin_lines : goal.returns-then-all_pin_lines
 unfolding group_is
 returns-then-all_pin_lines c =

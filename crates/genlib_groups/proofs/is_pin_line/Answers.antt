@@ -19,6 +19,3 @@ unfolding is_pin_line
 returns-else-count-eq9 c =
     let e = ne_eqb _ _ c.if-count-eq9.false in
     e ∙ sym (rw (ap (λ (x : ℕ). eqb x 9) (sym c.count.ensures) ∙ e))
-
-pub all_figures-requires : goal.all_figures-requires
-all_figures-requires c = c.nth-n.ensures.within

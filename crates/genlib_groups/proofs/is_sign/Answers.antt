@@ -4,16 +4,13 @@ use Rattle.model.specs.{is_sign, lead}
 use Rattle.genlib_expression.proofs.{lead-part, lead-none}
 use Rattle.genlib_groups.proofs.is_sign.Goals as goal
 
-pub bounds-w-from : goal.bounds-w-from
-bounds-w-from c = omega (arith, c.nth-n.ensures.within)
-
-pub returns-then-from-n : goal.returns-then-from-n
+pub returns-then-t : goal.returns-then-t
 unfolding is_sign
-returns-then-from-n c =
-    ap (λ (x : ℕ). eqb x c.args.b) (sym (lead-part _ _ (omega (arith, c.nth-n.ensures.within)) _ c.if-from-n.true) ∙ ap lead c.nth-n.ensures.bytes)
+returns-then-t c =
+    ap (λ (x : ℕ). eqb x c.args.b) (sym (lead-part _ _ (omega (arith, c.nth-t.ensures.within)) _ c.if-t.true) ∙ ap lead c.nth-t.ensures.bytes)
 
-pub returns-else-from-n : goal.returns-else-from-n
+pub returns-else-t : goal.returns-else-t
 unfolding is_sign
-returns-else-from-n c =
-    le-ltb _ _ c.if-from-n.false
-    ∙ sym (ap (λ (x : ℕ). eqb x c.args.b) (sym (ap lead c.nth-n.ensures.bytes) ∙ lead-none c.args.w.now _ _ c.if-from-n.false) ∙ ne_eqb 0 c.args.b (λ e. omega (arith, c.requires)))
+returns-else-t c =
+    le-ltb _ _ c.if-t.false
+    ∙ sym (ap (λ (x : ℕ). eqb x c.args.b) (sym (ap lead c.nth-t.ensures.bytes) ∙ lead-none c.args.w.now _ _ c.if-t.false) ∙ ne_eqb 0 c.args.b (λ e. omega (arith, c.requires)))

@@ -1,11 +1,8 @@
 -- `genlib_groups::next_gate` meets its contract. The invariant: the groups behind the lines from here on are those behind the lines from the start; the measure is what is left of the text.
-use Rattle.base.specs.{refl, sym, ◌∙◌, arith, le_refl}
+use Rattle.base.specs.{sym, ◌∙◌, arith}
 use Rattle.genlib_groups.proofs.GenlibLineLaws.{bounded, starts-gate}
 use Rattle.genlib_groups.proofs.GroupReading.{gate-here, line-here, none_here}
 use Rattle.genlib_groups.proofs.next_gate.Goals as goal
-
-pub loop-at-init : goal.loop-at-init
-loop-at-init c = (le_refl _, c.requires, refl)
 
 pub slice_bounds-names_gate-count : goal.slice_bounds-names_gate-count
 slice_bounds-names_gate-count c = (bounded _ _ c.loop-at-test.true _ c.line-l.ensures).starts

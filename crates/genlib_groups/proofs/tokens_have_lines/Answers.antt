@@ -1,13 +1,10 @@
 -- `genlib_groups::tokens_have_lines` meets its contract. The invariant: all pins have their lines where all that are left do; the measure is what is left of the line.
-use Rattle.base.specs.{refl, sym, ap, ◌∙◌, arith}
+use Rattle.base.specs.{sym, ap, ◌∙◌, arith}
 use Rattle.model.specs.{all}
 use Rattle.genlib_expression.proofs.{step, nothing_left_lem, all-step}
 use Rattle.genlib_groups.specs.{pin_has, lines_behind}
 use Rattle.genlib_groups.proofs.GroupReading.{has-none}
 use Rattle.genlib_groups.proofs.tokens_have_lines.Goals as goal
-
-pub loop-at-init : goal.loop-at-init
-loop-at-init c = (c.requires.0, c.requires.1, refl)
 
 pub slice_bounds-has_line-count : goal.slice_bounds-has_line-count
 slice_bounds-has_line-count c = (step _ _ c.loop-at.invariant.1 _ c.next_token-t.ensures).ordered
@@ -17,9 +14,6 @@ slice_bounds-has_line-start c = (step _ _ c.loop-at.invariant.1 _ c.next_token-t
 
 pub slice_bounds-has_line-end : goal.slice_bounds-has_line-end
 slice_bounds-has_line-end c = (step _ _ c.loop-at.invariant.1 _ c.next_token-t.ensures).within
-
-pub has_line-requires : goal.has_line-requires
-has_line-requires c = c.loop-at.invariant.0
 
 pub returns-then-not-has_line : goal.returns-then-not-has_line
 returns-then-not-has_line c = let l = c.loop-at in let k = step _ _ l.invariant.1 _ c.next_token-t.ensures in let f = pin_has (lines_behind c.args.s.now c.args.from) in sym (l.invariant.2 ∙ all-step f (has-none _) _ _ _ k ∙ rw (sym c.has_line.ensures ∙ c.if-not-has_line.true))

@@ -3,16 +3,14 @@ use Rattle.base.specs.{sym, ◌∙◌}
 use Rattle.graph_arrivals.specs.{entry_at}
 use Rattle.graph_arrivals.proofs.read_line.Goals as goal
 
-pub returns-in-Value-number_end : goal.returns-in-Value-number_end
+pub returns-in_err-index : goal.returns-in_err-index
 unfolding entry_at
-returns-in-Value-number_end c =
-    rw (sym c.number_then.ensures ∙ c.in-Value.is, sym c.number_end.ensures ∙ c.in-Value-number_end.is)
+returns-in_err-index c = c.from_residual.ensures ∙ rw (sym c.in_err-index.ensures)
 
-pub returns-in-Broken-number_end : goal.returns-in-Broken-number_end
+pub returns-in_err-time : goal.returns-in_err-time
 unfolding entry_at
-returns-in-Broken-number_end c =
-    rw (sym c.number_then.ensures ∙ c.in-Value.is, sym c.number_end.ensures ∙ c.in-Broken-number_end.is)
+returns-in_err-time c = c.from_residual-in_err-time.ensures ∙ rw (sym c.in_ok-index.ensures, sym c.in_err-time.ensures)
 
-pub returns-in-Broken : goal.returns-in-Broken
+pub returns : goal.returns
 unfolding entry_at
-returns-in-Broken c = rw (sym c.number_then.ensures ∙ c.in-Broken.is)
+returns c = rw (sym c.in_ok-index.ensures, sym c.in_ok-time.ensures)

@@ -1,18 +1,18 @@
 -- `graph_binary::read_gate` meets its contract: each return knows what the two differences left.
 use Rattle.base.specs.{sym, ◌∙◌}
+use Rattle.model.proofs.{handed_on}
 use Rattle.graph_binary.specs.{gate_at}
 use Rattle.graph_binary.proofs.read_gate.Goals as goal
 
-pub returns-in-Is-less_by : goal.returns-in-Is-less_by
+pub returns : goal.returns
 unfolding gate_at
-returns-in-Is-less_by c =
-    rw (sym c.less_by.ensures ∙ c.in-Is.is, sym c.less_by-in-Is.ensures ∙ c.in-Is-less_by.is)
+returns c = rw (sym c.less_by.ensures ∙ c.in_ok-first.was, sym c.less_by-2.ensures ∙ c.in_ok-second.was)
 
-pub returns-in-Refused-less_by : goal.returns-in-Refused-less_by
+pub returns-in_err-second : goal.returns-in_err-second
 unfolding gate_at
-returns-in-Refused-less_by c =
-    rw (sym c.less_by.ensures ∙ c.in-Is.is, sym c.less_by-in-Is.ensures ∙ c.in-Refused-less_by.is)
+returns-in_err-second c =
+    rw (sym c.less_by.ensures ∙ c.in_ok-first.was, sym c.less_by-2.ensures ∙ c.in_err-second.was) (handed_on _ _ c.from_residual-in_err-second.ensures.1)
 
-pub returns-in-Refused : goal.returns-in-Refused
+pub returns-in_err-first : goal.returns-in_err-first
 unfolding gate_at
-returns-in-Refused c = rw (sym c.less_by.ensures ∙ c.in-Refused.is)
+returns-in_err-first c = rw (sym c.less_by.ensures ∙ c.in_err-first.was) (handed_on _ _ c.from_residual.ensures.1)

@@ -1,15 +1,7 @@
 -- `graph_order::list` meets its contract: an AND's two uses are put before the others of its operands, any other variable has none.
 use Rattle.base.specs.{sym, refl, ◌∙◌}
-use Rattle.graph_order.proofs.UserLists.{passed_other, left_in, right_in, listed}
+use Rattle.graph_order.proofs.UserLists.{passed_other, listed}
 use Rattle.graph_order.proofs.list.Goals as goal
-
-pub link-requires : goal.link-requires
-link-requires c =
-    left_in _ _ _ _ _ c.requires.0 c.requires.1 c.requires.2 c.requires.3 (sym c.kind.ensures ∙ c.if-kind-eq-AND.true) _ _ c.left.ensures refl
-
-pub link-requires-then-kind-eq-AND : goal.link-requires-then-kind-eq-AND
-link-requires-then-kind-eq-AND c =
-    right_in _ _ _ _ _ c.requires.0 c.requires.1 c.requires.2 c.requires.3 (sym c.kind.ensures ∙ c.if-kind-eq-AND.true) _ _ refl c.right.ensures
 
 pub returns-then-kind-eq-AND : goal.returns-then-kind-eq-AND
 returns-then-kind-eq-AND c =

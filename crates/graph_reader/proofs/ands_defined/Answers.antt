@@ -1,4 +1,4 @@
--- `graph_reader::ands_defined` meets its contract. The invariant: what the variables from here on pass is what all pass; the measure is what is left.
+-- `graph_reader::ands_defined` meets its contract. The invariant: what the variables from here on pass is what all pass.
 use Rattle.base.specs.{sym, ◌∙◌, arith}
 use Rattle.graph_reader.proofs.DefinedUses.{passing_first, passing_on, passing_stop, passing_end}
 use Rattle.graph_reader.proofs.ands_defined.Goals as goal

@@ -3,26 +3,26 @@ use Rattle.base.specs.{sym, ◌∙◌, rules}
 use Rattle.graph_loading.proofs.{fit-defined}
 use Rattle.graph_reader.specs.{check_at}
 use Rattle.graph_reader.proofs.check_at.Goals as goal
-use Rattle.graph_reader.proofs.check_at.Goals.{else-fits-via-then-fits+else-uses_defined, else-fits-via-else-fits}
+use Rattle.graph_reader.proofs.check_at.Goals.{then-not-fits-via-then-not-fits, then-not-fits-via-else-not-fits+then-not-uses_defined}
 
 pub uses_defined-requires : goal.uses_defined-requires
-uses_defined-requires c = (search rules, fit-defined _ _ (sym c.fits.ensures ∙ c.if-fits.true))
+uses_defined-requires c = (search rules, fit-defined _ _ (sym c.fits.ensures ∙ c.if-not-fits.false))
 
-pub returns-then-uses_defined : goal.returns-then-uses_defined
+pub returns : goal.returns
 unfolding check_at
-returns-then-uses_defined c =
-    rw (sym c.expected_kind-kind.ensures, sym c.read_line.ensures ∙ c.in-Read.is, sym c.fits.ensures ∙ c.if-fits.true, sym c.uses_defined.ensures ∙ c.if-uses_defined.true)
+returns c =
+    rw (sym c.expected_kind-kind.ensures, sym c.read_line.ensures ∙ c.in-Some.is, sym c.fits.ensures ∙ c.if-not-fits.false, sym c.uses_defined.ensures ∙ c.if-not-uses_defined.false)
 
-pub returns-else-fits : goal.returns-else-fits
+pub returns-then-not-fits : goal.returns-then-not-fits
 unfolding check_at
-returns-else-fits c =
+returns-then-not-fits c =
     let kind = sym c.expected_kind-kind.ensures in
-    let found = sym c.read_line.ensures ∙ c.in-Read.is in
-    elim c.else-fits.branch [
-      | else-fits-via-then-fits+else-uses_defined w ↦ rw (kind, found, sym c.fits.ensures ∙ w.if-fits.true, sym w.uses_defined.ensures ∙ w.if-uses_defined.false)
-      | else-fits-via-else-fits w ↦ rw (kind, found, sym c.fits.ensures ∙ w.if-fits.false)
+    let found = sym c.read_line.ensures ∙ c.in-Some.is in
+    elim c.then-not-fits.branch [
+      | then-not-fits-via-else-not-fits+then-not-uses_defined w ↦ rw (kind, found, sym c.fits.ensures ∙ w.if-not-fits.false, sym w.uses_defined.ensures ∙ w.if-not-uses_defined.true)
+      | then-not-fits-via-then-not-fits w ↦ rw (kind, found, sym c.fits.ensures ∙ w.if-not-fits.true)
     ]
 
-pub returns-in-Broken : goal.returns-in-Broken
+pub returns-in_default : goal.returns-in_default
 unfolding check_at
-returns-in-Broken c = rw (sym c.expected_kind-kind.ensures, sym c.read_line.ensures ∙ c.in-Broken.is)
+returns-in_default c = rw (sym c.expected_kind-kind.ensures, sym c.read_line.ensures ∙ c.in_default.is)

@@ -1,11 +1,6 @@
--- `graph_reader::check_lines` meets its contract. The invariant: what the lines from here on give is what all lines give; the measure is the lines that are left.
-use Rattle.base.specs.{◌-◌}
-use Rattle.graph_loading.specs.{expected_count}
+-- `graph_reader::check_lines` meets its contract. The invariant: what the lines from here on give is what all lines give.
 use Rattle.graph_reader.proofs.LineValidation.{Left}
 use Rattle.graph_reader.proofs.check_lines.Given as goal
 
 abbrev pub invariant-loop-k : goal.invariant-loop-k
 invariant-loop-k l = Left l.s l.h l.work l.k l.at
-
-abbrev pub decreases-loop-k : goal.decreases-loop-k
-decreases-loop-k l = expected_count l.h - l.k

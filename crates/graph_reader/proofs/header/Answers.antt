@@ -8,7 +8,7 @@ use Rattle.graph_reader.proofs.header.Goals as goal
 pub returns-then-h-ne0 : goal.returns-then-h-ne0
 unfolding header_answer
 returns-then-h-ne0 c =
-    let s = c.args.s.now in let form = sym c.header_form.ensures ∙ c.in-Is.is in
+    let s = c.args.s.now in let form = sym c.header_form.ensures ∙ c.in-Some.is in
     let t = header_told s _ (sym (ap header_answer (header_latches s _ form (ne_eqb _ _ c.if-h-ne0.true)))) in
     record { answer = t.0; refusal = t.1.0; values = t.1.1 }
 
@@ -16,31 +16,31 @@ pub returns-then-not-in_limits : goal.returns-then-not-in_limits
 unfolding header_answer
 returns-then-not-in_limits c =
     let s = c.args.s.now in
-    let form = sym c.header_form.ensures ∙ c.in-Is.is in
+    let form = sym c.header_form.ensures ∙ c.in-Some.is in
     let t = header_told s _ (sym (ap header_answer (header_limits s _ form (eq-eqb _ _ c.if-h-ne0.false) (sym c.in_limits.ensures ∙ c.if-not-in_limits.true)))) in
     record { answer = t.0; refusal = t.1.0; values = t.1.1 }
 
-pub returns-then-in_sequence : goal.returns-then-in_sequence
+pub returns : goal.returns
 unfolding header_answer
-returns-then-in_sequence c =
-    let s = c.args.s.now in let form = sym c.header_form.ensures ∙ c.in-Is.is in
+returns c =
+    let s = c.args.s.now in let form = sym c.header_form.ensures ∙ c.in-Some.is in
     let t = header_told s _
-    (sym (ap header_answer (header-good s _ form (eq-eqb _ _ c.if-h-ne0.false) (sym c.in_limits.ensures ∙ c.if-not-in_limits.false) (sym c.in_sequence.ensures ∙ c.if-in_sequence.true)))) in
+    (sym (ap header_answer (header-good s _ form (eq-eqb _ _ c.if-h-ne0.false) (sym c.in_limits.ensures ∙ c.if-not-in_limits.false) (sym c.in_sequence.ensures ∙ c.if-not-in_sequence.false)))) in
     record { answer = t.0; refusal = t.1.0; values = t.1.1 }
 
-pub returns-else-in_sequence : goal.returns-else-in_sequence
+pub returns-then-not-in_sequence : goal.returns-then-not-in_sequence
 unfolding header_answer
-returns-else-in_sequence c =
-    let s = c.args.s.now in let form = sym c.header_form.ensures ∙ c.in-Is.is in
+returns-then-not-in_sequence c =
+    let s = c.args.s.now in let form = sym c.header_form.ensures ∙ c.in-Some.is in
     let t = header_told s _
-    (sym (ap header_answer (header_sequence s _ form (eq-eqb _ _ c.if-h-ne0.false) (sym c.in_limits.ensures ∙ c.if-not-in_limits.false) (sym c.in_sequence.ensures ∙ c.if-in_sequence.false)))) in
+    (sym (ap header_answer (header_sequence s _ form (eq-eqb _ _ c.if-h-ne0.false) (sym c.in_limits.ensures ∙ c.if-not-in_limits.false) (sym c.in_sequence.ensures ∙ c.if-not-in_sequence.true)))) in
     record { answer = t.0; refusal = t.1.0; values = t.1.1 }
 
-pub returns-in-Broken : goal.returns-in-Broken
+pub returns-in_default : goal.returns-in_default
 unfolding header_answer
-returns-in-Broken c =
+returns-in_default c =
     let s = c.args.s.now in
-    let t = header_told s _ (sym (ap header_answer (header-broken s (sym c.header_form.ensures ∙ c.in-Broken.is)))) in
+    let t = header_told s _ (sym (ap header_answer (header-broken s (sym c.header_form.ensures ∙ c.in_default.is)))) in
     record { answer = t.0; refusal = t.1.0; values = t.1.1 }
 
 pub in_sequence-requires : goal.in_sequence-requires

@@ -3,16 +3,14 @@ use Rattle.base.specs.{sym, ◌∙◌}
 use Rattle.graph_reader.specs.{form_at}
 use Rattle.graph_reader.proofs.header_form.Goals as goal
 
-pub returns-then-header_ends : goal.returns-then-header_ends
+pub returns-in_err-binary : goal.returns-in_err-binary
 unfolding form_at
-returns-then-header_ends c =
-    rw (sym c.tag.ensures ∙ c.in-Word.is, sym c.header_ends.ensures ∙ c.if-header_ends.true) c.header_numbers.ensures
+returns-in_err-binary c = c.from_residual.ensures ∙ rw (sym c.in_err-binary.ensures)
 
-pub returns-else-header_ends : goal.returns-else-header_ends
+pub returns-then-not-header_ends : goal.returns-then-not-header_ends
 unfolding form_at
-returns-else-header_ends c =
-    rw (sym c.tag.ensures ∙ c.in-Word.is, sym c.header_ends.ensures ∙ c.if-header_ends.false)
+returns-then-not-header_ends c = rw (sym c.in_ok-binary.ensures, sym c.header_ends.ensures ∙ c.if-not-header_ends.true)
 
-pub returns-in-Broken : goal.returns-in-Broken
+pub returns : goal.returns
 unfolding form_at
-returns-in-Broken c = rw (sym c.tag.ensures ∙ c.in-Broken.is)
+returns c = rw (sym c.in_ok-binary.ensures, sym c.header_ends.ensures ∙ c.if-not-header_ends.false) c.header_numbers.ensures

@@ -3,21 +3,18 @@ use Rattle.base.specs.{sym, ◌∙◌}
 use Rattle.graph_reader.specs.{numbers_form}
 use Rattle.graph_reader.proofs.header_numbers.Goals as goal
 
-pub returns-in-Numbers : goal.returns-in-Numbers
+pub returns-in_err-size : goal.returns-in_err-size
 unfolding numbers_form
-returns-in-Numbers c =
-    rw (sym c.number_then.ensures ∙ c.in-Value.is, sym c.number_then-in-Value.ensures ∙ c.in-Value-number_then.is, sym c.read_three.ensures ∙ c.in-Numbers.is)
+returns-in_err-size c = c.from_residual.ensures ∙ rw (sym c.in_err-size.ensures)
 
-pub returns-in-Broken-read_three : goal.returns-in-Broken-read_three
+pub returns-in_err-inputs : goal.returns-in_err-inputs
 unfolding numbers_form
-returns-in-Broken-read_three c =
-    rw (sym c.number_then.ensures ∙ c.in-Value.is, sym c.number_then-in-Value.ensures ∙ c.in-Value-number_then.is, sym c.read_three.ensures ∙ c.in-Broken-read_three.is)
+returns-in_err-inputs c = c.from_residual-in_err-inputs.ensures ∙ rw (sym c.in_ok-size.ensures, sym c.in_err-inputs.ensures)
 
-pub returns-in-Broken-number_then : goal.returns-in-Broken-number_then
+pub returns-in_err-latches : goal.returns-in_err-latches
 unfolding numbers_form
-returns-in-Broken-number_then c =
-    rw (sym c.number_then.ensures ∙ c.in-Value.is, sym c.number_then-in-Value.ensures ∙ c.in-Broken-number_then.is)
+returns-in_err-latches c = c.from_residual-in_err-latches.ensures ∙ rw (sym c.in_ok-size.ensures, sym c.in_ok-inputs.ensures, sym c.in_err-latches.ensures)
 
-pub returns-in-Broken : goal.returns-in-Broken
+pub returns : goal.returns
 unfolding numbers_form
-returns-in-Broken c = rw (sym c.number_then.ensures ∙ c.in-Broken.is)
+returns c = rw (sym c.in_ok-size.ensures, sym c.in_ok-inputs.ensures, sym c.in_ok-latches.ensures, c.from.ensures, c.from-2.ensures, c.from-3.ensures, c.from-4.ensures, c.from-5.ensures)

@@ -6,10 +6,6 @@ use Rattle.graph_binary.proofs.{header-fit}
 use Rattle.graph_reader.proofs.GraphLoads.{words-binary, words-ascii}
 use Rattle.graph_reader.proofs.load.Goals as goal
 
-pub load_binary-requires : goal.load_binary-requires
-load_binary-requires c =
-    (c.requires.0, c.if-h.true, c.requires.1)
-
 pub load_ascii-requires : goal.load_ascii-requires
 load_ascii-requires c =
     (header-fit c.args.s.now c.args.h c.args.work.now c.requires.0 c.requires.1, c.if-h.false)

@@ -1,16 +1,8 @@
 -- `graph_reader::operands_defined` meets its contract: each return knows the tests that led there, and an AND's operands are literals of the graph.
-use Rattle.base.specs.{sym, ap, ◌∙◌, arith, eq-eqb, ne_eqb, rules}
+use Rattle.base.specs.{sym, ap, ◌∙◌, eq-eqb, ne_eqb}
 use Rattle.base_words.specs.{and_kind}
 use Rattle.graph_reader.specs.{is_defined, operands_defined}
 use Rattle.graph_reader.proofs.operands_defined.Goals as goal
-
-pub is_defined-requires : goal.is_defined-requires
-is_defined-requires c =
-    (search rules, omega (arith, c.left.ensures, c.requires.1.left c.args.v c.requires.2 (sym c.kind.ensures ∙ c.if-kind-ne-AND.false)))
-
-pub is_defined-requires-then-is_defined : goal.is_defined-requires-then-is_defined
-is_defined-requires-then-is_defined c =
-    (search rules, omega (arith, c.right.ensures, c.requires.1.right c.args.v c.requires.2 (sym c.kind.ensures ∙ c.if-kind-ne-AND.false)))
 
 pub returns-then-is_defined : goal.returns-then-is_defined
 unfolding operands_defined

@@ -3,22 +3,18 @@ use Rattle.base.specs.{sym, ◌∙◌, eq-eqb, ne_eqb}
 use Rattle.graph_reader.specs.{one_line, and_line, line_read}
 use Rattle.graph_reader.proofs.read_line.Goals as goal
 
-pub returns-in-Numbers : goal.returns-in-Numbers
+pub returns-in_err-first : goal.returns-in_err-first
 unfolding line_read and_line
-returns-in-Numbers c =
-    rw (eq-eqb _ _ c.if-kind-eq-AND.true, sym c.read_three.ensures ∙ c.in-Numbers.is) c.as_line.ensures
+returns-in_err-first c = c.from_residual.ensures ∙ rw (eq-eqb _ _ c.if-kind-eq-AND.true, sym c.in_err-first.ensures)
 
-pub returns-in-Broken : goal.returns-in-Broken
+pub returns-then-kind-eq-AND : goal.returns-then-kind-eq-AND
 unfolding line_read and_line
-returns-in-Broken c =
-    rw (eq-eqb _ _ c.if-kind-eq-AND.true, sym c.read_three.ensures ∙ c.in-Broken.is)
+returns-then-kind-eq-AND c = rw (eq-eqb _ _ c.if-kind-eq-AND.true, sym c.in_ok-first.ensures, c.as_line.ensures)
 
-pub returns-in-Value : goal.returns-in-Value
+pub returns-in_err-first-2 : goal.returns-in_err-first-2
 unfolding line_read one_line
-returns-in-Value c =
-    rw (ne_eqb _ _ c.if-kind-eq-AND.false, sym c.number_end.ensures ∙ c.in-Value.is) c.as_line-in-Value.ensures
+returns-in_err-first-2 c = c.from_residual-in_err-first-2.ensures ∙ rw (ne_eqb _ _ c.if-kind-eq-AND.false, sym c.in_err-first-2.ensures)
 
-pub returns-in-Broken-number_end : goal.returns-in-Broken-number_end
+pub returns : goal.returns
 unfolding line_read one_line
-returns-in-Broken-number_end c =
-    rw (ne_eqb _ _ c.if-kind-eq-AND.false, sym c.number_end.ensures ∙ c.in-Broken-number_end.is)
+returns c = rw (ne_eqb _ _ c.if-kind-eq-AND.false, sym c.in_ok-first-2.ensures, c.as_line-2.ensures)

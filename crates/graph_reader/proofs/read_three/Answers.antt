@@ -3,21 +3,18 @@ use Rattle.base.specs.{sym, ◌∙◌}
 use Rattle.graph_reader.specs.{three_at}
 use Rattle.graph_reader.proofs.read_three.Goals as goal
 
-pub returns-in-Value-number_end : goal.returns-in-Value-number_end
+pub returns-in_err-a : goal.returns-in_err-a
 unfolding three_at
-returns-in-Value-number_end c =
-    rw (sym c.number_then.ensures ∙ c.in-Value.is, sym c.number_then-in-Value.ensures ∙ c.in-Value-number_then.is, sym c.number_end.ensures ∙ c.in-Value-number_end.is)
+returns-in_err-a c = c.from_residual.ensures ∙ rw (sym c.in_err-a.ensures)
 
-pub returns-in-Broken-number_end : goal.returns-in-Broken-number_end
+pub returns-in_err-b : goal.returns-in_err-b
 unfolding three_at
-returns-in-Broken-number_end c =
-    rw (sym c.number_then.ensures ∙ c.in-Value.is, sym c.number_then-in-Value.ensures ∙ c.in-Value-number_then.is, sym c.number_end.ensures ∙ c.in-Broken-number_end.is)
+returns-in_err-b c = c.from_residual-in_err-b.ensures ∙ rw (sym c.in_ok-a.ensures, sym c.in_err-b.ensures)
 
-pub returns-in-Broken-number_then : goal.returns-in-Broken-number_then
+pub returns-in_err-d : goal.returns-in_err-d
 unfolding three_at
-returns-in-Broken-number_then c =
-    rw (sym c.number_then.ensures ∙ c.in-Value.is, sym c.number_then-in-Value.ensures ∙ c.in-Broken-number_then.is)
+returns-in_err-d c = c.from_residual-in_err-d.ensures ∙ rw (sym c.in_ok-a.ensures, sym c.in_ok-b.ensures, sym c.in_err-d.ensures)
 
-pub returns-in-Broken : goal.returns-in-Broken
+pub returns : goal.returns
 unfolding three_at
-returns-in-Broken c = rw (sym c.number_then.ensures ∙ c.in-Broken.is)
+returns c = rw (sym c.in_ok-a.ensures, sym c.in_ok-b.ensures, sym c.in_ok-d.ensures)

@@ -1,12 +1,12 @@
--- `graph_reader::tag_behind` meets its contract.
+-- `graph_reader::tag_behind` meets its contract: each return knows what the reads that led there found.
 use Rattle.base.specs.{sym, ◌∙◌}
 use Rattle.graph_reader.specs.{tag_behind}
 use Rattle.graph_reader.proofs.tag_behind.Goals as goal
 
-pub returns-in-To : goal.returns-in-To
+pub returns-in_err-d : goal.returns-in_err-d
 unfolding tag_behind
-returns-in-To c = rw (sym c.byte.ensures ∙ c.in-To.is)
+returns-in_err-d c = c.from_residual.ensures ∙ rw (sym c.in_err-d.ensures)
 
-pub returns-in-Broken : goal.returns-in-Broken
+pub returns : goal.returns
 unfolding tag_behind
-returns-in-Broken c = rw (sym c.byte.ensures ∙ c.in-Broken.is)
+returns c = rw (sym c.in_ok-d.ensures)

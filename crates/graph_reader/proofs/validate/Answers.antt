@@ -9,7 +9,7 @@ use Rattle.graph_reader.proofs.validate.Goals.{then-not-fits-via-then-not-fits, 
 pub returns-then-not-fits : goal.returns-then-not-fits
 unfolding validated_at
 returns-then-not-fits c =
-    let found = sym c.read_line.ensures ∙ c.in-Read.is in
+    let found = sym c.read_line.ensures ∙ c.in-Some.is in
     elim c.then-not-fits.branch [
       | then-not-fits-via-then-not-fits w ↦ rw (found, sym c.fits.ensures ∙ w.if-not-fits.true)
       | then-not-fits-via-else-not-fits+then-not-may_define w ↦ rw (found, sym w.may_define.ensures ∙ w.if-not-may_define.true, and-false)
@@ -21,13 +21,13 @@ is_already_defined-requires c = (search rules, (fit-defined _ _ (sym c.fits.ensu
 pub returns-then-is_already_defined : goal.returns-then-is_already_defined
 unfolding validated_at
 returns-then-is_already_defined c =
-    rw (sym c.read_line.ensures ∙ c.in-Read.is, sym c.fits.ensures ∙ c.if-not-fits.false, sym c.may_define.ensures ∙ c.if-not-may_define.false, sym c.is_already_defined.ensures ∙ c.if-is_already_defined.true)
+    rw (sym c.read_line.ensures ∙ c.in-Some.is, sym c.fits.ensures ∙ c.if-not-fits.false, sym c.may_define.ensures ∙ c.if-not-may_define.false, sym c.is_already_defined.ensures ∙ c.if-is_already_defined.true)
 
-pub returns-else-is_already_defined : goal.returns-else-is_already_defined
+pub returns : goal.returns
 unfolding validated_at
-returns-else-is_already_defined c =
-    rw (sym c.read_line.ensures ∙ c.in-Read.is, sym c.fits.ensures ∙ c.if-not-fits.false, sym c.may_define.ensures ∙ c.if-not-may_define.false, sym c.is_already_defined.ensures ∙ c.if-is_already_defined.false)
+returns c =
+    rw (sym c.read_line.ensures ∙ c.in-Some.is, sym c.fits.ensures ∙ c.if-not-fits.false, sym c.may_define.ensures ∙ c.if-not-may_define.false, sym c.is_already_defined.ensures ∙ c.if-is_already_defined.false)
 
-pub returns-in-Broken : goal.returns-in-Broken
+pub returns-in_default : goal.returns-in_default
 unfolding validated_at
-returns-in-Broken c = rw (sym c.read_line.ensures ∙ c.in-Broken.is)
+returns-in_default c = rw (sym c.read_line.ensures ∙ c.in_default.is)

@@ -35,7 +35,7 @@ map_header-requires c =
     let a = c.args in
     let are = ids_are (goal.at.map_header-requires c).After-form-n in
     let ok = subst (LibraryOk a.lib) (sym are) (joined_ok a.lib c.requires (omega (arith, c.form-n.ensures.ends, c.if-lib-n-gt256.false))) in
-    (ok, blank-joined a.lib _ ok c.empty_paired_match_table-matches.ensures)
+    (ok, blank-joined a.lib _ ok (c.empty_match_table-matches.ensures 256 (omega arith)))
 
 pub returns : goal.returns
 returns c =

@@ -1,6 +1,7 @@
 -- `mapper::print` meets its contract: the netlist is measured, with its timing lines where delays are ranges, and written where it fits.
+use Rattle.std.specs.Prelude.{Ok}
+use Rattle.model.specs.{refused_with}
 use Rattle.base.specs.{ℕ, ◌+◌, arith, ap, sym, subst, Bool, true, length}
-use Rattle.model.specs.declared.Answer.TheVariants.{Mapped, Refused}
 use Rattle.mapper.specs.{Answered, printed_for}
 use Rattle.mapper.proofs.StageLaws.{answered_as}
 use Rattle.mapper.proofs.NetlistStage.{print_short, print_capacity, print_done, timed-short, timed-done}
@@ -29,7 +30,7 @@ returns-then-text-whole c =
     let q = lowered_mapped a.work.now a.lib a.ids.now a.h g p t _ c.retime.ensures in
     let low = lowered_mins a.work.now a.lib a.ids.now a.h g p t _ c.retime.ensures in
     answered_as (ap (λ (ranged : Bool). printed_for ranged a.lib a.ids.now g (length a.text.now)) c.if-ranged.true)
-    (subst (λ (n : ℕ). Answered (printed_for true a.lib a.ids.now g (length a.text.now)) a.text.now (Refused 18 (c.measure-m.result.length + n)) a.text.now) (sym long)
+    (subst (λ (n : ℕ). Answered (printed_for true a.lib a.ids.now g (length a.text.now)) a.text.now (refused_with 18 (c.measure-m.result.length + n)) a.text.now) (sym long)
     (timed-short a.lib a.ids.now g a.text.now c.measure-m.result (c.measure-m.ensures.0 g p) _ (lines_said _ a.lib a.ids.now a.h g q low) (omega (arith, long))))
 
 pub write-requires : goal.write-requires
@@ -53,11 +54,11 @@ returns-then-ranged c =
     let q = lowered_mapped a.work.now a.lib a.ids.now a.h g p t _ c.retime.ensures in
     let low = lowered_mins a.work.now a.lib a.ids.now a.h g p t _ c.retime.ensures in
     answered_as (ap (λ (ranged : Bool). printed_for ranged a.lib a.ids.now g (length a.text.now)) c.if-ranged.true)
-    (subst (λ (n : ℕ). Answered (printed_for true a.lib a.ids.now g (length a.text.now)) a.text.now (Mapped (c.measure-m.result.length + n) c.measure-m.result.figures) c.put_lines.new.out) (sym long)
+    (subst (λ (n : ℕ). Answered (printed_for true a.lib a.ids.now g (length a.text.now)) a.text.now (Ok (record { length = c.measure-m.result.length + n; figures = c.measure-m.result.figures })) c.put_lines.new.out) (sym long)
     (timed-done a.lib a.ids.now g a.text.now c.measure-m.result (c.measure-m.ensures.0 g p) _ (lines_said _ a.lib a.ids.now a.h g q low) (omega (arith, long, c.if-text-whole.false)) _ _ (c.write.ensures g q).1 c.put_lines.ensures.leaves))
 
-pub returns-then-text-length : goal.returns-then-text-length
-returns-then-text-length c =
+pub returns-then-text-m : goal.returns-then-text-m
+returns-then-text-m c =
     let a = c.args in
     λ g p t.
     answered_as (ap (λ (ranged : Bool). printed_for ranged a.lib a.ids.now g (length a.text.now)) c.if-ranged.false)

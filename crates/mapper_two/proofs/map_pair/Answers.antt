@@ -1,7 +1,7 @@
 -- `mapper_two::map_pair` meets its contract: 10; or the match table is that of the cells to map with, each channel finds words enough, and the words are
 -- cleared
 -- whatever the passes left.
-use Rattle.base.specs.{ℕ, ◌+◌, arith, ◌≡◌, ◌∙◌, ap, sym, subst, length, replicate}
+use Rattle.base.specs.{ℕ, ◌+◌, arith, ◌≡◌, refl, ◌∙◌, ap, sym, subst, length, replicate}
 use Rattle.model.specs.{cells_of, channel_of}
 use Rattle.theory_text.proofs.{header-fits}
 use Rattle.cells_pairs.proofs.{by_length}
@@ -14,19 +14,19 @@ use Rattle.mapper_two.proofs.map_pair.Goals.{After-match_library}
 
 pub need_words-need1-requires : goal.need_words-need1-requires
 need_words-need1-requires c =
-    let f = header-fits c.args.g1.now c.args.h1 c.requires.1 in
+    let f = header-fits c.args.c1.graph.now c.args.h1 c.requires.1 in
     omega (arith, f.size, f.outputs)
 
 pub need_words-need2-requires : goal.need_words-need2-requires
 need_words-need2-requires c =
-    let f = header-fits c.args.g2.now c.args.h2 c.requires.2 in
+    let f = header-fits c.args.c2.graph.now c.args.h2 c.requires.2 in
     omega (arith, f.size, f.outputs)
 
 pub overflow_add-need1 : goal.overflow_add-need1
 overflow_add-need1 c =
     let a = c.args in
-    let f = header-fits a.g1.now a.h1 c.requires.1 in
-    let g = header-fits a.g2.now a.h2 c.requires.2 in
+    let f = header-fits a.c1.graph.now a.h1 c.requires.1 in
+    let g = header-fits a.c2.graph.now a.h2 c.requires.2 in
     omega (
       arith,
       c.need_words-need1.ensures,
@@ -37,7 +37,7 @@ overflow_add-need1 c =
 
 pub returns-then-work-need1 : goal.returns-then-work-need1
 returns-then-work-need1 c =
-    pair-early _ _ _ _ _ _ 10 0 (sum-short _ _ _ (omega (arith, c.need_words-need1.ensures, c.need_words-need2.ensures))) _ _ _ _ c.both.ensures
+    pair-early _ _ _ _ _ _ 10 0 (sum-short _ _ _ (omega (arith, c.need_words-need1.ensures, c.need_words-need2.ensures))) _ _ _ _ refl
 
 pub match_library-requires : goal.match_library-requires
 match_library-requires c =
@@ -75,8 +75,8 @@ load_graph-second-requires c =
 pub returns : goal.returns
 returns c =
     let s = c.args in
-    let a = channel_of s.g1.now s.a1.now s.t1.now in
-    let b = channel_of s.g2.now s.a2.now s.t2.now in
+    let a = channel_of s.c1.graph.now s.c1.arrivals.now s.t1.now in
+    let b = channel_of s.c2.graph.now s.c2.arrivals.now s.t2.now in
     let long : length c.load_graph-second.new.work ≡ length s.work.now = omega (arith, c.load_graph-second.auto.work, c.load_graph-first.auto.work) in
     pair-done s.ranged s.lib s.ids.now a b _ s.h1 s.h2
     (sum-enough _ _ _ (omega (arith, c.need_words-need1.ensures, c.need_words-need2.ensures, c.if-work-need1.false)))

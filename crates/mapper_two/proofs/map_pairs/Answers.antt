@@ -1,11 +1,11 @@
 -- `mapper_two::map_pairs` meets its contract: the numbers written are those of all pairs, or 30 comes.
-use Rattle.base.specs.{arith, ℕ, ◌≡◌, sym, ap, subst, ◌∙◌, true, List, length, take}
+use Rattle.base.specs.{refl, arith, ℕ, ◌≡◌, sym, ap, subst, ◌∙◌, true, List, length, take}
 use Rattle.model.specs.{cells_of, channel_of}
 use Rattle.cells_pairs.specs.{pair_ids}
 use Rattle.cells_pairs.proofs.{by_length, with_all, ids-few}
 use Rattle.mapper.specs.{LibraryOk}
 use Rattle.mapper.proofs.{joinable_of, all-few, joined_ok, blank-joined, formed_are}
-use Rattle.mapper_two.specs.{first_for, PairLeft}
+use Rattle.mapper_two.specs.{told, first_for, PairLeft}
 use Rattle.mapper_two.proofs.ChannelMemory.{two-done, two-early}
 use Rattle.mapper_two.proofs.map_pairs.Goals as goal
 use Rattle.mapper_two.proofs.map_pairs.Goals.{After-form-n}
@@ -23,11 +23,11 @@ overflow_add-lib c = omega (arith, c.form-n.ensures.ends, ids-few c.args.lib (jo
 pub returns-then-lib-n-gt256 : goal.returns-then-lib-n-gt256
 returns-then-lib-n-gt256 c =
     let a = c.args in
-    let x = channel_of a.g1.now a.a1.now a.t1.now in
-    let y = channel_of a.g2.now a.a2.now a.t2.now in
+    let x = channel_of a.c1.graph.now a.c1.arrivals.now a.t1.now in
+    let y = channel_of a.c2.graph.now a.c2.arrivals.now a.t2.now in
     let many = by_length (cells_of a.lib) (pair_ids (cells_of a.lib)) in
     two-early true a.ranged a.lib (pair_ids (cells_of a.lib)) (with_all a.lib (joinable_of a.lib c.requires)) x y a.work.now a.t1.now a.t2.now _
-    (omega (arith, many, c.form-n.ensures.ends, c.requires.in_bounds.whole, c.if-lib-n-gt256.true)) c.both.ensures
+    (omega (arith, many, c.form-n.ensures.ends, c.requires.in_bounds.whole, c.if-lib-n-gt256.true)) refl
 
 pub slice_bounds-ids-end : goal.slice_bounds-ids-end
 slice_bounds-ids-end c = omega (arith, ap length (ids_are (goal.at.slice_bounds-ids-end c).After-form-n), c.form-n.ensures.ends)
@@ -37,17 +37,17 @@ map_headers-requires c =
     let a = c.args in
     let are = ids_are (goal.at.map_headers-requires c).After-form-n in
     let ok = subst (LibraryOk a.lib) (sym are) (joined_ok a.lib c.requires (omega (arith, c.form-n.ensures.ends, c.if-lib-n-gt256.false))) in
-    (ok, blank-joined a.lib _ ok c.empty_paired_match_table-matches.ensures)
+    (ok, blank-joined a.lib _ ok (c.empty_match_table-matches.ensures 256 (omega arith)))
 
 pub returns : goal.returns
 returns c =
     let a = c.args in
     let h = c.map_headers in
     let are = ids_are (goal.at.returns c).After-form-n in
-    let x = channel_of a.g1.now a.a1.now a.t1.now in
-    let y = channel_of a.g2.now a.a2.now a.t2.now in
+    let x = channel_of a.c1.graph.now a.c1.arrivals.now a.t1.now in
+    let y = channel_of a.c2.graph.now a.c2.arrivals.now a.t2.now in
     let ok = joined_ok a.lib c.requires (omega (arith, c.form-n.ensures.ends, c.if-lib-n-gt256.false)) in
     two-done true a.ranged a.lib (pair_ids (cells_of a.lib)) (with_all a.lib (joinable_of a.lib c.requires)) x y a.work.now a.t1.now a.t2.now _
     (all-few a.lib (pair_ids (cells_of a.lib)) ok) _ _ _
     (subst (λ (ids : List ℕ). PairLeft a.ranged a.lib ids x y (first_for (length a.work.now) x y) a.work.now a.t1.now a.t2.now
-    h.result h.new.work h.new.t1 h.new.t2) are h.ensures)
+    (told h.result) h.new.work h.new.t1 h.new.t2) are h.ensures)

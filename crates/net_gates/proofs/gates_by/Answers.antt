@@ -38,6 +38,7 @@ returns-then-k-count c =
     let a = c.args in
     let h : a.k < count_in a.records.now = omega (arith, c.if-k-count.true, c.count.ensures) in
     c.one_gate.ensures
+    ∙ ap (λ (n : ℕ). one_driver c.cell_at-cell.result a.nets n a.l) c.from.ensures
     ∙ ap (λ (x : Cell). one_driver x a.nets x.pins a.l) c.cell_at-cell.ensures
     ∙ sym (by_line a.records.now a.k a.nets a.l h)
 

@@ -1,5 +1,4 @@
--- `net_timing::lines_len` meets its contract. The invariant: what is counted and what is left make the whole, at most 43 bytes for each output. The measure is
--- the number of outputs left.
+-- `net_timing::lines_len` meets its contract. The invariant: what is counted and what is left make the whole, at most 43 bytes for each output.
 use Rattle.base.specs.{◌≡◌, sym, ap, subst, ℕ, ◌-◌, ◌/◌, ◌≤◌, arith, length, length-append}
 use Rattle.base_words.proofs.{capacity-need}
 use Rattle.net_timing.specs.{lines_from}
@@ -34,15 +33,3 @@ pub returns : goal.returns
 returns c =
     let a = c.args in
     omega (arith, ap length (lines_none a.work.now a.m a.outputs c.loop-i.i c.loop-i-test.false))
-
-pub overflow_cast-i : goal.overflow_cast-i
-overflow_cast-i c = omega arith
-
-pub overflow_add-len : goal.overflow_add-len
-overflow_add-len c = omega arith
-
-pub overflow_add-i : goal.overflow_add-i
-overflow_add-i c = omega arith
-
-pub loop-i-smaller : goal.loop-i-smaller
-loop-i-smaller c = omega arith

@@ -15,18 +15,14 @@ pub load_cut-cut-requires : goal.load_cut-cut-requires
 load_cut-cut-requires c =
     (c.requires.1.capacity, c.requires.2, omega (arith, c.requires.0.2.cut, c.requires.1.few c.args.v c.requires.2))
 
-pub overflow_cast-count : goal.overflow_cast-count
-overflow_cast-count c =
-    let k : ℕ = c.args.x.cell in
-    omega (arith, c.requires.0.3.listed k c.requires.0.2.cell, c.requires.0.1.pins k)
-
 pub pins_min_arrival-requires : goal.pins_min_arrival-requires
 pins_min_arrival-requires c =
     let a = c.args in
     let cells = c.requires.0.0 in
-    let e : get_or a.pins.now a.x.cell 0 ≡ (cell_at cells a.x.cell).pins = c.requires.0.3.listed a.x.cell c.requires.0.2.cell in (
+    let e : get_or a.pins.now a.x.cell 0 ≡ (cell_at cells a.x.cell).pins = c.requires.0.3.listed a.x.cell c.requires.0.2.cell in
+    let n = c.from-count.ensures ∙ e in (
       c.requires.1.capacity,
-      subst (λ (n : ℕ). PinsIn c.load_cut-cut.result.leaves a.m a.x.order n) (sym e)
+      subst (λ (n : ℕ). PinsIn c.load_cut-cut.result.leaves a.m a.x.order n) (sym n)
           (subst (λ (y : Cut). PinsIn y.leaves a.m a.x.order (cell_at cells a.x.cell).pins) (sym c.load_cut-cut.ensures)
           (match_pins cells a.work.now a.m a.v a.x c.requires.0.1 c.requires.1 c.requires.2 c.requires.0.2)),
       omega (arith, c.requires.0.2.cell, c.requires.0.1.few),
@@ -39,7 +35,7 @@ returns c cells ok i pins mins =
     let n : ℕ = (cell_at cells a.x.cell).pins in
     let places : List ℕ = places_of a.x.order in
     let leaves : List ℕ = (cut_of a.work.now a.m a.v a.x.cut).leaves in
-    let e : get_or a.pins.now a.x.cell 0 ≡ n = pins.listed a.x.cell i.cell in
+    let e : c.from-count.result ≡ n = c.from-count.ensures ∙ pins.listed a.x.cell i.cell in
     let table : List ℕ = drop (4 * a.x.cell) a.mins.now in
     let four : n ≤ 4 = ok.pins a.x.cell in
     let long : n ≤ length places = omega (arith, places-four a.x.order i.order) in

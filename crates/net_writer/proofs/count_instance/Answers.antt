@@ -11,6 +11,6 @@ returns c =
     let g = c.args.g in
     let long = c.gate_len.ensures.0 ∙ sym (line-length g.cell (take g.count g.nets)
     g.net) in (
-      (λ i. record { length = t.length + long i; gates = t.gates + 1; area = t.area + g.cell.area }) ∙ sym (tally_one t (gate_of g)),
+      (λ i. record { length = t.length + long i; gates = t.gates + 1; area = t.area + c.from.ensures i }) ∙ sym (tally_one t (gate_of g)),
       omega arith,
     )

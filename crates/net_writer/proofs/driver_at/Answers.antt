@@ -2,7 +2,8 @@
 use Rattle.base.specs.{sym, ap, subst, ◌∙◌, List}
 use Rattle.model.specs.declared.Phase.{Phase}
 use Rattle.model.specs.{Gate}
-use Rattle.net_gates.specs.{Drives}
+use Rattle.net_gates.specs.{Drives, no_driver}
+use Rattle.net_gates.proofs.{nothing_drives}
 use Rattle.net_writer.specs.{SourceReady, gate_by}
 use Rattle.net_writer.proofs.NetlistLength.{gate-needed, gate_idle}
 use Rattle.net_writer.proofs.driver_at.Goals as goal
@@ -22,4 +23,4 @@ pub returns-else-is_needed : goal.returns-else-is_needed
 returns-else-is_needed c =
     let a = c.args in
     let idle = sym c.is_needed.ensures ∙ c.if-is_needed.false in
-    subst (λ (ts : List Gate). Drives c.no_driver.result ts) (sym (gate_idle a.work.now a.records.now a.m a.l idle)) c.no_driver.ensures
+    subst (λ (ts : List Gate). Drives no_driver ts) (sym (gate_idle a.work.now a.records.now a.m a.l idle)) nothing_drives

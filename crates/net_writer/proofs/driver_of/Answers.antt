@@ -1,7 +1,8 @@
 -- `net_writer::driver_of` meets its contract: in each arm the source is known to be that arm's variant.
 use Rattle.base.specs.{sym, subst, arith}
 use Rattle.model.specs.declared.Source.{Source}
-use Rattle.net_gates.specs.{Drives}
+use Rattle.net_gates.specs.{Drives, no_driver}
+use Rattle.net_gates.proofs.{nothing_drives}
 use Rattle.net_writer.specs.{SourceReady, gate_by}
 use Rattle.net_writer.proofs.driver_of.Goals as goal
 
@@ -13,7 +14,7 @@ inverted-requires c = (omega (arith, c.requires.0.small, c.requires.1), subst (S
 
 pub returns-in-Input : goal.returns-in-Input
 unfolding gate_by
-returns-in-Input c = let a = c.args in subst (λ (s : Source). Drives c.no_driver.result (gate_by a.work.now a.records.now a.m a.l s)) (sym c.in-Input.is) c.no_driver.ensures
+returns-in-Input c = let a = c.args in subst (λ (s : Source). Drives no_driver (gate_by a.work.now a.records.now a.m a.l s)) (sym c.in-Input.is) nothing_drives
 
 pub returns-in-Cell : goal.returns-in-Cell
 unfolding gate_by
@@ -25,4 +26,4 @@ returns-in-Inverter c = let a = c.args in subst (λ (s : Source). Drives c.inver
 
 pub returns-in-Nothing : goal.returns-in-Nothing
 unfolding gate_by
-returns-in-Nothing c = let a = c.args in subst (λ (s : Source). Drives c.no_driver-in-Nothing.result (gate_by a.work.now a.records.now a.m a.l s)) (sym c.in-Nothing.is) c.no_driver-in-Nothing.ensures
+returns-in-Nothing c = let a = c.args in subst (λ (s : Source). Drives no_driver (gate_by a.work.now a.records.now a.m a.l s)) (sym c.in-Nothing.is) nothing_drives

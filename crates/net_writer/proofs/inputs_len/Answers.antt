@@ -1,4 +1,4 @@
--- `net_writer::inputs_len` meets its contract. The invariant: what is counted and what is left make the whole, at most 12 bytes for each name. The measure is the number of names left.
+-- `net_writer::inputs_len` meets its contract. The invariant: what is counted and what is left make the whole, at most 12 bytes for each name.
 use Rattle.base.specs.{◌≡◌, ap, ℕ, ◌-◌, arith, length, length-append}
 use Rattle.net_writer.specs.{input_names_from, spaced}
 use Rattle.net_writer.proofs.NetlistLength.{inputs-next, inputs-none}
@@ -20,18 +20,3 @@ pub returns : goal.returns
 returns c =
     let a = c.args in
     omega (arith, ap length (inputs-none a.work.now a.m a.n c.loop-i.i c.loop-i-test.false))
-
-pub overflow_add-len : goal.overflow_add-len
-overflow_add-len c = omega arith
-
-pub net_len-requires : goal.net_len-requires
-net_len-requires c = tt
-
-pub overflow_add-len-in-loop-i : goal.overflow_add-len-in-loop-i
-overflow_add-len-in-loop-i c = omega arith
-
-pub overflow_add-i : goal.overflow_add-i
-overflow_add-i c = omega arith
-
-pub loop-i-smaller : goal.loop-i-smaller
-loop-i-smaller c = omega arith

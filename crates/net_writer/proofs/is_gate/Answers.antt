@@ -15,4 +15,4 @@ pub returns-else-is_needed : goal.returns-else-is_needed
 returns-else-is_needed c =
     let a = c.args in
     let idle = sym c.is_needed.ensures ∙ c.if-is_needed.false in
-    sym (is-gate_idle a.work.now a.m a.l idle)
+    c.if-is_needed.false ∙ sym (is-gate_idle a.work.now a.m a.l idle)

@@ -1,4 +1,4 @@
--- `net_writer::latest` meets its contract. The invariant: the latest so far and the latest of those left make the latest. The measure is the number of outputs left.
+-- `net_writer::latest` meets its contract. The invariant: the latest so far and the latest of those left make the latest.
 use Rattle.base.specs.{◌≡◌, ap, ◌-◌, arith}
 use Rattle.net_writer.specs.{latest_from}
 use Rattle.net_writer.proofs.NetlistLength.{latest-next, latest-none}
@@ -22,13 +22,4 @@ pub returns : goal.returns
 returns c =
     let a = c.args in
     let l = c.loop-i in
-    omega (arith, l.invariant.1, latest-none a.work.now a.m a.outputs l.i c.loop-i-test.false)
-
-pub larger-t-requires : goal.larger-t-requires
-larger-t-requires c = tt
-
-pub overflow_add-i : goal.overflow_add-i
-overflow_add-i c = omega arith
-
-pub loop-i-smaller : goal.loop-i-smaller
-loop-i-smaller c = omega arith
+    omega (arith, l.invariant, latest-none a.work.now a.m a.outputs l.i c.loop-i-test.false)

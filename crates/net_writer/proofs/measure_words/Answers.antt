@@ -16,12 +16,3 @@ returns c =
           (figures_in_lem a.work.now a.records.now a.h t.result t.ensures.0 arrival.result arrival.ensures) preamble.ensures.0 wires.ensures.0 c.figures_len.ensures.0,
       record { length = omega (arith, c.requires.1); gates = omega arith; area = omega arith },
     )
-
-pub overflow_add-length : goal.overflow_add-length
-overflow_add-length c = omega arith
-
-pub overflow_add-length-2 : goal.overflow_add-length-2
-overflow_add-length-2 c = omega arith
-
-pub overflow_add-length-3 : goal.overflow_add-length-3
-overflow_add-length-3 c = omega arith

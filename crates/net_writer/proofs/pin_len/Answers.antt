@@ -15,15 +15,3 @@ returns-else-j-count c =
     let a = c.args in
     let four : length a.nets ≡ 4 = search rules in
     (omega (arith, ap length (part-absent a.nets a.count four c.requires.1 a.j c.if-j-count.false)), omega arith)
-
-pub offset_bounds-nets-j : goal.offset_bounds-nets-j
-offset_bounds-nets-j c = omega arith
-
-pub bounds-nets-j : goal.bounds-nets-j
-bounds-nets-j c = omega arith
-
-pub label_len-requires : goal.label_len-requires
-label_len-requires c = tt
-
-pub overflow_add-result : goal.overflow_add-result
-overflow_add-result c = omega arith

@@ -7,12 +7,3 @@ pub returns : goal.returns
 returns c =
     let four : length c.args.nets ≡ 4 = search rules in
     omega (arith, simp length-append at (ap length (pin-parts c.args.nets c.args.count four c.requires)))
-
-pub overflow_add-result : goal.overflow_add-result
-overflow_add-result c = omega arith
-
-pub overflow_add-result-2 : goal.overflow_add-result-2
-overflow_add-result-2 c = omega arith
-
-pub overflow_add-result-3 : goal.overflow_add-result-3
-overflow_add-result-3 c = omega arith

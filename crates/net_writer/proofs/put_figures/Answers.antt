@@ -13,18 +13,3 @@ returns c =
     then h c.put_bytes-a.ensures (then h (as_wrote c.put_number-b.ensures)
     (then h c.put_bytes-c.ensures (then h (as_wrote c.put_number-d.ensures)
     (then h c.put_bytes-e.ensures (then h (as_wrote c.put_number-g.ensures) c.put_byte.ensures)))))
-
-pub put_number-b-requires : goal.put_number-b-requires
-put_number-b-requires c = omega arith
-
-pub put_bytes-c-requires : goal.put_bytes-c-requires
-put_bytes-c-requires c = omega arith
-
-pub put_bytes-e-requires : goal.put_bytes-e-requires
-put_bytes-e-requires c = omega arith
-
-pub put_number-g-requires : goal.put_number-g-requires
-put_number-g-requires c = omega arith
-
-pub shape_of-out : goal.shape_of-out
-shape_of-out c = omega arith

@@ -39,11 +39,5 @@ returns c =
     let none = lines_none c.args.work.now c.args.records.now c.args.m (2 * (c.args.m + 1)) c.loop-l.l c.loop-l-test.false in
     end c.requires.1 c.loop-l.invariant.1 none
 
-pub overflow_add-end : goal.overflow_add-end
-overflow_add-end c = omega arith
-
-pub overflow_mul-end : goal.overflow_mul-end
-overflow_mul-end c = omega arith
-
 pub loop-l-smaller : goal.loop-l-smaller
 loop-l-smaller c = omega (arith, (comes (omega arith) c.gate_after-l.ensures).low)

@@ -14,18 +14,3 @@ returns c =
     reads (line-is a.g.cell (take a.g.count a.g.nets) a.g.net)
     (then h c.put_bytes-a.ensures (then h c.put_name-b.ensures
     (then h c.put_pins-p.ensures (then h c.put_pin-o.ensures c.put_byte.ensures))))
-
-pub put_name-b-requires : goal.put_name-b-requires
-put_name-b-requires c = omega arith
-
-pub put_pins-p-requires : goal.put_pins-p-requires
-put_pins-p-requires c = omega arith
-
-pub put_pin-o-requires : goal.put_pin-o-requires
-put_pin-o-requires c = omega arith
-
-pub put_byte-requires : goal.put_byte-requires
-put_byte-requires c = omega arith
-
-pub shape_of-out : goal.shape_of-out
-shape_of-out c = omega arith

@@ -7,9 +7,3 @@ pub returns : goal.returns
 returns c =
     let h : c.put_label.result ≤ length c.put_label.new.out = omega arith in
     then h c.put_bytes-next.ensures c.put_label.ensures
-
-pub put_bytes-next-requires : goal.put_bytes-next-requires
-put_bytes-next-requires c = omega arith
-
-pub put_label-requires : goal.put_label-requires
-put_label-requires c = omega arith

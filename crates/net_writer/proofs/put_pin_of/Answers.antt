@@ -22,15 +22,3 @@ returns c =
     let a = c.args in
     let four : length a.nets ≡ 4 = search rules in
     end c.requires.2 (begin a.out.now a.at refl) (part-absent a.nets a.count four c.requires.1 a.j c.if-j-count.false)
-
-pub overflow_cast-j : goal.overflow_cast-j
-overflow_cast-j c = omega arith
-
-pub overflow_add-j : goal.overflow_add-j
-overflow_add-j c = omega arith
-
-pub offset_bounds-nets-j : goal.offset_bounds-nets-j
-offset_bounds-nets-j c = omega arith
-
-pub bounds-nets-j : goal.bounds-nets-j
-bounds-nets-j c = omega arith

@@ -16,9 +16,3 @@ returns c =
     let h : c.put_byte.result ≤ length c.put_byte.new.out = omega arith in
     then h c.put_bytes-a.ensures (then h c.put_inputs-b.ensures
     (then h c.put_bytes-c.ensures (then h c.put_outputs-d.ensures c.put_byte.ensures)))
-
-pub put_byte-requires : goal.put_byte-requires
-put_byte-requires c = omega arith
-
-pub shape_of-out : goal.shape_of-out
-shape_of-out c = omega arith

@@ -10,15 +10,3 @@ returns c =
     let h : c.put_bytes.result ≤ length c.put_bytes.new.out = omega arith in
     then h c.put_bytes-a.ensures (then h c.put_net-b.ensures
     (then h c.put_byte-c.ensures (then h c.put_out-d.ensures c.put_bytes.ensures)))
-
-pub put_net-b-requires : goal.put_net-b-requires
-put_net-b-requires c = omega arith
-
-pub put_byte-c-requires : goal.put_byte-c-requires
-put_byte-c-requires c = omega arith
-
-pub put_out-d-requires : goal.put_out-d-requires
-put_out-d-requires c = omega arith
-
-pub put_bytes-requires : goal.put_bytes-requires
-put_bytes-requires c = omega arith

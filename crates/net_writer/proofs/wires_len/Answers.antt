@@ -1,4 +1,4 @@
--- `net_writer::wires_len` meets its contract. The invariant: what is counted and what is left make the whole, at most 35 bytes for each output. The measure is the number of outputs left.
+-- `net_writer::wires_len` meets its contract. The invariant: what is counted and what is left make the whole, at most 35 bytes for each output.
 use Rattle.base.specs.{◌≡◌, ap, ℕ, ◌-◌, arith, length, length-append}
 use Rattle.net_writer.specs.{wire_lines_from}
 use Rattle.net_writer.proofs.NetlistLength.{wire-length, wires-next, wires-none}
@@ -20,18 +20,3 @@ pub returns : goal.returns
 returns c =
     let a = c.args in
     omega (arith, ap length (wires-none a.work.now a.m a.outputs c.loop-i.i c.loop-i-test.false))
-
-pub overflow_cast-i : goal.overflow_cast-i
-overflow_cast-i c = omega arith
-
-pub wire_len-len-requires : goal.wire_len-len-requires
-wire_len-len-requires c = tt
-
-pub overflow_add-len : goal.overflow_add-len
-overflow_add-len c = omega arith
-
-pub overflow_add-i : goal.overflow_add-i
-overflow_add-i c = omega arith
-
-pub loop-i-smaller : goal.loop-i-smaller
-loop-i-smaller c = omega arith

@@ -1,20 +1,21 @@
--- `program_files::end` meets its contract. The invariant: the text from here on ends where that from the start does; the measure is what is left.
-use Rattle.base.specs.{refl, sym, ◌∙◌, arith}
-use Rattle.program_files.proofs.FileEnds.{end-here, end_on, end-past, end-within}
+-- `program_files::end` meets its contract.
+use Rattle.std.specs.Prelude.{unwrap_or, Option}
+use Rattle.base.specs.{◌≡◌, sym, ap, ◌∙◌, arith, ℕ, ◌+◌, ◌-◌, drop, take, take_all, length, length-drop}
+use Rattle.program_files.specs.{before, end_from}
+use Rattle.program_files.proofs.FileEnds.{before_position, end-past, end-within}
 use Rattle.program_files.proofs.end.Goals as goal
 
-pub returns-then-s-at-eq0 : goal.returns-then-s-at-eq0
-returns-then-s-at-eq0 c =
-    let e = sym (c.loop-at.invariant ∙ end-here c.args.s.now c.loop-at.at c.loop-at-test.true c.if-s-at-eq0.true) in
-    (e, omega (arith, e, (end-within c.args.s.now c.args.from).0), omega (arith, e, (end-within c.args.s.now c.args.from).1))
-
-pub loop-at-preserved : goal.loop-at-preserved
-loop-at-preserved c = c.loop-at.invariant ∙ end_on c.args.s.now c.loop-at.at c.loop-at-test.true c.if-s-at-eq0.false
+pub returns-then-s-from : goal.returns-then-s-from
+returns-then-s-from c =
+    let e = sym (end-past c.args.s.now c.args.from c.if-s-from.true) in
+    (e, omega arith, omega arith)
 
 pub returns : goal.returns
+unfolding end_from
 returns c =
-    let e = sym (c.loop-at.invariant ∙ end-past c.args.s.now c.loop-at.at c.loop-at-test.false) in
-    (e, omega (arith, e, (end-within c.args.s.now c.args.from).0), omega (arith, e, (end-within c.args.s.now c.args.from).1))
-
-pub loop-at-init : goal.loop-at-init
-loop-at-init c = refl
+    let rest = drop c.args.from c.args.s.now in
+    let text = take (length c.args.s.now - c.args.from) rest in
+    let whole : text ≡ rest = take_all _ rest (omega (arith, length-drop c.args.from c.args.s.now)) in
+    let e : c.unwrap_or.result ≡ before rest =
+    c.unwrap_or.ensures ∙ ap (λ (o : Option ℕ). unwrap_or o (length text)) c.first_zero.ensures ∙ before_position text ∙ ap before whole in
+    (ap (λ (n : ℕ). c.args.from + n) e, omega arith, omega (arith, e, (end-within c.args.s.now c.args.from).1))

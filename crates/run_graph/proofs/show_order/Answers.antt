@@ -1,4 +1,4 @@
--- `run_graph::show_order` is safe. The measure is the slots that are left.
+-- `run_graph::show_order` is safe.
 use Rattle.base.specs.{arith}
 use Rattle.graph_order.proofs.{fit-capacity}
 use Rattle.run_graph.proofs.show_order.Goals as goal

@@ -2,5 +2,5 @@
 use Rattle.base.specs.{arith, length-take}
 use Rattle.run_map.proofs.map_buffers.Goals as goal
 
-pub slice_bounds-put-end-then-n-text : goal.slice_bounds-put-end-then-n-text
-slice_bounds-put-end-then-n-text g c = simp length-take (omega arith)
+pub slice_bounds-put-end-then-m-text : goal.slice_bounds-put-end-then-m-text
+slice_bounds-put-end-then-m-text g c = simp length-take (omega arith)

@@ -7,11 +7,11 @@ pub slice_bounds-put-end : goal.slice_bounds-put-end
 slice_bounds-put-end g c =
     let r = c.report in
     let a = c.args in
-    let h = report-within a.t a.cells.now (length a.text.now) c.in-Length.n (sym c.in-Length.is ∙ r.ensures.0) in omega arith
+    let h = report-within a.t a.cells.now (length a.text.now) c.in-Ok.n (sym c.in-Ok.is ∙ r.ensures.0) in omega arith
 
-pub slice_bounds-put-end-in-Length : goal.slice_bounds-put-end-in-Length
-slice_bounds-put-end-in-Length g c =
+pub slice_bounds-put-end-in-Ok : goal.slice_bounds-put-end-in-Ok
+slice_bounds-put-end-in-Ok g c =
     let r = c.report in
     let a = c.args in
-    let h = report-within a.t a.cells.now (length a.text.now) c.in-Length.n (sym c.in-Length.is ∙ r.ensures.0) in
-    omega (arith, length-take c.in-Length.n r.new.text)
+    let h = report-within a.t a.cells.now (length a.text.now) c.in-Ok.n (sym c.in-Ok.is ∙ r.ensures.0) in
+    omega (arith, length-take c.in-Ok.n r.new.text)

@@ -1,7 +1,7 @@
 -- `tally_counting::gate_at` meets its contract: by the line at the place.
-use Rattle.base.specs.{arith, ◌-◌}
+use Rattle.base.specs.{arith, sym, ◌∙◌, ◌-◌, None}
 use Rattle.tally_counting.proofs.ExpectedNetlistLines.{ten-line, not-ended, span_bounds, part-short}
-use Rattle.tally_counting.proofs.GateCounts.{gate-none, gate-line, gate_other}
+use Rattle.tally_counting.proofs.GateCounts.{gate-none, gate-line}
 use Rattle.tally_counting.proofs.gate_at.Goals as goal
 
 pub overflow_add-stop : goal.overflow_add-stop
@@ -34,15 +34,16 @@ gate_of-requires c =
     let a = c.args in
     (omega (arith, part-short (c.line-l.result.stop - a.at) a.at a.s.now), c.requires.2)
 
-pub returns-in-Line : goal.returns-in-Line
-returns-in-Line c =
+pub returns : goal.returns
+returns c =
     let a = c.args in
     let l = c.line-l in
     let t = ten-line a.s.now a.at (omega arith) l.result l.ensures (omega arith) in
-    gate-line a.lib a.s.now a.at l.result t c.gate_of.result c.gate_of.ensures c.in-Line.k c.in-Line.is
+    gate-line a.lib a.s.now a.at l.result t _ (sym c.in_ok-k.was ∙ c.gate_of.ensures)
 
-pub returns-in-Nothing : goal.returns-in-Nothing
-returns-in-Nothing c =
-    let a = c.args in let l = c.line-l in
+pub returns-in_err-k : goal.returns-in_err-k
+returns-in_err-k c =
+    let a = c.args in
+    let l = c.line-l in
     let t = ten-line a.s.now a.at (omega arith) l.result l.ensures (omega arith) in
-    gate_other a.lib a.s.now a.at l.result t c.gate_of.result c.gate_of.ensures c.in-Nothing.is
+    rw c.from_residual.ensures (gate-line a.lib a.s.now a.at l.result t None (sym c.in_err-k.was ∙ c.gate_of.ensures))

@@ -1,9 +1,13 @@
 -- `tally_counting::occurs` meets its contract: by the number.
-use Rattle.tally_counting.proofs.CountPositions.{some-occurs, none-occurs}
+use Rattle.base.specs.{◌≡◌, refl, ◌∙◌, Bool, true, false, ltb}
+use mir.Val.{bool_byte}
+use Rattle.model.specs.{one}
 use Rattle.tally_counting.proofs.occurs.Goals as goal
 
-pub returns-then-n-gt0 : goal.returns-then-n-gt0
-returns-then-n-gt0 c = some-occurs _ c.if-n-gt0.true
+byte-one : (b : Bool) → bool_byte b ≡ one b
+unfolding one
+byte-one true = refl
+byte-one false = refl
 
-pub returns-else-n-gt0 : goal.returns-else-n-gt0
-returns-else-n-gt0 c = none-occurs _ c.if-n-gt0.false
+pub returns : goal.returns
+returns c = c.from.ensures ∙ byte-one (ltb 0 c.args.n)

@@ -2,7 +2,7 @@
 use Rattle.base.specs.{arith, sym, ap, ◌∙◌}
 use Rattle.model.specs.{is_label}
 use Rattle.tally_lines.specs.{kind_test}
-use Rattle.tally_lines.proofs.NetlistLineForms.{step-low, step-on, Labels, labels_first, labels_step, labels_yes, labels_no}
+use Rattle.tally_lines.proofs.NetlistLineForms.{step-low, step-on, Labels, labels_first, labels_step, labels_end}
 use Rattle.tally_lines.proofs.all_labels.Goals as goal
 
 pub loop-at-init : goal.loop-at-init
@@ -23,18 +23,5 @@ loop-at-preserved c =
       ap (Labels (is_label a.b) a.w.now) c.field-at.ensures ∙ sym (labels_step (is_label a.b) a.w.now p.at (omega arith)) ∙ p.invariant.1,
     )
 
-pub returns-then-at-w : goal.returns-then-at-w
-returns-then-at-w c =
-    let a = c.args in
-    labels_yes (is_label a.b) a.w.now c.loop-at.at c.if-at-w.true ∙ c.loop-at.invariant.1
-
-pub returns-else-at-w : goal.returns-else-at-w
-returns-else-at-w c =
-    let a = c.args in
-    labels_no (is_label a.b) a.w.now c.loop-at.at c.loop-at-test.false c.if-at-w.false ∙ c.loop-at.invariant.1
-
-pub field-at-requires : goal.field-at-requires
-field-at-requires c = omega arith
-
-pub overflow_add-w : goal.overflow_add-w
-overflow_add-w c = omega arith
+pub returns : goal.returns
+returns c = labels_end (is_label c.args.b) c.args.w.now c.loop-at.at c.loop-at-test.false ∙ c.loop-at.invariant.1

@@ -4,6 +4,10 @@ use Rattle.tally_lines.specs.declared.Kind.{Kind}
 use Rattle.tally_lines.specs.{kind_test}
 use Rattle.tally_lines.proofs.is_kind.Goals as goal
 
+pub returns-in-Word : goal.returns-in-Word
+unfolding kind_test
+returns-in-Word c = c.same_bytes.ensures ∙ ap (λ (k : Kind). kind_test k c.args.w.now) (sym c.in-Word.is)
+
 pub returns-in-Digits : goal.returns-in-Digits
 unfolding kind_test
 returns-in-Digits c = c.are_digits.ensures ∙ ap (λ (k : Kind). kind_test k c.args.w.now) (sym c.in-Digits.is)

@@ -2,21 +2,12 @@
 use Rattle.base.specs.{◌∷◌, [], ap, ◌∙◌}
 use Rattle.model.specs.{same, text, is_timing, are_digits, is_label}
 use Rattle.tally_lines.specs.{step_at, steps_at, kind_test}
-use Rattle.tally_lines.proofs.NetlistLineForms.{line-yes, line_no}
+use Rattle.tally_lines.proofs.NetlistLineForms.{line-is}
 use Rattle.tally_lines.proofs.is_timing.Goals as goal
 
-pub returns-then-e-w : goal.returns-then-e-w
+pub returns : goal.returns
 unfolding is_timing steps_at kind_test text
-returns-then-e-w c =
+returns c =
     let a = c.args in
-    line-yes (same (text "#") ∷ same (text "timing") ∷ is_label 111 ∷ are_digits ∷ are_digits ∷ []) a.w.now c.field-e.result
+    line-is (same (text "#") ∷ same (text "timing") ∷ is_label 111 ∷ are_digits ∷ are_digits ∷ []) a.w.now c.field-e.result
     (c.field-e.ensures ∙ ap (step_at (are_digits) a.w.now) (c.field-d.ensures ∙ ap (step_at (are_digits) a.w.now) (c.field-c.ensures ∙ ap (step_at (is_label 111) a.w.now) (c.word-b.ensures ∙ ap (step_at (same (text "timing")) a.w.now) c.word-a.ensures))))
-    c.if-e-w.true
-
-pub returns-else-e-w : goal.returns-else-e-w
-unfolding is_timing steps_at kind_test text
-returns-else-e-w c =
-    let a = c.args in
-    line_no (same (text "#") ∷ same (text "timing") ∷ is_label 111 ∷ are_digits ∷ are_digits ∷ []) a.w.now c.field-e.result
-    (c.field-e.ensures ∙ ap (step_at (are_digits) a.w.now) (c.field-d.ensures ∙ ap (step_at (are_digits) a.w.now) (c.field-c.ensures ∙ ap (step_at (is_label 111) a.w.now) (c.word-b.ensures ∙ ap (step_at (same (text "timing")) a.w.now) c.word-a.ensures))))
-    c.if-e-w.false

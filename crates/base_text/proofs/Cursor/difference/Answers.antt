@@ -8,7 +8,7 @@ pub returns-then-s-at : goal.returns-then-s-at
 returns-then-s-at c = sym (differs_none _ _ c.if-s-at.true)
 
 pub returns-then-low-lt128 : goal.returns-then-low-lt128
-returns-then-low-lt128 c = sym (differs_one _ _ c.if-s-at.false c.if-low-lt128.true)
+returns-then-low-lt128 c = rw c.from.ensures (sym (differs_one _ _ c.if-s-at.false c.if-low-lt128.true))
 
 pub returns-then-s-at-2 : goal.returns-then-s-at-2
 returns-then-s-at-2 c =
@@ -18,4 +18,4 @@ returns-then-s-at-2 c =
     ]
 
 pub returns : goal.returns
-returns c = sym (differs_two _ _ c.if-s-at.false c.if-low-lt128.false c.if-s-at-2.false c.if-s-at-ge128.false)
+returns c = rw (c.from-2.ensures, c.from-3.ensures) (sym (differs_two _ _ c.if-s-at.false c.if-low-lt128.false c.if-s-at-2.false c.if-s-at-ge128.false))

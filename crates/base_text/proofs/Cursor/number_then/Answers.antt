@@ -1,8 +1,16 @@
--- `base_text::Cursor::number_then` meets its contract, which is composed of those of `number` and `then_byte`.
-use Rattle.base.specs.{sym}
-use Rattle.base_text.specs.{number_then}
+-- `base_text::Cursor::number_then` meets its contract: each return knows what `number` found, and what `byte` found behind it.
+use Rattle.base.specs.{sym, ◌∙◌}
+use Rattle.base_text.specs.{number_then, then_byte}
 use Rattle.base_text.proofs.Cursor.number_then.Goals as goal
 
+pub returns-in_err-n : goal.returns-in_err-n
+unfolding number_then then_byte
+returns-in_err-n c = c.from_residual.ensures ∙ rw (sym c.in_err-n.ensures)
+
+pub returns-in_err-byte : goal.returns-in_err-byte
+unfolding number_then then_byte
+returns-in_err-byte c = c.from_residual-in_err-byte.ensures ∙ rw (sym c.in_ok-n.ensures, sym c.in_err-byte.ensures)
+
 pub returns : goal.returns
-unfolding number_then
-returns c = rw (sym c.number.ensures) c.then_byte.ensures
+unfolding number_then then_byte
+returns c = rw (sym c.in_ok-n.ensures, sym c.in_ok-byte.ensures)

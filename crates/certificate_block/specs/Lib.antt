@@ -1,3 +1,0 @@
--- `Answers`: the answer of a look-up in a block.
-pub mod Answers
-unfoldable pub use Answers.{table_of}
