@@ -1,5 +1,4 @@
 -- The words from a place on, after words were put: those that were put, where they were put, and those of before, where the two do not meet.
---     put_whole                   all words put
 --     put_same                    a word that two lists have in common, where the same words are put
 --     part-put                    the words that were put
 --     part_apart                  words that do not meet them

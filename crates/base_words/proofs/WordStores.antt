@@ -3,7 +3,7 @@
 --     get_put                     a word that was stored
 --     get_put-below, -above       a word before the place, or past what was stored
 --     put-none, put-more          a loop that stores one word a step
---     put-zeros, put_taken        such a loop that clears, or copies
+--     put_taken                   such a loop that copies
 --     put_one                     one store
 --     put_append                  words put right behind others
 --     put_part                    words written as a slice of the list

@@ -1,5 +1,5 @@
 -- A gate's line: its cell, and its nets.
-use Rattle.base.specs.{ℕ, suc, ◌+◌, ◌-◌, ◌≤◌, ◌<◌, arith, ◌≡◌, refl, sym, ◌∙◌, ap, subst}
+use Rattle.base.specs.{ℕ, zero, suc, ◌+◌, ◌-◌, ◌≤◌, ◌<◌, arith, not-suc-le-zero, le_of_suc-le-suc, ◌≡◌, refl, sym, ◌∙◌, ap, subst}
 use Rattle.base.specs.{Bool, true, false, cond, Option, None, Some, List, [], ◌∷◌, ◌++◌, map}
 use Rattle.base.specs.{length, take, drop, get_or, replicate, length-append, length-take-le, get_or-take}
 use Rattle.model.specs.{and_then, from, below, same, fields, name_of, no_cell, cells_of, Driver, pin_net, bound_nets, cell_named, gate_of_fields}
@@ -9,6 +9,7 @@ use Rattle.theory_graph.proofs.{length-map, length_from}
 use Rattle.check_names.specs.{code, space_from, fields_from, letters, nets_of, gate_with, gate_of}
 use Rattle.check_names.specs.declared.Nets.{Nets}
 use Rattle.check_names.proofs.WordSplits.{fields-there, fields-none, fields-part}
+use Rattle.check_names.proofs.PinLetters.{code-some, pin-named}
 
 -- ---- nets that are bound
 
@@ -30,6 +31,19 @@ nets-long (b ∷ bs) (w ∷ ws) ns e =
     let p = then_some (pin_net b w) _ ns e in
     let q = then_some (bound_nets bs ws) (λ ms. Some (p.0 ∷ ms)) ns p.2 in
     ap length (sym (some-once (p.0 ∷ q.0) ns q.2)) ∙ ap suc (nets-long bs ws q.0 q.1)
+
+nets-some : (bs : List ℕ) (ws ns : List (List ℕ)) → bound_nets bs ws ≡ Some ns → (k : ℕ) → k < length bs → 0 < code (get_or ns k [])
+unfolding bound_nets
+nets-some [] ws ns e k h = absurd (not-suc-le-zero h)
+nets-some (b ∷ bs) [] ns e k h = absurd (let z : ◌≡◌ {A = ℕ} 0 1 = cc in omega arith)
+nets-some (b ∷ bs) (w ∷ ws) ns e k h =
+    let p = then_some (pin_net b w) _ ns e in
+    let q = then_some (bound_nets bs ws) (λ ms. Some (p.0 ∷ ms)) ns p.2 in
+    subst (λ (ms : List (List ℕ)). 0 < code (get_or ms k [])) (some-once (p.0 ∷ q.0) ns q.2) (at k h p.0 q.0 (code-some p.0 (pin-named b w p.0 p.1)) (nets-some bs ws q.0 q.1))
+  where
+    at : (j : ℕ) → j < suc (length bs) → (m : List ℕ) (ms : List (List ℕ)) → 0 < code m → ((i : ℕ) → i < length bs → 0 < code (get_or ms i [])) → 0 < code (get_or (m ∷ ms) j [])
+    at zero l m ms z later = z
+    at (suc j) l m ms z later = later j (le_of_suc-le-suc l)
 
 letters-long : (n : ℕ) → length (letters 0 n) ≡ n + 1
 unfolding letters
@@ -122,16 +136,17 @@ module _ (lib : Library) (l : List ℕ) where
 
 -- ---- the driver
 
--- the line's place is the driver's; of the place nothing else is said
-pub driver-place : (cells : List Cell) (at : ℕ) (ws : List (List ℕ)) (d : Driver) → gate_of_fields cells at ws ≡ Some d → d.offset ≡ at
+-- the line's place is the driver's, and its net has a number; of the place nothing else is said
+pub driver-net : (cells : List Cell) (at : ℕ) (ws : List (List ℕ)) (d : Driver) → gate_of_fields cells at ws ≡ Some d → (0 < code d.net) × (d.offset ≡ at)
 unfolding gate_of_fields letters below
-driver-place cells at [] d e = absurd (let z : ◌≡◌ {A = ℕ} 0 1 = cc in omega arith)
-driver-place cells at (k ∷ []) d e = absurd (let z : ◌≡◌ {A = ℕ} 0 1 = cc in omega arith)
-driver-place cells at (k ∷ name ∷ ws) d e =
+driver-net cells at [] d e = absurd (let z : ◌≡◌ {A = ℕ} 0 1 = cc in omega arith)
+driver-net cells at (k ∷ []) d e = absurd (let z : ◌≡◌ {A = ℕ} 0 1 = cc in omega arith)
+driver-net cells at (k ∷ name ∷ ws) d e =
     let p = then_some (cell_named cells name) _ d e in
     let c = p.0 in
     let q = then_some (bound_nets (letters 0 c.pins) ws) (λ nets. Some (record { offset = at; table = c.table; uses = take c.pins nets; net = get_or nets c.pins [] })) d p.2 in
-    sym (ap (λ (x : Driver). x.offset) (some-once (record { offset = at; table = c.table; uses = take c.pins q.0; net = get_or q.0 c.pins [] }) d q.2))
+    let r = some-once (record { offset = at; table = c.table; uses = take c.pins q.0; net = get_or q.0 c.pins [] }) d q.2 in
+    (subst (λ (x : Driver). 0 < code x.net) r (nets-some (letters 0 c.pins) ws q.0 q.1 c.pins (omega (arith, letters-long c.pins))), sym (ap (λ (x : Driver). x.offset) r))
 
 pub driver_anywhere : (cells : List Cell) (at : ℕ) (ws : List (List ℕ)) → gate_of (gate_of_fields cells at ws) ≡ gate_of (gate_of_fields cells 0 ws)
 unfolding gate_of_fields

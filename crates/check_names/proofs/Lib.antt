@@ -6,5 +6,5 @@ pub mod PinBinding
 pub mod GateLines
 pub mod NameLines
 pub use PinLetters.{pin-named}
-pub use GateLines.{driver_anywhere, driver-place}
+pub use GateLines.{driver_anywhere, driver-net}
 pub use NameLines.{gate-long}

@@ -1,12 +1,12 @@
 -- A word `A=net` by its bytes, and the words of a gate's line one by one.
-use Rattle.base.specs.{ℕ, suc, ◌+◌, ◌-◌, ◌≤◌, ◌<◌, arith, ◌≡◌, refl, sym, ◌∙◌, ap, ap₂, subst, dec_le, lt_of_not-le, Bool, true}
-use Rattle.base.specs.{false, cond, ◌&&◌, Option, None, Some, List, [], ◌∷◌, eqb, length, take, drop, get_or, length-drop}
+use Rattle.base.specs.{ℕ, zero, suc, ◌+◌, ◌-◌, ◌*◌, ◌≤◌, ◌<◌, arith, ◌≡◌, refl, sym, ◌∙◌, ap, ap₂, subst, dec_le, lt_of_not-le, Bool, true}
+use Rattle.base.specs.{false, true≢false, cond, ◌&&◌, ◌||◌, Option, None, Some, List, [], ◌∷◌, eqb, leb, length, take, drop, get_or, length-drop}
 use Rattle.base.specs.{take_all, yes_eqb, no_eqb}
-use Rattle.model.specs.{and_then, only, is_net, pin_net, bound_nets}
+use Rattle.model.specs.{all, and_then, only, between, is_letter, is_net, pin_net, bound_nets}
 use Rattle.theory_graph.proofs.{is_true, is_false}
-use Rattle.base_text.proofs.{and_right}
+use Rattle.base_text.proofs.{and_left, and_right}
 use Rattle.check_names.proofs.WordSplits.{fields-none, fields-part}
-use Rattle.check_names.specs.{code, net_code, space_from, fields_from, opt_code, pin_of, pin_with, pin_at}
+use Rattle.check_names.specs.{is_net_byte, code, net_code, space_from, fields_from, opt_code, pin_of, pin_with, pin_at}
 use Rattle.check_names.specs.declared.Pin.{Pin}
 
 -- all that is left of a list
@@ -68,6 +68,22 @@ with-some at None k e = absurd (let z : ◌≡◌ {A = ℕ} 0 1 = cc in omega ar
 with-some at (Some n) k e = let z : code n ≡ k = cc in ap (λ (x : ℕ). Some (record { code = x; next = at })) z
 
 -- ---- the words one by one
+
+-- a net's number is not 0
+pub code-some : (w : List ℕ) → is_net w ≡ true → 0 < code w
+unfolding is_net all code is_net_byte is_letter between
+code-some [] e = absurd (true≢false (sym e))
+code-some (b ∷ w) e = pos b zero_no
+  where
+    first : (is_letter b || between 48 57 b) ≡ true
+    first = and_left (is_letter b || between 48 57 b) _ (and_right (leb (suc (length w)) 8) _ (and_right (leb 1 (suc (length w))) _ e))
+
+    zero_no : b ≡ 0 → ⊥
+    zero_no z = true≢false (sym first ∙ ap (λ (x : ℕ). is_letter x || between 48 57 x) z)
+
+    pos : (x : ℕ) → (x ≡ 0 → ⊥) → 0 < x + 256 * code w
+    pos zero n = absurd (n refl)
+    pos (suc x) n = omega arith
 
 pub pin-named : (b : ℕ) (w m : List ℕ) → pin_net b w ≡ Some m → is_net m ≡ true
 unfolding pin_net only

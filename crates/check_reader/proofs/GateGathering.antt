@@ -12,8 +12,8 @@ use Rattle.base_text.specs.{line_at, past_line}
 use Rattle.base_text.proofs.{lines_at_lem, lines_none}
 use Rattle.check_names.specs.{gate_by, gate_of, name_code}
 use Rattle.check_names.specs.declared.Gate.{Gate}
-use Rattle.check_names.proofs.{driver-place, driver_anywhere}
-use Rattle.check_reader.specs.{lines_at, gate_words, driver_words, Gates}
+use Rattle.check_names.proofs.{driver-net, driver_anywhere}
+use Rattle.check_reader.specs.{lines_at, gate_words, driver_words, Gates, Partly}
 
 -- ---- a line
 
@@ -63,7 +63,7 @@ unfolding driver_words
 drives-some cells l g e = go (gate_driver cells l) refl e
   where
     of_ten : (d : Driver) (b : Bool) → eqb l.ending 1 ≡ b → and_then (only b (fields l.bytes)) (gate_of_fields cells l.offset) ≡ Some d → (d.offset ≡ l.offset) × (l.ending ≡ 1)
-    of_ten d true q f = (driver-place cells l.offset (fields l.bytes) d (unfold only and_then in f), eqb-true l.ending 1 q)
+    of_ten d true q f = ((driver-net cells l.offset (fields l.bytes) d (unfold only and_then in f)).1, eqb-true l.ending 1 q)
     of_ten d false q f = absurd (unfold only and_then in let z : ◌≡◌ {A = ℕ} 0 1 = cc in omega arith)
 
     go : (o : Option Driver) → gate_driver cells l ≡ o → gate_of o ≡ Some g
@@ -139,6 +139,10 @@ module _ (s : List ℕ) (lib : Library) (first at count : ℕ) (before now : Lis
     where
       at-end : (end outs : ℕ) → read_drivers (cells_of lib) end outs (lines_at s at) ≡ read_names end 0 outs (lines_at s at)
       at-end end outs = ap (read_drivers (cells_of lib) end outs) (lines_none s at h) ∙ sym (ap (read_names end 0 outs) (lines_none s at h))
+
+  -- where the line here is at fault they stay
+  pub so_kept : (p : Partly 0 before now) × (6 * length p.drivers ≤ at)
+  so_kept = (record { drivers = so.drivers; capacity = omega (arith, so.capacity, so.counted); stored = so.stored }, omega (arith, few, so.counted))
 
   module _ (h : at < length s) where
     pub so_names : is_gate here ≡ false → Gates s lib first (record { at = at; count = count }) before now

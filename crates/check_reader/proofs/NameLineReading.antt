@@ -9,7 +9,7 @@ use Rattle.base_words.proofs.{length-put, put-none, put_append}
 use Rattle.base_text.specs.{line_at, past_line}
 use Rattle.base_text.proofs.{lines_at_lem, lines_none, and_left, and_right, dec_below}
 use Rattle.check_names.specs.{code, gate_by, name_code}
-use Rattle.check_reader.specs.{lines_at, gate_words, driver_words, wire_gate, Stands, Missed, Step, Pairs}
+use Rattle.check_reader.specs.{lines_at, gate_words, driver_words, wire_gate, Stands, Missed, Step, Pairs, Partly}
 use Rattle.check_reader.proofs.GateGathering.{words_long, driver-eight, each_last, next-same, next-twice}
 
 -- ---- a letter's net
@@ -141,6 +141,14 @@ pairs_start s outs first i w capacity = record {
   size = refl;
   stored = sym (put-none w (8 * i));
   expected = next-same (read_names (length s) 0 outs (lines_at s first)) ∙ ap (λ (n : ℕ). next (read_names (length s) 0 n (lines_at s first)) (λ ds. holds ds)) (let z : outs ≡ outs - 0 = omega arith in z);
+}
+
+-- where the next line is at fault they stay
+pub pairs-kept : (s : List ℕ) (outs first i at k : ℕ) (before now : List ℕ) → SoMany s outs first i at k before now → (after : List ℕ) → after ≡ now → Partly i before after
+pairs-kept s outs first i at k before now so after e = record {
+  drivers = so.drivers;
+  capacity = omega (arith, so.capacity, so.counted);
+  stored = e ∙ so.stored;
 }
 
 module _ (s : List ℕ) (outs first i at k : ℕ) (before now : List ℕ) (so : SoMany s outs first i at k before now) (here : k < outs) where

@@ -8,8 +8,8 @@ use Rattle.model.specs.{read_netlist}
 use Rattle.model.specs.Graph.{Graph}
 use Rattle.model.specs.declared.Library.{Library}
 use Rattle.base_words.specs.{put_at}
-use Rattle.base_words.proofs.{length-put, put_append}
-use Rattle.check_reader.specs.{lines_at, Stands, Missed, Begun, Unbegun, driver_words, Gates, Pairs, Lined, Lines, progress_of, nets_after, Taken}
+use Rattle.base_words.proofs.{length-put, put-none, put_append}
+use Rattle.check_reader.specs.{lines_at, Stands, Missed, Begun, Unbegun, driver_words, Gates, Pairs, Partly, Lined, Lines, progress_of, nets_after, Taken}
 use Rattle.check_reader.specs.declared.Progress.{Progress}
 use Rattle.check_reader.proofs.GateGathering.{words_long}
 
@@ -22,6 +22,33 @@ each_append (d ∷ ds) es = ap (λ (ws : List ℕ). driver_words d ++ ws) (each_
 pub gates-size : (s : List ℕ) (lib : Library) (first : ℕ) (r : Progress) (before after : List ℕ) → Gates s lib first r before after → length after ≡ length before
 gates-size s lib first r before after gates =
     ap length gates.stored ∙ length-put before 0 (each driver_words gates.drivers) (omega (arith, words_long gates.drivers, gates.counted, gates.capacity))
+
+-- no line read, the array is as it was
+pub none-left : (before : List ℕ) → Partly 0 before before
+unfolding each
+none-left before = record { drivers = []; capacity = omega arith; stored = sym (put-none before 0) }
+
+-- the gates' drivers, and behind them those of the outputs' lines before the one at fault
+pub pairs-left : (s : List ℕ) (lib : Library) (first : ℕ) (r : Progress) (before mid : List ℕ) → Gates s lib first r before mid
+    → (after : List ℕ) → Partly r.count mid after → Partly 0 before after
+pairs-left s lib first r before mid gates after left = record {
+  drivers = gates.drivers ++ left.drivers;
+  capacity = omega (arith, left.capacity, gates.counted, length-append gates.drivers left.drivers, gates-size s lib first r before mid gates);
+  stored = left.stored
+      ∙ ap₂ (λ (w : List ℕ) (n : ℕ). put_at w n (each driver_words left.drivers)) gates.stored (let z : 8 * r.count ≡ 0 + length (each driver_words gates.drivers) = omega (arith, long) in z)
+      ∙ put_append before 0 (each driver_words gates.drivers) (each driver_words left.drivers) (omega (arith, long, words_long left.drivers, left.capacity, gates-size s lib first r before mid gates))
+      ∙ sym (ap (put_at before 0) (each_append gates.drivers left.drivers));
+}
+  where
+    long : length (each driver_words gates.drivers) ≡ 8 * r.count
+    long = words_long gates.drivers ∙ ap (λ (n : ℕ). 8 * n) (sym gates.counted)
+
+-- so do they where `.end` is not there
+pub end-left : (s : List ℕ) (lib : Library) (first : ℕ) (r : Progress) (before mid : List ℕ) → Gates s lib first r before mid
+    → (outs at p : ℕ) (after : List ℕ) → Pairs s outs at r.count p mid after → Partly 0 before after
+end-left s lib first r before mid gates outs at p after pairs =
+    pairs-left s lib first r before mid gates after
+    (record { drivers = pairs.drivers; capacity = omega (arith, pairs.capacity, pairs.counted); stored = pairs.stored })
 
 -- behind the last output `.end` is expected
 end-expected : (end k : ℕ) (ls : List Line) → read_names end k 0 ls ≡ next (past_lines end (text ".end" ∷ []) ls) (λ _. holds [])
@@ -99,10 +126,10 @@ module _ (s : List ℕ) (lib : Library) (g : Graph) (before : List ℕ) where
   pub read-broken : (r : Result ℕ ℕ) → is_err r ≡ true → (mid : List ℕ) → Lined s lib g r before mid → (after : List ℕ) → after ≡ replicate (length before) 0 → Taken s lib g r before after
   unfolding progress_of nets_after
   read-broken (Ok n) e mid lines after zeros = absurd (false≢true e)
-  read-broken (Err k) e mid refused after zeros = record {
-    answer = sym (ap progress_of refused);
-    left = zeros ∙ sym (ap (λ (x : Read (List Driver)). nets_after x before) refused);
-    follows = refused;
+  read-broken (Err k) e mid passed after zeros = record {
+    answer = sym (ap progress_of passed.1);
+    left = zeros ∙ sym (ap (λ (x : Read (List Driver)). nets_after x before) passed.1);
+    follows = passed.1;
   }
 
   pub read_whole : (r : Result ℕ ℕ) → is_err r ≡ false → (after : List ℕ) → Lined s lib g r before after → Taken s lib g r before after

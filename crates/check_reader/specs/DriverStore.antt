@@ -35,10 +35,17 @@ pub record Gates (s : List ℕ) (lib : Library) (first : ℕ) (r : Progress) (be
   pub expected : (end outs : ℕ)
       → read_drivers (cells_of lib) end outs (lines_at s first) ≡ next (read_names end 0 outs (lines_at s r.at)) (λ ds. holds (drivers ++ ds))
 
+-- a line is at fault: the drivers of the lines before it stand from place i of the array on
+pub record Partly (i : ℕ) (before after : List ℕ) : Type 0 where
+  pub drivers : List Driver
+  pub capacity : 8 * (i + length drivers) ≤ length before
+  pub stored : after ≡ put_at before (8 * i) (each driver_words drivers)
+
 -- so, or the line at a place breaks its form
 abbrev pub Gathered : List ℕ → Library → ℕ → Result Progress ℕ → List ℕ → List ℕ → Type 0
 Gathered s lib first (Ok r) before after = Gates s lib first r before after
-Gathered s lib first (Err k) before after = (end outs : ℕ) → read_drivers (cells_of lib) end outs (lines_at s first) ≡ fault 32 k
+Gathered s lib first (Err k) before after =
+    (p : Partly 0 before after) × (6 * length p.drivers ≤ k) × ((end outs : ℕ) → read_drivers (cells_of lib) end outs (lines_at s first) ≡ fault 32 k)
 
 -- what output k's `.names` line says, by the number of its net
 abbrev pub wire_gate : ℕ → ℕ → Gate
@@ -55,7 +62,7 @@ pub record Step (s : List ℕ) (k at i p : ℕ) (before after : List ℕ) : Type
 -- so, or a line breaks its form or is missing
 abbrev pub Stepped : List ℕ → ℕ → ℕ → ℕ → Result ℕ ℕ → List ℕ → List ℕ → Type 0
 Stepped s k at i (Ok p) before after = Step s k at i p before after
-Stepped s k at i (Err p) before after = (left : ℕ) → read_names (length s) k (suc left) (lines_at s at) ≡ fault 32 p
+Stepped s k at i (Err p) before after = (after ≡ before) × ((left : ℕ) → read_names (length s) k (suc left) (lines_at s at) ≡ fault 32 p)
 
 -- the lines of so many outputs were read: their drivers stand from place i of the array on, and what is behind them is expected
 pub record Pairs (s : List ℕ) (outs at i p : ℕ) (before after : List ℕ) : Type 0 where
@@ -69,7 +76,7 @@ pub record Pairs (s : List ℕ) (outs at i p : ℕ) (before after : List ℕ) : 
 -- so, or a line breaks its form or is missing
 abbrev pub Paired : List ℕ → ℕ → ℕ → ℕ → Result ℕ ℕ → List ℕ → List ℕ → Type 0
 Paired s outs at i (Ok p) before after = Pairs s outs at i p before after
-Paired s outs at i (Err p) before after = read_names (length s) 0 outs (lines_at s at) ≡ fault 32 p
+Paired s outs at i (Err p) before after = Partly i before after × (read_names (length s) 0 outs (lines_at s at) ≡ fault 32 p)
 
 -- the lines of a netlist were read: so many drivers stand first in the array
 pub record Lines (s : List ℕ) (lib : Library) (g : Graph) (n : ℕ) (before after : List ℕ) : Type 0 where
@@ -80,9 +87,14 @@ pub record Lines (s : List ℕ) (lib : Library) (g : Graph) (n : ℕ) (before af
   pub few : n < 10923
 
 -- so, or a line breaks its form or is missing
+abbrev pub LinesRead : List ℕ → Library → Graph → Result ℕ ℕ → List ℕ → List ℕ → Type 0
+LinesRead s lib g (Ok n) before after = Lines s lib g n before after
+LinesRead s lib g (Err k) before after = read_netlist (cells_of lib) g s ≡ fault 32 k
+
+-- the same, and what is left in the array where a line is at fault
 abbrev pub Lined : List ℕ → Library → Graph → Result ℕ ℕ → List ℕ → List ℕ → Type 0
 Lined s lib g (Ok n) before after = Lines s lib g n before after
-Lined s lib g (Err k) before after = read_netlist (cells_of lib) g s ≡ fault 32 k
+Lined s lib g (Err k) before after = Partly 0 before after × LinesRead s lib g (Err k) before after
 
 -- ---- a netlist read
 
@@ -100,4 +112,4 @@ nets_after (fault n k) before = replicate (length before) 0
 pub record Taken (s : List ℕ) (lib : Library) (g : Graph) (r : Result ℕ ℕ) (before after : List ℕ) : Type 0 where
   pub answer : r ≡ progress_of (read_netlist (cells_of lib) g s)
   pub left : after ≡ nets_after (read_netlist (cells_of lib) g s) before
-  pub follows : Lined s lib g r before after
+  pub follows : LinesRead s lib g r before after

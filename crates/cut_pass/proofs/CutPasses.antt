@@ -1,8 +1,9 @@
 -- What joins the two passes of the layer:
 --     ready_filling               what `lists` leaves is what `functions` asks for
---     after-accepted, -refused    what both leave
-use Rattle.std.specs.Prelude.{Ok}
-use Rattle.model.specs.{Verdict, refused_with}
+--     after_accepted, _refused    what both leave
+use Rattle.std.specs.Prelude.{Ok, Err}
+use Rattle.model.specs.{Verdict}
+use Rattle.model.specs.declared.Refusal.{Refusal}
 use Rattle.base.specs.{◌≡◌, sym, ap, ◌∙◌, subst, List, ℕ, ◌/◌, ◌≤◌, ◌<◌, arith, get_or}
 use Rattle.base_words.specs.{and_kind, kind_at, slot_at, slot_addr, position_at, kind_addr, left_addr, right_addr, counts_from}
 use Rattle.cut_lists.proofs.{ListedSoFar, all-represented}
@@ -53,10 +54,10 @@ ready_filling w m n r =
         }
 
 module _ (w : List ℕ) (m n : ℕ) where
-  pub after-accepted : (lists.listing w m n).answer ≡ Ok tt → enumerated w m n ≡ filling.filled (lists.stored w m (lists.listing w m n).known) m n
+  pub after_accepted : (lists.listing w m n).answer ≡ Ok tt → enumerated w m n ≡ filling.filled (lists.stored w m (lists.listing w m n).known) m n
   unfolding enumerated filled_after
-  after-accepted e = ap (λ (a : Verdict). filled_after a (lists.stored w m (lists.listing w m n).known) m n) e
+  after_accepted e = ap (λ (a : Verdict). filled_after a (lists.stored w m (lists.listing w m n).known) m n) e
 
-  pub after-refused : (number place : ℕ) → (lists.listing w m n).answer ≡ refused_with number place → enumerated w m n ≡ lists.stored w m (lists.listing w m n).known
+  pub after_refused : (r : Refusal) → (lists.listing w m n).answer ≡ Err r → enumerated w m n ≡ lists.stored w m (lists.listing w m n).known
   unfolding enumerated filled_after
-  after-refused number place e = ap (λ (a : Verdict). filled_after a (lists.stored w m (lists.listing w m n).known) m n) e
+  after_refused r e = ap (λ (a : Verdict). filled_after a (lists.stored w m (lists.listing w m n).known) m n) e

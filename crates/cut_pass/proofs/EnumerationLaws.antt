@@ -18,7 +18,7 @@ use Rattle.cut_lists.proofs.{ListedSoFar, represents-kept, ready-listing, all-re
 use Rattle.cut_functions.proofs.{Under, under-cuts, under-sound, filled-under, filled-low, filled-above, filled-word, functions_of_lem}
 use Rattle.cut_pass.specs.{Ready, enumerated}
 use Rattle.cut_pass.specs.EnumeratedLists.{Listed}
-use Rattle.cut_pass.proofs.CutPasses.{ready_filling, after-accepted}
+use Rattle.cut_pass.proofs.CutPasses.{ready_filling, after_accepted}
 use Rattle.cut_pass.proofs.OrderedNodes.{place_of, ordered, earlier-slot}
 use Rattle.theory_graph.specs.AcceptedGraph as accepted
 use Rattle.cut_lists.specs.CutLists as lists
@@ -59,7 +59,7 @@ module _ (w : List ℕ) (m n : ℕ) (g : Graph) (rep : Represents w m n g) (ok :
 
     is-end : enumerated w m n ≡ end
     unfolding out end
-    is-end = after-accepted w m n (enumerate_verdict ∙ done)
+    is-end = after_accepted w m n (enumerate_verdict ∙ done)
 
     under : Under out m end
     unfolding end

@@ -9,6 +9,7 @@ ghost use Rattle.cut_pass.specs.{Ready, enumerated};
 use model::{Header, Refusal};
 
 // "16. An AND, used or not, has more than 18 cuts; place, the first such variable in placing order."
+#[tactic(auto, using(crate::proofs::CutPasses::ready_filling, crate::proofs::CutPasses::after_accepted, crate::proofs::CutPasses::after_refused))]
 pub fn enumerate(work: &mut [u16], h: Header) -> Result<(), Refusal>
     requires { Ready work.old h.size (ordered_count h) }
     ensures value { result ≡ (listing work.old h.size (ordered_count h)).answer }

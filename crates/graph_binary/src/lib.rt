@@ -39,6 +39,7 @@ fn less_by(s: &[u8], at: usize, n: usize, first: bool) -> Result<(usize, usize),
 }
 
 // The AND of a left literal: "left minus first operand and first minus second", each refused "at the difference's first byte".
+#[tactic(auto, unfolding(crate::specs::gate_at))]
 fn read_gate(s: &[u8], at: usize, left: usize) -> Result<Literals, Refusal>
     ensures { result ≡ gate_at s.now at left }
 {

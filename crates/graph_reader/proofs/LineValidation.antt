@@ -117,8 +117,8 @@ pub record Left (s : List ℕ) (h : Header) (w : List ℕ) (k at : ℕ) : Type 0
   pub verdict : check_verdict s h (expected_count h) 0 h.next w ≡ check_verdict s h (expected_count h - k) k at w
 
 module _ (s : List ℕ) (h : Header) (w : List ℕ) (k at : ℕ) (r : Left s h w k at) where
-  pub left-on : k < expected_count h → (end : ℕ) → check_at s at w h k ≡ Ok end → Left s h w (k + 1) end
-  left-on l end e =
+  pub left_next : k < expected_count h → (end : ℕ) → check_at s at w h k ≡ Ok end → Left s h w (k + 1) end
+  left_next l end e =
       record { upto = omega arith; verdict = r.verdict ∙ check-on s h (expected_count h - (k + 1)) k at w (expected_count h - k) end (omega arith) e }
 
   pub left_stop : k < expected_count h → (q : Refusal) → check_at s at w h k ≡ Err q → Err q ≡ check_verdict s h (expected_count h) 0 h.next w

@@ -320,6 +320,7 @@ fn check_at(s: &[u8], at: usize, work: &[u16], h: Header, k: usize) -> Result<us
 }
 
 // "An output or operand uses an undefined variable other than 0; the first such line."
+#[tactic(auto, using(crate::proofs::LineValidation::left_next, crate::proofs::LineValidation::left_stop, crate::proofs::LineValidation::left_end))]
 fn check_lines(s: &[u8], work: &[u16], h: Header) -> Result<(), Refusal>
     requires { Fit h work.now }
     ensures { result ≡ check_verdict s.now h (expected_count h) 0 h.next work.now }

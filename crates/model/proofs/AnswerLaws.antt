@@ -13,6 +13,7 @@ use Rattle.model.specs.declared.Cell.{Cell}
 use Rattle.model.specs.declared.Header.{Header}
 use Rattle.model.specs.declared.Refusal.{Refusal}
 use Rattle.model.specs.declared.Library.{Library}
+use Rattle.model.specs.declared.Tally.{Tally}
 use Rattle.model.specs.declared.Comparison.TheVariants.{Differs}
 
 -- the verdict on what is read
@@ -98,6 +99,10 @@ refusal_parts {A = A} e = (
   ap (λ (r : Result A Refusal). (verdict_refusal r).number) e,
   ap (λ (r : Result A Refusal). (verdict_refusal r).place) e,
 )
+
+-- the verdict on a netlist that is counted
+pub counted-rules : (t : Tally) (r : Read Tally) → verdict_refusal (verdict_of r) ≡ refusal_of r
+counted-rules t r = verdict-rules r
 
 -- what a `?` hands on, where its error has the type that the function answers
 pub handed_on : {T E : Type 0} (r : Result T E) (e : E) → IsErrAnd r (λ x. x ≡ e) → r ≡ Err e

@@ -29,9 +29,10 @@ fn show_cell(rt: &impl Print, c: Cell) -> io::Result<()> {
 }
 
 fn show_cells(rt: &impl Print, l: Library) -> io::Result<()> {
-    program_files::number(rt, l.n)?;
-    for c in l.cells.iter().take(l.n) {
-        show_cell(rt, *c)?;
+    let n = cells_reader::count(l);
+    program_files::number(rt, n)?;
+    for i in 0..n.min(32) {
+        show_cell(rt, cells_reader::cell_at(l, i))?;
     }
     Ok(())
 }

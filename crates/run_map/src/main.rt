@@ -3,6 +3,8 @@
 // cases and what must be printed (tests/other/src/bin/cases.rs).
 #![tactic(auto)]
 
+ghost use Rattle.std.specs.Prelude.{◌≤◌, IfSome};
+
 use base_text::Cursor;
 use std::io;
 
@@ -27,22 +29,25 @@ fn map_buffers(
     }
 }
 
-// 16 a + b, for one number is at most 65,535.
-fn buffer_length(a: u16, b: u16) -> usize {
-    usize::from(a) * 16 + usize::from(b)
+// 16 a + b, for one number is at most 65,535; never more than there is.
+fn buffer_length(a: u16, b: u16, most: usize) -> usize
+    ensures { result ≤ most }
+{
+    most.min(usize::from(a) * 16 + usize::from(b))
 }
 
-// The words and the bytes to lend.
-fn buffer_lengths(sizes: &[u8]) -> Option<(usize, usize)> {
+// The words and the bytes to lend, of so many that there are.
+fn buffer_lengths(sizes: &[u8], words: usize, bytes: usize) -> Option<(usize, usize)>
+    ensures { IfSome result (λ n. (n.0 ≤ words) × (n.1 ≤ bytes)) }
+{
     let start = Cursor { at: 0 };
     let (a, c) = start.number_then(sizes, b' ')?;
     let (b, c) = c.number_then(sizes, b' ')?;
     let (d, c) = c.number_then(sizes, b' ')?;
     let (e, _) = c.number(sizes)?;
-    Some((buffer_length(a, b), buffer_length(d, e)))
+    Some((buffer_length(a, b, words), buffer_length(d, e, bytes)))
 }
 
-// Never more is lent than there is.
 fn map_with(
     rt: &impl Print,
     sizes: &[u8],
@@ -52,11 +57,9 @@ fn map_with(
     work: &mut [u16],
     text: &mut [u8],
 ) -> io::Result<()> {
-    let Some((words, bytes)) = buffer_lengths(sizes) else {
+    let Some((n, m)) = buffer_lengths(sizes, work.len(), text.len()) else {
         return Ok(());
     };
-    let n = words.min(work.len());
-    let m = bytes.min(text.len());
     map_buffers(rt, cells, graph, arrivals, &mut work[..n], &mut text[..m])
 }
 

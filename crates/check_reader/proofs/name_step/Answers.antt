@@ -1,5 +1,5 @@
 -- `check_reader::name_step` meets its contract: each return knows which line was met.
-use Rattle.base.specs.{◌≡◌, sym, ◌∙◌, ap, subst, ℕ, ◌+◌, ◌*◌, arith, None, Some}
+use Rattle.base.specs.{◌≡◌, refl, sym, ◌∙◌, ap, subst, ℕ, ◌+◌, ◌*◌, arith, None, Some}
 use Rattle.std.proofs.lemmas.Result.{err_from_is_err_and}
 use Rattle.model.specs.{text}
 use Rattle.base_words.specs.{put_at}
@@ -11,7 +11,7 @@ use Rattle.check_reader.proofs.NameLineReading.{name-none, name-some, name-long,
 use Rattle.check_reader.proofs.name_step.Goals as goal
 
 pub returns-then-at-end : goal.returns-then-at-end
-returns-then-at-end c = let a = c.args in names-missing a.s.now a.k a.at c.if-at-end.true
+returns-then-at-end c = let a = c.args in (refl, names-missing a.s.now a.k a.at c.if-at-end.true)
 
 pub name_at-requires : goal.name_at-requires
 name_at-requires c = (c.requires.0, omega (arith, c.if-at-end.false), c.line-line.ensures)
@@ -21,7 +21,7 @@ returns-in_err-net c =
     let a = c.args in let p = err_from_is_err_and c.from_residual.result c.from_residual.ensures.1 in
     let no : c.name_at.result ≡ None = grind arith in
     let here : c.in_err-net.field-0.0 ≡ a.at = grind arith in
-    rw (p.1, p.2, here) (names-broken a.s.now a.k a.at c.if-at-end.false (name-none a.k (line_at a.s.now a.at) (sym c.name_at.ensures ∙ no)))
+    rw (p.1, p.2, here) (refl, names-broken a.s.now a.k a.at c.if-at-end.false (name-none a.k (line_at a.s.now a.at) (sym c.name_at.ensures ∙ no)))
 
 pub returns-in_err-row : goal.returns-in_err-row
 unfolding text
@@ -30,8 +30,11 @@ returns-in_err-row c =
     let is : c.name_at.result ≡ Some c.in_ok-net.net = grind arith in
     let d = name-some a.k (line_at s a.at) c.in_ok-net.net (sym c.name_at.ensures ∙ is) in
     let behind = line-next s a.at c.line-line.result c.line-line.ensures in
-    rw (p.1, p.2) (row-broken s a.k a.at c.if-at-end.false d.0 d.1 d.2 c.in_err-row.field-0.0
-    (subst (λ (x : ℕ). Missed s (text "1 1") x c.in_err-row.field-0.0) behind c.in_err-row.ensures))
+    rw (p.1, p.2) (
+      refl,
+      row-broken s a.k a.at c.if-at-end.false d.0 d.1 d.2 c.in_err-row.field-0.0
+          (subst (λ (x : ℕ). Missed s (text "1 1") x c.in_err-row.field-0.0) behind c.in_err-row.ensures),
+    )
 
 pub store-requires : goal.store-requires
 store-requires c =

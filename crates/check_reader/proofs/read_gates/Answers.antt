@@ -9,7 +9,7 @@ use Rattle.base_text.specs.{line_at}
 use Rattle.check_names.proofs.{gate-long}
 use Rattle.check_reader.specs.{gate_words}
 use Rattle.check_reader.proofs.StoredDrivers.{stop_from, stop_fits, stop_next, line-bytes, line-next, line-long}
-use Rattle.check_reader.proofs.GateGathering.{gate-eight, Sofar, so_start, so_end, so_names, so_broken, so_step, drives-none}
+use Rattle.check_reader.proofs.GateGathering.{gate-eight, Sofar, so_start, so_end, so_names, so_kept, so_broken, so_step, drives-none}
 use Rattle.check_reader.proofs.GateGathering.{drives-some}
 use Rattle.std.proofs.lemmas.Result.{err_from_is_err_and}
 use Rattle.check_reader.proofs.read_gates.Goals as goal
@@ -43,9 +43,14 @@ returns-in_err-gate c =
     let a = c.args in let p = err_from_is_err_and c.from_residual.result c.from_residual.ensures.1 in
     let no : c.gate_at.result ≡ None = grind arith in
     let here : c.in_err-gate.field-0.0 ≡ c.loop-at.at = grind arith in
-    rw (p.1, p.2, here) (so_broken a.s.now a.lib a.from c.loop-at.at c.loop-at.count a.nets.now c.loop-at.nets c.loop-at.invariant.2 c.loop-at.invariant.0 c.loop-at-test.true
-    (sym (ap (λ (w : List ℕ). same (get_or (fields w) 0 []) (text ".gate")) (line-bytes a.s.now c.loop-at.at c.line-line.result c.line-line.ensures)) ∙ sym c.is_gate.ensures ∙ c.if-not-is_gate.false)
-    (drives-none (cells_of a.lib) (line_at a.s.now c.loop-at.at) (sym c.gate_at.ensures ∙ no)))
+    let kept = so_kept a.s.now a.lib a.from c.loop-at.at c.loop-at.count a.nets.now c.loop-at.nets c.loop-at.invariant.2 c.loop-at.invariant.0 in
+    rw (p.1, p.2, here) (
+      kept.0,
+      kept.1,
+      so_broken a.s.now a.lib a.from c.loop-at.at c.loop-at.count a.nets.now c.loop-at.nets c.loop-at.invariant.2 c.loop-at.invariant.0 c.loop-at-test.true
+          (sym (ap (λ (w : List ℕ). same (get_or (fields w) 0 []) (text ".gate")) (line-bytes a.s.now c.loop-at.at c.line-line.result c.line-line.ensures)) ∙ sym c.is_gate.ensures ∙ c.if-not-is_gate.false)
+          (drives-none (cells_of a.lib) (line_at a.s.now c.loop-at.at) (sym c.gate_at.ensures ∙ no)),
+    )
 
 pub store-requires : goal.store-requires
 store-requires c =

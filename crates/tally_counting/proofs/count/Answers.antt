@@ -5,7 +5,7 @@ use Rattle.model.specs.{Read, cells_of, read_library, is_ranged, verdict_refusal
 use Rattle.model.specs.declared.Cell.{Cell}
 use Rattle.model.specs.declared.Library.{Library}
 use Rattle.model.specs.declared.Tally.{Tally}
-use Rattle.model.proofs.{verdict-rules}
+use Rattle.model.proofs.{counted-rules}
 use Rattle.tally_lines.specs.{Listed}
 use Rattle.tally_counting.specs.{Blank, Handed, count_read}
 use Rattle.tally_counting.proofs.CountAnswers.{accepted, refused-back, cells-back, listed, blanks, count_long, count-long_too}
@@ -21,7 +21,7 @@ returns-then-cells-gt65536 c =
       | then-cells-gt65536-via-then-cells-gt65536 y ↦ count_long t a.cells.now a.netlist.now y.if-cells-gt65536.true
       | then-cells-gt65536-via-else-cells-gt65536+then-netlist-gt65536 y ↦ count-long_too t a.cells.now a.netlist.now y.if-netlist-gt65536.true
     ]) in
-    record { answer = h.answers; handed_on = h.hands_on; refusal = ap verdict_refusal h.answers ∙ verdict-rules (count_text t a.cells.now a.netlist.now) }
+    record { answer = h.answers; handed_on = h.hands_on; refusal = ap verdict_refusal h.answers ∙ counted-rules t (count_text t a.cells.now a.netlist.now) }
 
 pub count_in-requires : goal.count_in-requires
 count_in-requires c =
@@ -42,7 +42,7 @@ returns c =
     ∙ ap (λ (cs : List Cell). count_read t (is_ranged a.cells.now) cs a.netlist.now) (cells-back o.cells)
     ∙ sym (count-read t a.cells.now a.netlist.now c.if-cells-gt65536.false c.if-netlist-gt65536.false o.cells o.is_read) in
     let h = subst (λ (x : Read Tally). Handed t x c.count_in.result c.count_in.new.t) e c.count_in.ensures in
-    record { answer = h.answers; handed_on = h.hands_on; refusal = ap verdict_refusal h.answers ∙ verdict-rules (count_text t a.cells.now a.netlist.now) }
+    record { answer = h.answers; handed_on = h.hands_on; refusal = ap verdict_refusal h.answers ∙ counted-rules t (count_text t a.cells.now a.netlist.now) }
 
 pub returns-in_err-lib : goal.returns-in_err-lib
 returns-in_err-lib c =
@@ -52,4 +52,4 @@ returns-in_err-lib c =
     let h = nothing_added t (count-refused t a.cells.now a.netlist.now c.if-cells-gt65536.false c.if-netlist-gt65536.false _ _
     (refused-back (read_library a.cells.now) r.result r.ensures.answer _ c.in_err-lib.was)) in
     let p = err_from_is_err_and c.from_residual.result c.from_residual.ensures.1 in
-    rw (p.1, p.2) (record { answer = h.answers; handed_on = h.hands_on; refusal = ap verdict_refusal h.answers ∙ verdict-rules (count_text t a.cells.now a.netlist.now) })
+    rw (p.1, p.2) (record { answer = h.answers; handed_on = h.hands_on; refusal = ap verdict_refusal h.answers ∙ counted-rules t (count_text t a.cells.now a.netlist.now) })
